@@ -7,7 +7,7 @@ use Rattle.line_text.specs.Lines.{is_digit, ◌>>=◌}
 use Rattle.assembler_mnemonics.specs.declared.slots.Slot.{Slot}
 use Rattle.assembler_mnemonics.specs.declared.slots.Slot.TheVariants as s
 use Rattle.assembler_mnemonics.specs.Placing.{GivesOne, Gives, AllGive, placed}
-use Rattle.assembler_mnemonics.specs.declared.forms.Form.{Form}
+use Rattle.assembler_mnemonics.specs.declared.forms.MnemonicForm.{MnemonicForm}
 use Rattle.assembler_mnemonics.specs.Slots.{shape, blank}
 use Rattle.assembler.specs.Filling.{Fills}
 use Rattle.std.proofs.lemmas.List.{append-nil}
@@ -272,7 +272,7 @@ all_give c (slot ∷ slots) (operand ∷ operands) pairs is =
 
 -- ---- fields that were filled are fields of the form
 
-pub filled : (c : Context) (form : Form) (operands : List Operand) (judged : Result (List (ℕ × ℤ)) AsmFault) (new : List ℤ)
+pub filled : (c : Context) (form : MnemonicForm) (operands : List Operand) (judged : Result (List (ℕ × ℤ)) AsmFault) (new : List ℤ)
     → given_all c (shape form) operands ≡ judged → Fills judged (Ok tt) (blank form) new → (pairs : List (ℕ × ℤ)) × (judged ≡ Ok pairs)
     × (new ≡ placed (blank form) pairs) × AllGive (shape form) pairs
 filled c form operands (Ok pairs) new e fills = (pairs, refl, fills, all_give c (shape form) operands pairs e)

@@ -5,14 +5,14 @@ use Rattle.rv_insn.specs.declared.instructions.Insn.{Insn}
 use Rattle.assembler_mnemonics.specs.Forms.{form_of}
 use Rattle.assembler_mnemonics.specs.Placing.{placed}
 use Rattle.assembler_mnemonics.specs.Slots.{shape, vector_shape, blank, vector_blank, FitsSlots}
-use Rattle.assembler_mnemonics.specs.declared.forms.Form.{Form}
+use Rattle.assembler_mnemonics.specs.declared.forms.MnemonicForm.{MnemonicForm}
 use Rattle.disassembler.specs.Reading.{all_shown}
 use Rattle.assembler.specs.Judging.{Context, Coded, instruction, these_items}
 use Rattle.assembler.proofs.ListedOperands.{own_pairs, all_pairs, is_plain, is_ordered, slots_given}
 
 -- ---- in each form a vtype and a mask stand last
 
-form_ordered : (form : Form) → is_ordered (shape form) ≡ true
+form_ordered : (form : MnemonicForm) → is_ordered (shape form) ≡ true
 unfolding is_ordered is_plain shape vector_shape
 form_ordered form = grind arith
 

@@ -11,11 +11,11 @@ use Rattle.rv_insn.specs.declared.instructions.Insn.{Insn}
 use Rattle.assembler_mnemonics.specs.Forms.{form_of, mnemonic}
 use Rattle.assembler_mnemonics.specs.Named.{forms, vector_forms, form_among, form_named}
 use Rattle.assembler_mnemonics.specs.Slots.{shape, FitsSlots}
-use Rattle.assembler_mnemonics.specs.declared.forms.Form.{Form}
+use Rattle.assembler_mnemonics.specs.declared.forms.MnemonicForm.{MnemonicForm}
 use Rattle.assembler_syntax.specs.Tokens.{tokens_of}
 use Rattle.assembler_syntax.specs.Statements.{statement_of, head_of, only_number}
-use Rattle.assembler_syntax.specs.declared.tokens.Token.{Token}
-use Rattle.assembler_syntax.specs.declared.tokens.Token.TheVariants as t
+use Rattle.assembler_syntax.specs.declared.tokens.AssemblyToken.{AssemblyToken}
+use Rattle.assembler_syntax.specs.declared.tokens.AssemblyToken.TheVariants as t
 use Rattle.assembler_syntax.specs.declared.statements.Operand.{Operand}
 use Rattle.assembler_syntax.specs.declared.statements.Operand.TheVariants as o
 use Rattle.disassembler.specs.Reading.{mnemonic_said, operands_said, operands_tokens, commanding}
@@ -23,10 +23,10 @@ use Rattle.assembler.specs.Judging.{Context, Given, Item, Coded, Raw, performed,
 use Rattle.assembler.specs.Lines.{line_given, stated, fits}
 use Rattle.assembler.specs.Object.{Assembled, taken}
 use Rattle.assembler.specs.Places.{operation_named, instruction_named, capped, after}
-use Rattle.assembler.specs.declared.operations.Operation.{Operation}
-use Rattle.assembler.specs.declared.operations.Operation.TheVariants.{Instruction, Word}
-use Rattle.assembler.specs.declared.places.Place.{Place}
-use Rattle.assembler.specs.declared.places.Section.TheVariants.{Text}
+use Rattle.assembler.specs.declared.operations.LineOperation.{LineOperation}
+use Rattle.assembler.specs.declared.operations.LineOperation.TheVariants.{Instruction, Word}
+use Rattle.assembler.specs.declared.locations.LineLocation.{LineLocation}
+use Rattle.assembler.specs.declared.locations.Section.TheVariants.{Text}
 use Rattle.assembler.specs.declared.surveys.Survey.{Survey}
 use Rattle.assembler.proofs.ListedOperands.{within}
 use Rattle.assembler.proofs.ListedForms.{instruction_back}
@@ -43,7 +43,7 @@ all_apart : list_all (λ form. apart_from other_names (mnemonic form)) forms ≡
 unfolding apart_from other_names forms vector_forms
 all_apart = refl
 
-found_passes : (wanted passes : Form → Bool) (some : List Form) (form : Form) → find wanted some ≡ Some form → list_all passes some ≡ true → passes form ≡ true
+found_passes : (wanted passes : MnemonicForm → Bool) (some : List MnemonicForm) (form : MnemonicForm) → find wanted some ≡ Some form → list_all passes some ≡ true → passes form ≡ true
 found_passes wanted passes [] form found all = absurd cc
 found_passes wanted passes (first ∷ others) form found all =
     let parts = and_parts (passes first) (list_all passes others) all in
@@ -52,10 +52,10 @@ found_passes wanted passes (first ∷ others) form found all =
       | false ↦ λ later. found_passes wanted passes others form later parts.1
     ] found
 
-abbrev pub IsFound : Form → Type 0
+abbrev pub IsFound : MnemonicForm → Type 0
 IsFound form = form_named (mnemonic form) ≡ Some form
 
-mnemonic_apart : (form : Form) → IsFound form → apart_from other_names (mnemonic form) ≡ true
+mnemonic_apart : (form : MnemonicForm) → IsFound form → apart_from other_names (mnemonic form) ≡ true
 unfolding form_among
 mnemonic_apart form found = found_passes _ (λ form. apart_from other_names (mnemonic form)) forms form found all_apart
 
@@ -84,19 +84,19 @@ named_otherwise name apart =
     let output = another name _ _ entry.1 in
     rw (li.0, la.0, text.0, bytes.0, word.0, space.0, entry.0, output.0) refl
 
-operation_said : Option Insn → Operation
+operation_said : Option Insn → LineOperation
 operation_said None = Word
 operation_said (Some insn) = Instruction (form_of insn)
 
-named_said : (meant : Option Insn) → ((form : Form) → IsFound form) → operation_named (mnemonic_said meant) ≡ Some (operation_said meant)
+named_said : (meant : Option Insn) → ((form : MnemonicForm) → IsFound form) → operation_named (mnemonic_said meant) ≡ Some (operation_said meant)
 unfolding operation_named operation_said
 named_said None found = refl
 named_said (Some insn) found =
     named_otherwise (mnemonic (form_of insn)) (mnemonic_apart (form_of insn) (found (form_of insn))) ∙ ap instruction_named (found (form_of insn))
 
--- ---- the place behind a line: one word further
+-- ---- the place after a line: one word further
 
-abbrev pub text_place : ℕ → Place
+abbrev pub text_place : ℕ → LineLocation
 text_place count = record { section = Text; words = count; bytes = 0 }
 
 head_said : (name : List ℕ) (operands : List Operand) → head_of (t.Word name ∷ operands_tokens operands) ≡ record {
@@ -151,7 +151,7 @@ performed_said survey line count word None small fit = rw (number_kept word smal
 performed_said survey line count word (Some insn) small fit = instruction_back (at_word survey line count) insn (fit insn refl)
 
 -- a command with no label, whose operands are faultless, within the machine's limits
-command_given : (c : Context) (line name : List ℕ) (operands : List Operand) (operation : Operation) (given : Given)
+command_given : (c : Context) (line name : List ℕ) (operands : List Operand) (operation : LineOperation) (given : Given)
     → statement_of (tokens_of line) ≡ Some (commanding name operands)
     → operation_named name ≡ Some operation → performed c (Some operation) operands ≡ Ok given → fits (after c.here.place (head_of (tokens_of line))) ≡ true
     → line_given c line ≡ Ok given
@@ -164,7 +164,7 @@ abbrev pub so_far : ℕ → ℕ → List Item → Assembled
 so_far line count items = record { here = record { line = line; place = text_place count }; items = items; bytes = []; entry = None; output = None }
 
 pub word_taken : (survey : Survey) (line count : ℕ) (items : List Item) (text : List ℕ) (word : ℕ) (meant : Option Insn) → count < 262144 → word < 2 ^ 32
-    → ((form : Form) → IsFound form) → Fit meant
+    → ((form : MnemonicForm) → IsFound form) → Fit meant
     → tokens_of text ≡ t.Word (mnemonic_said meant) ∷ operands_tokens (operands_said word meant)
     → statement_of (tokens_of text) ≡ Some (commanding (mnemonic_said meant) (operands_said word meant))
     → taken survey (so_far line count items) text ≡ Ok (so_far (line + 1) (count + 1) (items ++ item_said word meant ∷ []))
@@ -172,7 +172,7 @@ unfolding taken
 word_taken survey line count items text word meant room small found fit tokens said =
     let named = named_said meant found in
     let behind : after (text_place count) (head_of (tokens_of text)) ≡ text_place (count + 1) =
-    ap (λ (ts : List Token). after (text_place count) (head_of ts)) tokens ∙ after_said count (mnemonic_said meant) (operands_said word meant) meant room named
+    ap (λ (ts : List AssemblyToken). after (text_place count) (head_of ts)) tokens ∙ after_said count (mnemonic_said meant) (operands_said word meant) meant room named
     in
     let limits : fits (after (text_place count) (head_of (tokens_of text))) ≡ true = ap fits behind ∙ within_limits count room in
     let given = command_given (at_word survey line count) text (mnemonic_said meant) (operands_said word meant) (operation_said meant)

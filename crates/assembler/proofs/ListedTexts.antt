@@ -14,7 +14,7 @@ use Rattle.rv_encoding.specs.Decoding.{decoded}
 use Rattle.rv_encoding.proofs.Rows.{one_spelling}
 use Rattle.assembler_mnemonics.specs.Forms.{form_of, IsWord}
 use Rattle.assembler_mnemonics.specs.Slots.{shape, FitsSlots}
-use Rattle.assembler_mnemonics.specs.declared.forms.Form.{Form}
+use Rattle.assembler_mnemonics.specs.declared.forms.MnemonicForm.{MnemonicForm}
 use Rattle.assembler_syntax.specs.Tokens.{tokens_of}
 use Rattle.assembler_syntax.specs.Statements.{statement_of}
 use Rattle.disassembler.specs.Listing.{line_of, listed, listing}
@@ -32,7 +32,7 @@ pub record Below : Type 0 where
   pub statement : (word : ℕ) → word < 2 ^ 32 → statement_of (tokens_of (line_of word)) ≡ Some (statement_said word)
   pub single : (word : ℕ) → word < 2 ^ 32 → IsLine (line_of word)
   pub read_back : (lines : List (List ℕ)) → AllByRecursion IsLine lines → lines_of (text_of lines) ≡ lines
-  pub found : (form : Form) → IsFound form
+  pub found : (form : MnemonicForm) → IsFound form
   pub fits : (word : ℕ) (insn : Insn) → Means word insn → FitsSlots (fields_of insn) (shape (form_of insn))
   pub is_word : (word : ℕ) (insn : Insn) → Means word insn ↔ IsWord word (form_of insn) (fields_of insn)
   pub meant : (word : ℕ) (insn : Insn) → word < 2 ^ 32 → (decoded word ≡ Some insn) ↔ Means word insn

@@ -182,7 +182,7 @@ absent name entries sorted none = by (stored name entries) (found name.items ent
     by None is = refl
     by (Some numbered) is = cc
 
--- ---- a map behind the entry of a name that it had not
+-- ---- a map after the entry of a name that it had not
 
 module _ (name : Vec ℕ Global) (new : Numbered) (old next : Entries) (numbered : AreNumbered old) (is_number : new.number ≡ length old)
     (unknown : label_named (pairs_of old) name.items ≡ None) (is_next : next ≡ insert_entry order old name new) where

@@ -11,7 +11,7 @@ use Rattle.line_text.specs.Lines.{◌>>=◌, located, taken_from, lines_of}
 use Rattle.memory.specs.Access.{text_start, is_text_word, most_words, most_bytes}
 use Rattle.loader.specs.Image.{ImageContents, is_entry, is_output, is_output_or_none, is_within_limits, judged}
 use Rattle.loader.specs.declared.outputs.Output.{Output as Picture}
-use Rattle.assembler_mnemonics.specs.declared.forms.Form.{Form}
+use Rattle.assembler_mnemonics.specs.declared.forms.MnemonicForm.{MnemonicForm}
 use Rattle.assembler_mnemonics.specs.Slots.{shape, blank}
 use Rattle.assembler_mnemonics.specs.Placing.{placed}
 use Rattle.assembler_mnemonics.specs.Registers.{integer_letter}
@@ -20,7 +20,7 @@ use Rattle.assembler_syntax.specs.Statements.{head_of, statement_of}
 use Rattle.assembler_syntax.specs.declared.statements.Head.{Head}
 use Rattle.assembler_syntax.specs.declared.statements.Operand.{Operand}
 use Rattle.assembler_syntax.specs.declared.statements.Operand.TheVariants as o
-use Rattle.assembler_syntax.specs.declared.statements.Command.{Command}
+use Rattle.assembler_syntax.specs.declared.statements.MnemonicLine.{MnemonicLine}
 use Rattle.assembler_syntax.specs.declared.statements.Statement.{Statement}
 use Rattle.assembler.specs.Faults.{both, or_fault, unless}
 use Rattle.assembler.specs.Judging as j
@@ -31,12 +31,12 @@ use Rattle.assembler.specs.Places.{after, after_operation, after_space, after_wo
 use Rattle.assembler.specs.Places.{unsurveyed}
 use Rattle.assembler.specs.declared.faults.AsmFault.{AsmFault}
 use Rattle.assembler.specs.declared.faults.AsmFault.TheVariants.{Syntax}
-use Rattle.assembler.specs.declared.operations.Operation.{Operation}
-use Rattle.assembler.specs.declared.operations.Operation.TheVariants.{Instruction, LoadImmediate, LoadAddress, TextSection, DataSection, Word, Space, Entry}
-use Rattle.assembler.specs.declared.operations.Operation.TheVariants.{Output as OutputPicture}
-use Rattle.assembler.specs.declared.places.Place.{Place}
-use Rattle.assembler.specs.declared.places.Section.{Section}
-use Rattle.assembler.specs.declared.places.Section.TheVariants.{Text, Data}
+use Rattle.assembler.specs.declared.operations.LineOperation.{LineOperation}
+use Rattle.assembler.specs.declared.operations.LineOperation.TheVariants.{Instruction, LoadImmediate, LoadAddress, TextSection, DataSection, Word, Space, Entry}
+use Rattle.assembler.specs.declared.operations.LineOperation.TheVariants.{Output as OutputPicture}
+use Rattle.assembler.specs.declared.locations.LineLocation.{LineLocation}
+use Rattle.assembler.specs.declared.locations.Section.{Section}
+use Rattle.assembler.specs.declared.locations.Section.TheVariants.{Text, Data}
 use Rattle.assembler.specs.declared.surveys.Survey.{Survey}
 use Rattle.assembler.proofs.Built.{one_each}
 use Rattle.assembler.proofs.Heads.{Agrees, SaysCommand, SaysHead, head_said}
@@ -84,32 +84,32 @@ grown_small old new count most few small (inr e) = by (cases_lt (old + count) (2
         let top : new ≡ 2 ^ 60 = e ∙ min-eq_right above in
         absurd (omega (arith, few, leb-true new most small, top))
 
--- what a line gives is as long as the next line is behind it, and its entry and its picture keep the rules in text and data of these lengths
-record IsFit (words bytes : ℕ) (place behind : Place) (given : Given) : Type 0 where
+-- what a line gives is as long as the next line is after it, and its entry and its picture keep the rules in text and data of these lengths
+record IsFit (words bytes : ℕ) (place behind : LineLocation) (given : Given) : Type 0 where
   pub words_grow : Grows place.words behind.words (length given.items)
   pub bytes_grow : Grows place.bytes behind.bytes (length given.bytes)
   pub entry : IfSome given.entry (λ at. is_text_word words at ≡ true)
   pub output : IfSome given.output (λ picture. is_output bytes picture ≡ true)
 
-fit_nothing : (words bytes : ℕ) (place : Place) → IsFit words bytes place place nothing
+fit_nothing : (words bytes : ℕ) (place : LineLocation) → IsFit words bytes place place nothing
 fit_nothing words bytes place = record { words_grow = same_count place.words; bytes_grow = same_count place.bytes; entry = tt; output = tt }
 
-fit_section : (words bytes : ℕ) (place : Place) (to : Section) → IsFit words bytes place (record place { section = to }) nothing
+fit_section : (words bytes : ℕ) (place : LineLocation) (to : Section) → IsFit words bytes place (record place { section = to }) nothing
 fit_section words bytes place to = record { words_grow = same_count place.words; bytes_grow = same_count place.bytes; entry = tt; output = tt }
 
-fit_one : (words bytes : ℕ) (place : Place) (item : Item) → IsFit words bytes place (record place { words = capped (place.words + 1) })
+fit_one : (words bytes : ℕ) (place : LineLocation) (item : Item) → IsFit words bytes place (record place { words = capped (place.words + 1) })
     (these_items (item ∷ []))
 fit_one words bytes place item = record { words_grow = inr refl; bytes_grow = same_count place.bytes; entry = tt; output = tt }
 
-fit_two : (words bytes : ℕ) (place : Place) (first second : Item) → IsFit words bytes place (record place { words = capped (place.words + 2) })
+fit_two : (words bytes : ℕ) (place : LineLocation) (first second : Item) → IsFit words bytes place (record place { words = capped (place.words + 2) })
     (these_items (first ∷ second ∷ []))
 fit_two words bytes place first second = record { words_grow = inr refl; bytes_grow = same_count place.bytes; entry = tt; output = tt }
 
-fit_four : (words bytes : ℕ) (place : Place) (n : ℕ) → IsFit words bytes place (record place { bytes = capped (place.bytes + 4) })
+fit_four : (words bytes : ℕ) (place : LineLocation) (n : ℕ) → IsFit words bytes place (record place { bytes = capped (place.bytes + 4) })
     (these_bytes (to_le_bytes w32 n))
 fit_four words bytes place n = record { words_grow = same_count place.words; bytes_grow = inr refl; entry = tt; output = tt }
 
-fit_zeros : (words bytes : ℕ) (place : Place) (n : ℕ) → IsFit words bytes place (record place { bytes = capped (place.bytes + n) })
+fit_zeros : (words bytes : ℕ) (place : LineLocation) (n : ℕ) → IsFit words bytes place (record place { bytes = capped (place.bytes + n) })
     (these_bytes (replicate n 0))
 fit_zeros words bytes place n = record {
   words_grow = same_count place.words;
@@ -121,15 +121,15 @@ fit_zeros words bytes place n = record {
 -- ---- what commands give
 
 -- in a context of a whole text
-abbrev FitsAt : Context → Place → Given → Type 0
+abbrev FitsAt : Context → LineLocation → Given → Type 0
 FitsAt c behind given = IsFit c.survey.here.place.words c.survey.here.place.bytes c.here.place behind given
 
-in_text_fits : (c : Context) (behind : Place) (at : Section) (judged : Result Given AsmFault) → IfOk judged (FitsAt c behind)
+in_text_fits : (c : Context) (behind : LineLocation) (at : Section) (judged : Result Given AsmFault) → IfOk judged (FitsAt c behind)
     → IfOk (j.in_text at judged) (FitsAt c behind)
 in_text_fits c behind Text judged h = h
 in_text_fits c behind Data judged h = tt
 
-instruction_fits : (c : Context) (form : Form) (operands : List Operand)
+instruction_fits : (c : Context) (form : MnemonicForm) (operands : List Operand)
     → IfOk (j.instruction c form operands) (FitsAt c (record c.here.place { words = capped (c.here.place.words + 1) }))
 instruction_fits c form operands = then_holds (j.given_all c (shape form) operands) _ (FitsAt c _)
     (λ pairs. fit_one c.survey.here.place.words c.survey.here.place.bytes c.here.place (j.Coded form (placed (blank form) pairs)))
@@ -216,7 +216,7 @@ none_fits : (c : Context) (to : Section) (operands : List Operand) → IfOk (j.n
 none_fits c to [] = fit_section c.survey.here.place.words c.survey.here.place.bytes c.here.place to
 none_fits c to (operand ∷ operands) = tt
 
-performed_fits : (c : Context) (operation : Option Operation) (operands : List Operand) (number : Option ℤ) → Agrees operands number
+performed_fits : (c : Context) (operation : Option LineOperation) (operands : List Operand) (number : Option ℤ) → Agrees operands number
     → IfOk (performed c operation operands) (FitsAt c (after_operation c.here.place number operation))
 unfolding performed
 performed_fits c None operands number same = tt
@@ -235,15 +235,15 @@ commanded_fits : (c : Context) (statement : Statement) (head : Head) → SaysHea
 unfolding after
 commanded_fits c statement head says = by statement.command says
   where
-    by : (command : Option Command) → SaysCommand command head
+    by : (command : Option MnemonicLine) → SaysCommand command head
         → IfOk (commanded c command) (FitsAt c (after_operation c.here.place head.number (named_operation head.mnemonic)))
     by None says = rw says (fit_nothing c.survey.here.place.words c.survey.here.place.bytes c.here.place)
     by (Some command) says = rw says.0 (performed_fits c (operation_named command.mnemonic) command.operands head.number says.1)
 
 -- ---- lines
 
--- what a line gives fits, and behind it text and data are within the limits
-record LineFits (c : Context) (behind : Place) (given : Given) : Type 0 where
+-- what a line gives fits, and after it text and data are within the limits
+record LineFits (c : Context) (behind : LineLocation) (given : Given) : Type 0 where
   pub fit : FitsAt c behind given
   pub limits : fits behind ≡ true
 
@@ -273,14 +273,14 @@ judged_both given others g is = by (both given others) refl is
     by (Ok x) e ok = let same : x.0 ≡ g = cc in (both_left given others x e ∙ ap (λ (y : Given). Ok y) same, (x.1, both_right given others x e))
     by (Err f) e ok = absurd cc
 
-stated_fits : (c : Context) (behind : Place) (statement : Statement) (head : Head) (given : Given) → behind ≡ after c.here.place head → SaysHead statement head
+stated_fits : (c : Context) (behind : LineLocation) (statement : Statement) (head : Head) (given : Given) → behind ≡ after c.here.place head → SaysHead statement head
     → stated c behind statement ≡ Ok given → LineFits c behind given
 unfolding stated
 stated_fits c behind statement head given lies says is =
     let parts = judged_both (commanded c statement.command) _ given is in
     let limits = unless_ok _ (fits behind) _ (both_right _ _ _ parts.1.1) in
     record {
-      fit = subst (λ (b : Place). FitsAt c b given) (sym lies) (holds_of (commanded c statement.command) (FitsAt c (after c.here.place head)) given
+      fit = subst (λ (b : LineLocation). FitsAt c b given) (sym lies) (holds_of (commanded c statement.command) (FitsAt c (after c.here.place head)) given
           (commanded_fits c statement head says) parts.0);
       limits = limits;
     }
@@ -309,7 +309,7 @@ or_new_holds : {A : Type 0} (old new : Option A) (P : A → Type 0) → IfSome o
 or_new_holds None new P h k = k
 or_new_holds (Some a) new P h k = h
 
-keeps_given : (survey : Survey) (a : Assembled) (behind : Place) (given : Given) → Keeps survey a
+keeps_given : (survey : Survey) (a : Assembled) (behind : LineLocation) (given : Given) → Keeps survey a
     → LineFits (record { survey = survey; here = a.here }) behind given
     → Keeps survey (with_given a behind given)
 keeps_given survey a behind given k f =
@@ -392,7 +392,7 @@ same_place survey s number a last (line ∷ lines) same is =
     let l = line_taken survey a t.0 line t.1 in
     ap (λ (x : Survey). x.here.place) (one_surveyed s line lines)
     ∙ same_place survey (surveyed_head s (head_of (tokens_of line))) (number + 1) t.0 last lines
-    (place_surveyed s line ∙ ap (λ (p : Place). after p (head_of (tokens_of line))) same ∙ ap (λ (x : Assembled). x.here.place) l.next_is) t.2
+    (place_surveyed s line ∙ ap (λ (p : LineLocation). after p (head_of (tokens_of line))) same ∙ ap (λ (x : Assembled). x.here.place) l.next_is) t.2
 
 -- ---- objects
 
@@ -427,7 +427,7 @@ keeps_object survey a object k same some is =
     let few_words = and_left (nat_le a.here.place.words most_words) (nat_le a.here.place.bytes most_bytes) k.limits in
     let few_bytes = and_right (nat_le a.here.place.words most_words) (nat_le a.here.place.bytes most_bytes) k.limits in
     let entry = subst (λ (o : Option ℕ). IfSome o (λ at. is_text_word (length object.words) at ≡ true)) refl
-    (subst (λ n. IfSome a.entry (λ at. is_text_word n at ≡ true)) (ap (λ (p : Place). p.words) same ∙ sym words) k.entry) in
+    (subst (λ n. IfSome a.entry (λ at. is_text_word n at ≡ true)) (ap (λ (p : LineLocation). p.words) same ∙ sym words) k.entry) in
     judged_well object
     (both_true (nat_le (length object.words) most_words) (nat_le (length object.bytes) most_bytes)
     (ap (λ n. nat_le n most_words) words ∙ few_words) (ap (λ n. nat_le n most_bytes) bytes ∙ few_bytes))
@@ -435,7 +435,7 @@ keeps_object survey a object k same some is =
     ∙ entry_well (length object.words) a.entry (ap (λ n. n == 0) (one_each object.words a.items is.words) ∙ some) entry)
     (ap (is_output_or_none (length object.bytes)) is.output
     ∙ output_well (length object.bytes) a.output
-    (subst (λ n. IfSome a.output (λ picture. is_output n picture ≡ true)) (ap (λ (p : Place). p.bytes) same ∙ sym bytes) k.output))
+    (subst (λ n. IfSome a.output (λ picture. is_output n picture ≡ true)) (ap (λ (p : LineLocation). p.bytes) same ∙ sym bytes) k.output))
 
 keeps_first : (survey : Survey) → Keeps survey before_first
 keeps_first survey = record { items = refl; bytes = refl; limits = refl; entry = tt; output = tt }

@@ -14,8 +14,8 @@ use Rattle.assembler.specs.Object.{Assembled, assembled, before_first, taken, wi
 use Rattle.assembler.specs.Building.{IsBuilt, GivesProduct, Took, TakesLine}
 use Rattle.assembler.specs.declared.building.Building.{Building}
 use Rattle.assembler.specs.declared.faults.AsmFault.{AsmFault}
-use Rattle.assembler.specs.declared.places.Place.{Place}
-use Rattle.assembler.specs.declared.products.Product.{Product}
+use Rattle.assembler.specs.declared.locations.LineLocation.{LineLocation}
+use Rattle.assembler.specs.declared.products.LineProduct.{LineProduct}
 use Rattle.assembler.specs.declared.surveys.Survey.{Survey}
 
 abbrev context : Survey → Assembled → Context
@@ -33,7 +33,7 @@ taken_err : (survey : Survey) (a : Assembled) (line : List ℕ) (fault : AsmFaul
 unfolding taken
 taken_err survey a line fault is = rw is refl
 
-pub took_line : (survey : Survey) (a : Assembled) (line : List ℕ) (old new : Building) (product : Product) (behind : Place) → IsBuilt old a
+pub took_line : (survey : Survey) (a : Assembled) (line : List ℕ) (old new : Building) (product : LineProduct) (behind : LineLocation) → IsBuilt old a
     → GivesProduct survey old.here line product behind
     → ((so_far : Assembled) (given : Given) → IsBuilt old so_far → Makes product given → IsBuilt new (with_given so_far behind given))
     → Took survey a line new
@@ -43,7 +43,7 @@ took_line survey a line old new product behind b gives adds =
     let lies : behind ≡ after a.here.place (head_of (tokens_of line)) = gives.next ∙ ap (λ h. after h.place (head_of (tokens_of line))) b.here in
     record {
       next = with_given a behind gives.given;
-      taken_is = taken_ok survey a line gives.given judged ∙ sym (ap (λ (p : Place). Ok (with_given a p gives.given)) lies);
+      taken_is = taken_ok survey a line gives.given judged ∙ sym (ap (λ (p : LineLocation). Ok (with_given a p gives.given)) lies);
       built = adds a gives.given b gives.made;
     }
 

@@ -14,8 +14,8 @@ use Rattle.assembler.specs.Places.{after}
 use Rattle.assembler.specs.Products.{Makes}
 use Rattle.assembler.specs.declared.building.Building.{Building}
 use Rattle.assembler.specs.declared.faults.AsmFault.{AsmFault}
-use Rattle.assembler.specs.declared.places.Place.{Place}
-use Rattle.assembler.specs.declared.products.Product.{Product}
+use Rattle.assembler.specs.declared.locations.LineLocation.{LineLocation}
+use Rattle.assembler.specs.declared.products.LineProduct.{LineProduct}
 use Rattle.assembler.specs.declared.surveys.Here.{Here}
 use Rattle.assembler.specs.declared.surveys.Survey.{Survey}
 
@@ -28,14 +28,14 @@ pub record IsBuilt (building : Building) (a : Assembled) : Type 0 where
   pub output : building.output ≡ a.output
 
 -- a faultless line: its product is what the line gives, and the next line lies where it should
-pub record GivesProduct (survey : Survey) (here : Here) (line : List ℕ) (product : Product) (behind : Place) : Type 0 where
+pub record GivesProduct (survey : Survey) (here : Here) (line : List ℕ) (product : LineProduct) (behind : LineLocation) : Type 0 where
   pub given : Given
   pub judged : line_given (record { survey = survey; here = here }) line ≡ Ok given
   pub made : Makes product given
   pub next : behind ≡ after here.place (head_of (tokens_of line))
 
 -- What a line gives, or its fault, unless memory ran out.
-abbrev pub GivesLine : Survey → Here → List ℕ → Result (Product × Place) (ReadError AsmFault) → Type 0
+abbrev pub GivesLine : Survey → Here → List ℕ → Result (LineProduct × LineLocation) (ReadError AsmFault) → Type 0
 GivesLine survey here line (Ok done) = GivesProduct survey here line done.0 done.1
 GivesLine survey here line (Err error) = Fails error (line_given (record { survey = survey; here = here }) line)
 

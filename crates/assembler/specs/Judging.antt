@@ -13,8 +13,8 @@ use Rattle.rv_insn.specs.Encoding.{signed}
 use Rattle.rv_insn.specs.declared.operations.AluImmOp.TheVariants.{Addi}
 use Rattle.loader.specs.Image.{is_output, most_pixels}
 use Rattle.loader.specs.declared.outputs.Output.{Output as Picture}
-use Rattle.assembler_mnemonics.specs.declared.forms.Form.{Form}
-use Rattle.assembler_mnemonics.specs.declared.forms.Form.TheVariants as f
+use Rattle.assembler_mnemonics.specs.declared.forms.MnemonicForm.{MnemonicForm}
+use Rattle.assembler_mnemonics.specs.declared.forms.MnemonicForm.TheVariants as f
 use Rattle.assembler_mnemonics.specs.declared.slots.Slot.{Slot}
 use Rattle.assembler_mnemonics.specs.declared.slots.Slot.TheVariants as s
 use Rattle.assembler_mnemonics.specs.Slots.{shape, blank}
@@ -32,11 +32,11 @@ use Rattle.assembler.specs.declared.surveys.Survey.{Survey}
 use Rattle.assembler.specs.declared.surveys.Here.{Here}
 use Rattle.assembler.specs.declared.faults.AsmFault.{AsmFault}
 use Rattle.assembler.specs.declared.faults.AsmFault.TheVariants.{Syntax, Mnemonic, Register, Immediate, UnknownLabel, Target, TooLarge}
-use Rattle.assembler.specs.declared.places.Section.{Section}
-use Rattle.assembler.specs.declared.places.Section.TheVariants.{Text, Data}
-use Rattle.assembler.specs.declared.operations.Operation.{Operation}
-use Rattle.assembler.specs.declared.operations.Operation.TheVariants.{Instruction, LoadImmediate, LoadAddress, TextSection, DataSection, Word, Space, Entry}
-use Rattle.assembler.specs.declared.operations.Operation.TheVariants.{Output}
+use Rattle.assembler.specs.declared.locations.Section.{Section}
+use Rattle.assembler.specs.declared.locations.Section.TheVariants.{Text, Data}
+use Rattle.assembler.specs.declared.operations.LineOperation.{LineOperation}
+use Rattle.assembler.specs.declared.operations.LineOperation.TheVariants.{Instruction, LoadImmediate, LoadAddress, TextSection, DataSection, Word, Space, Entry}
+use Rattle.assembler.specs.declared.operations.LineOperation.TheVariants.{Output}
 
 -- what is known while a line is judged: what all lines come to, and the line's own number and place
 pub record Context : Type 0 where
@@ -167,7 +167,7 @@ given_all c (slot ∷ slots) (operand ∷ operands) =
 
 -- a word of text: a form with numbers in its fields, or a number of 32 bits
 pub data Item : Type 0 where
-  Coded : (form : Form) → (fields : List ℤ) → Item
+  Coded : (form : MnemonicForm) → (fields : List ℤ) → Item
   Raw : (number : ℕ) → Item
 
 pub record Given : Type 0 where
@@ -190,7 +190,7 @@ abbrev pub in_text : Section → Result Given AsmFault → Result Given AsmFault
 in_text Text judged = judged
 in_text Data judged = Err Syntax
 
-abbrev pub instruction : Context → Form → List Operand → Result Given AsmFault
+abbrev pub instruction : Context → MnemonicForm → List Operand → Result Given AsmFault
 instruction c form operands =
     given_all c (shape form) operands >>= λ pairs. Ok (these_items (Coded form (placed (blank form) pairs) ∷ []))
 
@@ -252,7 +252,7 @@ abbrev pub entry : Context → Section → List Operand → Result Given AsmFaul
 entry c Text (o.Word label ∷ []) = entry_named c label
 entry c section operands = Err Syntax
 
--- in data of so many bytes, a picture of so many pixels a row and so many rows, one row behind the other, where the
+-- in data of so many bytes, a picture of so many pixels a row and so many rows, one row after the other, where the
 -- image rules accept it; an address has 32 bits
 abbrev pub picture_at : ℕ → ℕ → ℕ → ℕ → Result Given AsmFault
 picture_at bytes at width height =
@@ -282,7 +282,7 @@ no_operands [] = Ok nothing
 no_operands operands = Err Syntax
 
 -- what a mnemonic with its operands gives
-unfoldable pub performed : Context → Option Operation → List Operand → Result Given AsmFault
+unfoldable pub performed : Context → Option LineOperation → List Operand → Result Given AsmFault
 performed c None operands = Err Mnemonic
 performed c (Some (Instruction form)) operands = in_text (section c) (instruction c form operands)
 performed c (Some LoadImmediate) operands = in_text (section c) (load_immediate operands)

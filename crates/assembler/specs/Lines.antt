@@ -5,7 +5,7 @@ use Rattle.memory.specs.Access.{most_words, most_bytes}
 use Rattle.line_text.specs.Lines.{◌>>=◌}
 use Rattle.assembler_syntax.specs.Tokens.{tokens_of}
 use Rattle.assembler_syntax.specs.Statements.{statement_of, head_of}
-use Rattle.assembler_syntax.specs.declared.statements.Command.{Command}
+use Rattle.assembler_syntax.specs.declared.statements.MnemonicLine.{MnemonicLine}
 use Rattle.assembler_syntax.specs.declared.statements.Statement.{Statement}
 use Rattle.assembler.specs.Faults.{both, or_fault, unless}
 use Rattle.assembler.specs.Names.{label_named}
@@ -14,10 +14,10 @@ use Rattle.assembler.specs.declared.labels.Label.{Label}
 use Rattle.assembler.specs.Judging.{Context, Given, nothing, performed}
 use Rattle.assembler.specs.declared.faults.AsmFault.{AsmFault}
 use Rattle.assembler.specs.declared.faults.AsmFault.TheVariants.{Syntax, LabelTwice, TooLarge}
-use Rattle.assembler.specs.declared.places.Place.{Place}
+use Rattle.assembler.specs.declared.locations.LineLocation.{LineLocation}
 
 -- the mnemonic and its operands, if the line has one
-abbrev pub commanded : Context → Option Command → Result Given AsmFault
+abbrev pub commanded : Context → Option MnemonicLine → Result Given AsmFault
 commanded c None = Ok nothing
 commanded c (Some command) = performed c (operation_named command.mnemonic) command.operands
 
@@ -32,15 +32,15 @@ is_new c None = true
 is_new c (Some name) = is_own c.here.line (label_named c.survey.labels name)
 
 -- text and data are within the machine's limits
-abbrev pub fits : Place → Bool
+abbrev pub fits : LineLocation → Bool
 fits place = nat_le place.words most_words && nat_le place.bytes most_bytes
 
 -- what a command gives, unless it or another judgement of its line has a fault: the least
 abbrev pub with_others : Result Given AsmFault → Result (Unit {0} × Unit {0}) AsmFault → Result Given AsmFault
 with_others given others = both given others >>= λ judged. Ok judged.0
 
--- a statement's label, its command, and the place behind it: the least of their faults
-unfoldable pub stated : Context → Place → Statement → Result Given AsmFault
+-- a statement's label, its command, and the place after it: the least of their faults
+unfoldable pub stated : Context → LineLocation → Statement → Result Given AsmFault
 stated c behind statement =
     with_others (commanded c statement.command) (both (unless LabelTwice (is_new c statement.label)) (unless TooLarge (fits behind)))
 

@@ -15,7 +15,7 @@ use Rattle.assembler_syntax.specs.Tokens.{tokens_of}
 use Rattle.assembler_syntax.specs.Statements.{head_of}
 use Rattle.assembler.specs.declared.faults.AsmFault.{AsmFault}
 use Rattle.assembler.specs.declared.faults.AsmFault.TheVariants.{Syntax}
-use Rattle.assembler.specs.declared.places.Place.{Place}
+use Rattle.assembler.specs.declared.locations.LineLocation.{LineLocation}
 
 -- what the lines so far gave, and where the next one lies
 pub record Assembled : Type 0 where
@@ -29,7 +29,7 @@ abbrev pub or_new : {A : Type 0} → Option A → Option A → Option A
 or_new (Some a) new = Some a
 or_new None new = new
 
-abbrev pub with_given : Assembled → Place → Given → Assembled
+abbrev pub with_given : Assembled → LineLocation → Given → Assembled
 with_given so_far behind given = record {
   here = record { line = so_far.here.line + 1; place = behind };
   items = so_far.items ++ given.items;

@@ -3,28 +3,28 @@
 use Rattle.std.specs.Prelude.{ℕ, ◌+◌, ◌*◌, ◌^◌, min, if◌then◌else◌, ℤ, pos, List, [], ◌∷◌, ◌++◌, Option, Some, None, codes}
 use Rattle.std.specs.Str.{bytes_eq}
 use Rattle.memory.specs.Access.{text_start, data_start}
-use Rattle.assembler_mnemonics.specs.declared.forms.Form.{Form}
+use Rattle.assembler_mnemonics.specs.declared.forms.MnemonicForm.{MnemonicForm}
 use Rattle.assembler_mnemonics.specs.Named.{form_named}
 use Rattle.assembler_syntax.specs.Tokens.{tokens_of}
 use Rattle.assembler_syntax.specs.Statements.{head_of}
 use Rattle.assembler_syntax.specs.declared.statements.Head.{Head}
-use Rattle.assembler.specs.declared.places.Section.{Section}
-use Rattle.assembler.specs.declared.places.Section.TheVariants.{Text, Data}
-use Rattle.assembler.specs.declared.places.Place.{Place}
+use Rattle.assembler.specs.declared.locations.Section.{Section}
+use Rattle.assembler.specs.declared.locations.Section.TheVariants.{Text, Data}
+use Rattle.assembler.specs.declared.locations.LineLocation.{LineLocation}
 use Rattle.assembler.specs.declared.labels.Label.{Label}
 use Rattle.assembler.specs.Names.{Named, label_named}
 use Rattle.assembler.specs.declared.surveys.Survey.{Survey}
-use Rattle.assembler.specs.declared.operations.Operation.{Operation}
-use Rattle.assembler.specs.declared.operations.Operation.TheVariants.{Instruction, LoadImmediate, LoadAddress, TextSection, DataSection, Word, Space, Entry}
-use Rattle.assembler.specs.declared.operations.Operation.TheVariants.{Output}
+use Rattle.assembler.specs.declared.operations.LineOperation.{LineOperation}
+use Rattle.assembler.specs.declared.operations.LineOperation.TheVariants.{Instruction, LoadImmediate, LoadAddress, TextSection, DataSection, Word, Space, Entry}
+use Rattle.assembler.specs.declared.operations.LineOperation.TheVariants.{Output}
 
 -- ---- what a mnemonic names: an instruction, one of two that stand for two instructions, or a directive
 
-abbrev pub instruction_named : Option Form → Option Operation
+abbrev pub instruction_named : Option MnemonicForm → Option LineOperation
 instruction_named None = None
 instruction_named (Some form) = Some (Instruction form)
 
-unfoldable pub operation_named : List ℕ → Option Operation
+unfoldable pub operation_named : List ℕ → Option LineOperation
 operation_named name =
     if bytes_eq name (codes "li") then Some LoadImmediate
     else if bytes_eq name (codes "la") then Some LoadAddress
@@ -38,7 +38,7 @@ operation_named name =
 
 -- ---- places: the section, and how many words of text and bytes of data stand before; above 2 ^ 60 they count as 2 ^ 60, so that they can be counted
 
-abbrev pub start : Place
+abbrev pub start : LineLocation
 start = record { section = Text; words = 0; bytes = 0 }
 
 abbrev pub capped : ℕ → ℕ
@@ -48,26 +48,26 @@ abbrev pub address_in : Section → ℕ → ℕ → ℕ
 address_in Text words bytes = text_start + 4 * capped words
 address_in Data words bytes = data_start + capped bytes
 
-abbrev pub address : Place → ℕ
+abbrev pub address : LineLocation → ℕ
 address place = address_in place.section place.words place.bytes
 
-abbrev pub after_words : Place → ℕ → Place
+abbrev pub after_words : LineLocation → ℕ → LineLocation
 after_words place count = record place { words = capped (place.words + count) }
 
-abbrev pub after_bytes : Place → ℕ → Place
+abbrev pub after_bytes : LineLocation → ℕ → LineLocation
 after_bytes place count = record place { bytes = capped (place.bytes + count) }
 
-abbrev pub after_word : Place → Section → Place
+abbrev pub after_word : LineLocation → Section → LineLocation
 after_word place Text = after_words place 1
 after_word place Data = after_bytes place 4
 
 -- the bytes that `.space` leaves; in text, and where its operand is no number from 0 on, none
-abbrev pub after_space : Place → Section → Option ℤ → Place
+abbrev pub after_space : LineLocation → Section → Option ℤ → LineLocation
 after_space place Data (Some (pos n)) = after_bytes place n
 after_space place section number = place
 
--- the place behind a line's mnemonic, in whichever section it stands, and whatever its operands are worth
-abbrev pub after_operation : Place → Option ℤ → Option Operation → Place
+-- the place after a line's mnemonic, in whichever section it stands, and whatever its operands are worth
+abbrev pub after_operation : LineLocation → Option ℤ → Option LineOperation → LineLocation
 after_operation place number None = place
 after_operation place number (Some (Instruction form)) = after_words place 1
 after_operation place number (Some LoadImmediate) = after_words place 2
@@ -79,11 +79,11 @@ after_operation place number (Some Space) = after_space place place.section numb
 after_operation place number (Some Entry) = place
 after_operation place number (Some Output) = place
 
-abbrev pub named_operation : Option (List ℕ) → Option Operation
+abbrev pub named_operation : Option (List ℕ) → Option LineOperation
 named_operation None = None
 named_operation (Some mnemonic) = operation_named mnemonic
 
-unfoldable pub after : Place → Head → Place
+unfoldable pub after : LineLocation → Head → LineLocation
 after place head = after_operation place head.number (named_operation head.mnemonic)
 
 -- ---- labels, and the first lines with `.entry` and with `.output`
@@ -102,11 +102,11 @@ abbrev pub or_line : Option ℕ → ℕ → Option ℕ
 or_line None line = Some line
 or_line (Some first) line = Some first
 
-abbrev pub entry_line : Option ℕ → ℕ → Option Operation → Option ℕ
+abbrev pub entry_line : Option ℕ → ℕ → Option LineOperation → Option ℕ
 entry_line first line (Some Entry) = or_line first line
 entry_line first line operation = first
 
-abbrev pub output_line : Option ℕ → ℕ → Option Operation → Option ℕ
+abbrev pub output_line : Option ℕ → ℕ → Option LineOperation → Option ℕ
 output_line first line (Some Output) = or_line first line
 output_line first line operation = first
 
@@ -118,7 +118,7 @@ surveyed_head survey head = record {
   output = output_line survey.output survey.here.line (named_operation head.mnemonic);
 }
 
--- the survey behind one more line
+-- the survey after one more line
 abbrev pub surveyed_line : Survey → List ℕ → Survey
 surveyed_line survey line = surveyed_head survey (head_of (tokens_of line))
 

@@ -7,9 +7,9 @@ ghost use Rattle.assembler.specs.Products.{Makes};
 ghost use Rattle.assembler.specs.Building.{IsBuilt};
 ghost use Rattle.assembler.specs.declared.faults.AsmFault.TheVariants.{Syntax};
 
+use crate::locations::LineLocation;
 use crate::objects::Object;
-use crate::places::Place;
-use crate::products::Product;
+use crate::products::LineProduct;
 use crate::surveys::Here;
 use loader::Output;
 use memory::TEXT_START;
@@ -33,7 +33,7 @@ impl Building {
         Building {
             here: Here {
                 line: 1,
-                place: Place::start(),
+                place: LineLocation::start(),
             },
             words: Vec::new(alloc),
             bytes: Vec::new(alloc),
@@ -43,28 +43,28 @@ impl Building {
     }
 
     /// Adds what a line gives.
-    fn add(&mut self, product: Product) -> Result<(), AllocError>
+    fn add(&mut self, product: LineProduct) -> Result<(), AllocError>
         ensures here { self.new.here ≡ self.old.here }
         ensures added { OnOk result ((a : Assembled) (given : Given) → IsBuilt self.old a → Makes product given
             → IsBuilt self.new (record (with_given a a.here.place given) { here = a.here })) }
     {
         match product {
-            Product::Nothing => {}
-            Product::Word(word) => self.words.push(word)?,
-            Product::Words(first, second) => self.words.extend_from_slice(&[first, second])?,
-            Product::Number(number) => self.bytes.extend_from_slice(&number.to_le_bytes())?,
-            Product::Zeros(count) => {
+            LineProduct::Nothing => {}
+            LineProduct::Word(word) => self.words.push(word)?,
+            LineProduct::Words(first, second) => self.words.extend_from_slice(&[first, second])?,
+            LineProduct::Number(number) => self.bytes.extend_from_slice(&number.to_le_bytes())?,
+            LineProduct::Zeros(count) => {
                 let end = self.bytes.len() + count as usize;
                 self.bytes.resize(end, 0)?;
             }
-            Product::Entry(address) => self.entry = self.entry.or(Some(address)),
-            Product::Output(picture) => self.output = self.output.or(Some(picture)),
+            LineProduct::Entry(address) => self.entry = self.entry.or(Some(address)),
+            LineProduct::Output(picture) => self.output = self.output.or(Some(picture)),
         }
         Ok(())
     }
 
-    /// Adds what a line gives, and goes on behind it.
-    pub fn add_line(&mut self, product: Product, behind: Place) -> Result<(), AllocError>
+    /// Adds what a line gives, and goes on after it.
+    pub fn add_line(&mut self, product: LineProduct, behind: LineLocation) -> Result<(), AllocError>
         requires { self.old.here.line + 1 < 2 ^ 64 }
         ensures { OnOk result ((a : Assembled) (given : Given) → IsBuilt self.old a → Makes product given
             → IsBuilt self.new (with_given a behind given)) }

@@ -11,12 +11,12 @@ ghost use Rattle.assembler.specs.Products.{Performs, Makes};
 
 use crate::faults::{AsmFault, both};
 use crate::labels::Label;
+use crate::locations::Section;
 use crate::operands::{fill, labelled, number_within, referenced};
-use crate::operations::Operation;
-use crate::places::Section;
-use crate::products::Product;
+use crate::operations::LineOperation;
+use crate::products::LineProduct;
 use crate::surveys::{Here, Survey};
-use assembler_mnemonics::{Form, integer_register};
+use assembler_mnemonics::{MnemonicForm, integer_register};
 use assembler_syntax::Operand;
 use loader::{MOST_PIXELS, Output};
 use memory::{MOST_BYTES, TEXT_START};
@@ -27,14 +27,14 @@ use rv_insn::{AluImmOp, Imm12, Imm20, Insn, Reg};
 fn instruction(
     survey: &Survey,
     here: Here,
-    form: Form,
+    form: MnemonicForm,
     operands: &[Operand],
-) -> Result<Product, AsmFault>
+) -> Result<LineProduct, AsmFault>
     ensures { Performs (spec.instruction (record { survey = survey.now; here = here }) form operands.now) result }
 {
     let mut fields = form.blank();
     fill(survey, here, form.shape(), operands, &mut fields)?;
-    Ok(Product::Word(encode(&form.instruction(&fields))))
+    Ok(LineProduct::Word(encode(&form.instruction(&fields))))
 }
 
 /// The integer register that a word names.
@@ -65,7 +65,7 @@ fn lower_part(number: u32) -> Imm12
 }
 
 /// LUI with the upper part of a number and ADDI with its lower part.
-fn loaded(rd: Reg, number: u32) -> Product
+fn loaded(rd: Reg, number: u32) -> LineProduct
     ensures { Makes result (spec.loaded rd number) }
 {
     let upper = Insn::Lui {
@@ -78,7 +78,7 @@ fn loaded(rd: Reg, number: u32) -> Product
         rs1: rd,
         imm: lower_part(number),
     };
-    Product::Words(encode(&upper), encode(&lower))
+    LineProduct::Words(encode(&upper), encode(&lower))
 }
 
 /// A number of 32 bits, signed or not, as a word.
@@ -93,7 +93,7 @@ fn word_number(number: i64) -> Result<u32, AsmFault>
     }
 }
 
-fn load_immediate(operands: &[Operand]) -> Result<Product, AsmFault>
+fn load_immediate(operands: &[Operand]) -> Result<LineProduct, AsmFault>
     ensures { Performs (spec.load_immediate operands.now) result }
 {
     match operands {
@@ -105,7 +105,7 @@ fn load_immediate(operands: &[Operand]) -> Result<Product, AsmFault>
     }
 }
 
-fn load_address(survey: &Survey, here: Here, operands: &[Operand]) -> Result<Product, AsmFault>
+fn load_address(survey: &Survey, here: Here, operands: &[Operand]) -> Result<LineProduct, AsmFault>
     ensures { Performs (spec.load_address (record { survey = survey.now; here = here }) operands.now) result }
 {
     match operands {
@@ -119,16 +119,16 @@ fn load_address(survey: &Survey, here: Here, operands: &[Operand]) -> Result<Pro
 }
 
 /// A word of text, or a number in data.
-fn word_in(section: Section, number: u32) -> Product
+fn word_in(section: Section, number: u32) -> LineProduct
     ensures { Makes result (spec.word_in section number) }
 {
     match section {
-        Section::Text => Product::Word(number),
-        Section::Data => Product::Number(number),
+        Section::Text => LineProduct::Word(number),
+        Section::Data => LineProduct::Number(number),
     }
 }
 
-fn word(survey: &Survey, here: Here, operands: &[Operand]) -> Result<Product, AsmFault>
+fn word(survey: &Survey, here: Here, operands: &[Operand]) -> Result<LineProduct, AsmFault>
     ensures { Performs (spec.word (record { survey = survey.now; here = here }) operands.now) result }
 {
     match operands {
@@ -141,7 +141,7 @@ fn word(survey: &Survey, here: Here, operands: &[Operand]) -> Result<Product, As
     }
 }
 
-fn space(section: Section, operands: &[Operand]) -> Result<Product, AsmFault>
+fn space(section: Section, operands: &[Operand]) -> Result<LineProduct, AsmFault>
     ensures { Performs (spec.space section operands.now) result }
 {
     if section == Section::Text {
@@ -155,7 +155,7 @@ fn space(section: Section, operands: &[Operand]) -> Result<Product, AsmFault>
             if *count > MOST_BYTES as i64 {
                 return Err(AsmFault::TooLarge);
             }
-            Ok(Product::Zeros(*count as u32))
+            Ok(LineProduct::Zeros(*count as u32))
         }
         _ => Err(AsmFault::Syntax),
     }
@@ -181,14 +181,14 @@ fn is_word_of_text(words: u64, address: u64) -> bool
 }
 
 /// The entry at a label.
-fn entry_in(survey: &Survey, label: Label) -> Result<Product, AsmFault>
+fn entry_in(survey: &Survey, label: Label) -> Result<LineProduct, AsmFault>
     ensures { Performs (spec.entry_in survey.now label.section label.address) result }
 {
     let address = label.address;
     match label.section {
         Section::Text => {
             if address >> 32 == 0 && is_word_of_text(survey.here.place.words, address) {
-                Ok(Product::Entry(address as u32))
+                Ok(LineProduct::Entry(address as u32))
             } else {
                 Err(AsmFault::Target)
             }
@@ -198,7 +198,7 @@ fn entry_in(survey: &Survey, label: Label) -> Result<Product, AsmFault>
 }
 
 /// The entry at the label of a name, if no line before has `.entry`.
-fn entry_named(survey: &Survey, here: Here, label: &[u8]) -> Result<Product, AsmFault>
+fn entry_named(survey: &Survey, here: Here, label: &[u8]) -> Result<LineProduct, AsmFault>
     ensures { Performs (spec.entry_named (record { survey = survey.now; here = here }) label.now) result }
 {
     if !is_first(survey.entry, here.line) {
@@ -210,7 +210,7 @@ fn entry_named(survey: &Survey, here: Here, label: &[u8]) -> Result<Product, Asm
     }
 }
 
-fn entry(survey: &Survey, here: Here, operands: &[Operand]) -> Result<Product, AsmFault>
+fn entry(survey: &Survey, here: Here, operands: &[Operand]) -> Result<LineProduct, AsmFault>
     ensures { Performs (spec.entry (record { survey = survey.now; here = here }) here.place.section operands.now)
         result }
 {
@@ -232,7 +232,7 @@ fn is_extent(number: i64) -> bool
 }
 
 /// A picture of so many pixels a row and so many rows at an address, in data of so many bytes.
-fn picture_at(bytes: u64, address: u32, width: u32, height: u32) -> Result<Product, AsmFault>
+fn picture_at(bytes: u64, address: u32, width: u32, height: u32) -> Result<LineProduct, AsmFault>
     requires { width ≤ most_pixels }
     ensures { Performs (spec.picture_at bytes address width height) result }
 {
@@ -243,14 +243,14 @@ fn picture_at(bytes: u64, address: u32, width: u32, height: u32) -> Result<Produ
         stride: 4 * width,
     };
     if picture.lies_in(bytes as usize) {
-        Ok(Product::Output(picture))
+        Ok(LineProduct::Output(picture))
     } else {
         Err(AsmFault::Target)
     }
 }
 
 /// The same at a label.
-fn picture_of(bytes: u64, label: Label, width: i64, height: i64) -> Result<Product, AsmFault>
+fn picture_of(bytes: u64, label: Label, width: i64, height: i64) -> Result<LineProduct, AsmFault>
     ensures { Performs (spec.picture_of bytes label.section label.address width height) result }
 {
     match label.section {
@@ -276,7 +276,7 @@ fn output_named(
     here: Here,
     label: &[u8],
     extents: (i64, i64),
-) -> Result<Product, AsmFault>
+) -> Result<LineProduct, AsmFault>
     ensures { Performs (spec.output_named (record { survey = survey.now; here = here }) label.now extents.0 extents.1)
         result }
 {
@@ -289,7 +289,7 @@ fn output_named(
     }
 }
 
-fn output(survey: &Survey, here: Here, operands: &[Operand]) -> Result<Product, AsmFault>
+fn output(survey: &Survey, here: Here, operands: &[Operand]) -> Result<LineProduct, AsmFault>
     ensures { Performs (spec.output (record { survey = survey.now; here = here }) operands.now) result }
 {
     match operands {
@@ -302,11 +302,11 @@ fn output(survey: &Survey, here: Here, operands: &[Operand]) -> Result<Product, 
     }
 }
 
-fn no_operands(operands: &[Operand]) -> Result<Product, AsmFault>
+fn no_operands(operands: &[Operand]) -> Result<LineProduct, AsmFault>
     ensures { Performs (spec.no_operands operands.now) result }
 {
     if operands.is_empty() {
-        Ok(Product::Nothing)
+        Ok(LineProduct::Nothing)
     } else {
         Err(AsmFault::Syntax)
     }
@@ -317,9 +317,9 @@ fn no_operands(operands: &[Operand]) -> Result<Product, AsmFault>
 pub fn perform(
     survey: &Survey,
     here: Here,
-    operation: Option<Operation>,
+    operation: Option<LineOperation>,
     operands: &[Operand],
-) -> Result<Product, AsmFault>
+) -> Result<LineProduct, AsmFault>
     ensures { Performs (spec.performed (record { survey = survey.now; here = here }) operation operands.now) result }
 {
     let Some(operation) = operation else {
@@ -327,22 +327,22 @@ pub fn perform(
     };
     let section = here.place.section;
     match operation {
-        Operation::Instruction(form) => match section {
+        LineOperation::Instruction(form) => match section {
             Section::Text => instruction(survey, here, form, operands),
             Section::Data => Err(AsmFault::Syntax),
         },
-        Operation::LoadImmediate => match section {
+        LineOperation::LoadImmediate => match section {
             Section::Text => load_immediate(operands),
             Section::Data => Err(AsmFault::Syntax),
         },
-        Operation::LoadAddress => match section {
+        LineOperation::LoadAddress => match section {
             Section::Text => load_address(survey, here, operands),
             Section::Data => Err(AsmFault::Syntax),
         },
-        Operation::TextSection | Operation::DataSection => no_operands(operands),
-        Operation::Word => word(survey, here, operands),
-        Operation::Space => space(section, operands),
-        Operation::Entry => entry(survey, here, operands),
-        Operation::Output => output(survey, here, operands),
+        LineOperation::TextSection | LineOperation::DataSection => no_operands(operands),
+        LineOperation::Word => word(survey, here, operands),
+        LineOperation::Space => space(section, operands),
+        LineOperation::Entry => entry(survey, here, operands),
+        LineOperation::Output => output(survey, here, operands),
     }
 }

@@ -3,7 +3,7 @@
 ghost use Rattle.std.specs.Prelude.{◌≡◌, ◌++◌, ◌∷◌, [], OnOk, OnErr, None, length};
 ghost use Rattle.assembler.specs.Names.{label_named};
 
-use crate::places::Section;
+use crate::locations::Section;
 use std::alloc::{AllocError, Global};
 use std::collections::BTreeMap;
 use std::marker::Model;

@@ -7,7 +7,7 @@
 //! has for its lines.
 //!
 //! - [`faults`]: why a text is refused ([`AsmFault`]).
-//! - [`places`], [`labels`], [`surveys`]: where lines lie, and what labels name.
+//! - [`locations`], [`labels`], [`surveys`]: where lines lie, and what labels name.
 //! - [`operations`]: what mnemonics and directives name; [`operands`], [`commands`], [`lines`]: what lines give.
 //! - [`building`], [`objects`], [`assembling`]: the object of a text.
 //! - [`laws`]: that the listing of words assembles to these words (`specs/Listings.antt`).
@@ -20,10 +20,10 @@ pub mod faults;
 mod labels;
 pub mod laws;
 pub mod lines;
+mod locations;
 mod objects;
 pub mod operands;
 mod operations;
-mod places;
 mod products;
 mod surveys;
 

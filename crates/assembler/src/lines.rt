@@ -10,26 +10,26 @@ ghost use Rattle.assembler.specs.Building.{GivesLine};
 
 use crate::commands::perform;
 use crate::faults::{AsmFault, both, unless};
-use crate::operations::Operation;
-use crate::places::Place;
-use crate::products::Product;
+use crate::locations::LineLocation;
+use crate::operations::LineOperation;
+use crate::products::LineProduct;
 use crate::surveys::{Here, Survey, place_after};
-use assembler_syntax::{Head, Statement, Token, head_of, statement_of, tokens_of};
+use assembler_syntax::{AssemblyToken, Head, Statement, head_of, statement_of, tokens_of};
 use line_text::ReadError;
 use memory::{MOST_BYTES, MOST_WORDS};
 use sqlite_items::Items;
 use std::alloc::Global;
 
 /// What a statement's mnemonic and operands give, if it has them.
-fn command(survey: &Survey, here: Here, statement: &Statement) -> Result<Product, AsmFault>
+fn command(survey: &Survey, here: Here, statement: &Statement) -> Result<LineProduct, AsmFault>
     ensures { Performs (spec.commanded (record { survey = survey.now; here = here }) statement.now.command) result }
 {
     match &statement.command {
-        None => Ok(Product::Nothing),
+        None => Ok(LineProduct::Nothing),
         Some(command) => perform(
             survey,
             here,
-            Operation::named(command.mnemonic.as_slice()),
+            LineOperation::named(command.mnemonic.as_slice()),
             command.operands.as_slice(),
         ),
     }
@@ -49,7 +49,7 @@ fn is_new(survey: &Survey, here: Here, label: &Option<Items<u8>>) -> bool
 }
 
 /// Whether text and data up to a place are within the machine's limits.
-fn fits(place: Place) -> bool
+fn fits(place: LineLocation) -> bool
     ensures { result ≡ spec.fits place }
 {
     place.words <= MOST_WORDS as u64 && place.bytes <= MOST_BYTES as u64
@@ -57,9 +57,9 @@ fn fits(place: Place) -> bool
 
 /// A command's product, unless it or another judgement of its line has a fault: the least.
 fn with_others(
-    product: Result<Product, AsmFault>,
+    product: Result<LineProduct, AsmFault>,
     others: Result<((), ()), AsmFault>,
-) -> Result<Product, AsmFault>
+) -> Result<LineProduct, AsmFault>
     ensures { (given : Result Given AsmFault) → Performs given product
         → Performs (spec.with_others given others) result }
 {
@@ -67,14 +67,14 @@ fn with_others(
     Ok(product)
 }
 
-/// What a statement gives, where the next line lies behind it, or the least of its faults.
+/// What a statement gives, where the next line lies after it, or the least of its faults.
 #[tactic(auto, unfolding(crate::specs::Lines::stated))]
 fn stated(
     survey: &Survey,
     here: Here,
-    behind: Place,
+    behind: LineLocation,
     statement: &Statement,
-) -> Result<Product, AsmFault>
+) -> Result<LineProduct, AsmFault>
     ensures { Performs (spec.stated (record { survey = survey.now; here = here }) behind statement.now) result }
 {
     let label = unless(AsmFault::LabelTwice, is_new(survey, here, &statement.label));
@@ -82,12 +82,12 @@ fn stated(
     with_others(command(survey, here, statement), both(label, size))
 }
 
-/// The place behind a line's front.
+/// The place after a line's front.
 #[tactic(auto, unfolding(crate::specs::Places::after))]
-fn behind(place: Place, head: &Head) -> Place
+fn behind(place: LineLocation, head: &Head) -> LineLocation
     ensures { result ≡ after place head.now }
 {
-    place_after(place, head.number, Operation::of(head))
+    place_after(place, head.number, LineOperation::of(head))
 }
 
 /// What a line gives and where the next one lies, or its least fault.
@@ -100,10 +100,10 @@ pub fn line_product(
     survey: &Survey,
     here: Here,
     line: &[u8],
-) -> Result<(Product, Place), ReadError<AsmFault>>
+) -> Result<(LineProduct, LineLocation), ReadError<AsmFault>>
     ensures { GivesLine survey.now here line.now result }
 {
-    let tokens: Vec<Token> = tokens_of(alloc, line)?;
+    let tokens: Vec<AssemblyToken> = tokens_of(alloc, line)?;
     let behind = behind(here.place, &head_of(alloc, &tokens)?);
     let Some(statement) = statement_of(alloc, &tokens)? else {
         return Err(ReadError::Fault(AsmFault::Syntax));

@@ -4,7 +4,7 @@ use loader::Output;
 
 /// What a faultless line gives.
 #[derive(Clone, Copy)]
-pub enum Product {
+pub enum LineProduct {
     /// Nothing: a label alone, a switch of section, an empty line.
     Nothing,
     /// A word of text.

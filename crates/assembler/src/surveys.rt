@@ -5,8 +5,8 @@ ghost use Rattle.line_text.specs.Lines.{lines_of};
 ghost use Rattle.assembler.specs.Places as spec;
 
 use crate::labels::{Label, Labels};
-use crate::operations::Operation;
-use crate::places::Place;
+use crate::locations::LineLocation;
+use crate::operations::LineOperation;
 use assembler_syntax::{Head, head_of, tokens_of};
 use line_text::lines::first_line;
 use sqlite_items::Items;
@@ -16,7 +16,7 @@ use std::alloc::{AllocError, Global};
 #[derive(Clone, Copy, Debug, PartialEq, Eq)]
 pub struct Here {
     pub line: u64,
-    pub place: Place,
+    pub place: LineLocation,
 }
 
 /// What lines so far come to: the next line, the labels, and the first lines with `.entry` and with `.output`.
@@ -48,7 +48,7 @@ impl Survey {
         Survey {
             here: Here {
                 line: 1,
-                place: Place::start(),
+                place: LineLocation::start(),
             },
             labels: Labels::new(alloc),
             entry: None,
@@ -83,7 +83,7 @@ impl Survey {
         Ok(())
     }
 
-    /// Goes on behind a line, by its front.
+    /// Goes on after a line, by its front.
     #[tactic(auto, unfolding(crate::specs::Places::surveyed_head, crate::specs::Places::after))]
     fn take_head(&mut self, alloc: Global, head: &Head) -> Result<(), AllocError>
         requires { self.old.here.line + 1 < 2 ^ 64 }
@@ -91,7 +91,7 @@ impl Survey {
     {
         self.add_label(alloc, &head.label)?;
         let line = self.here.line;
-        let operation = Operation::of(head);
+        let operation = LineOperation::of(head);
         self.entry = entry_line(self.entry, line, operation);
         self.output = output_line(self.output, line, operation);
         self.here = Here {
@@ -101,7 +101,7 @@ impl Survey {
         Ok(())
     }
 
-    /// Goes on behind a line.
+    /// Goes on after a line.
     fn take_line(&mut self, alloc: Global, line: &[u8]) -> Result<(), AllocError>
         requires { self.old.here.line + 1 < 2 ^ 64 }
         ensures { OnOk result (self.new ≡ spec.surveyed_line self.old line.now) }
@@ -125,8 +125,12 @@ impl Survey {
     }
 }
 
-/// The place behind an operation, if there is one.
-pub fn place_after(place: Place, number: Option<i64>, operation: Option<Operation>) -> Place
+/// The place after an operation, if there is one.
+pub fn place_after(
+    place: LineLocation,
+    number: Option<i64>,
+    operation: Option<LineOperation>,
+) -> LineLocation
     ensures { result ≡ spec.after_operation place number operation }
 {
     match operation {
@@ -136,21 +140,21 @@ pub fn place_after(place: Place, number: Option<i64>, operation: Option<Operatio
 }
 
 /// The first line with `.entry`, of those so far and this one.
-fn entry_line(first: Option<u64>, line: u64, operation: Option<Operation>) -> Option<u64>
+fn entry_line(first: Option<u64>, line: u64, operation: Option<LineOperation>) -> Option<u64>
     ensures { result ≡ spec.entry_line first line operation }
 {
     match operation {
-        Some(Operation::Entry) => first.or(Some(line)),
+        Some(LineOperation::Entry) => first.or(Some(line)),
         _ => first,
     }
 }
 
 /// The first line with `.output`, of those so far and this one.
-fn output_line(first: Option<u64>, line: u64, operation: Option<Operation>) -> Option<u64>
+fn output_line(first: Option<u64>, line: u64, operation: Option<LineOperation>) -> Option<u64>
     ensures { result ≡ spec.output_line first line operation }
 {
     match operation {
-        Some(Operation::Output) => first.or(Some(line)),
+        Some(LineOperation::Output) => first.or(Some(line)),
         _ => first,
     }
 }

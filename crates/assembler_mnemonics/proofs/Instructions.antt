@@ -11,8 +11,8 @@ use Rattle.rv_insn.specs.declared.vector_instructions.Addressing.{Addressing}
 use Rattle.rv_insn.specs.declared.vector_instructions.Addressing.TheVariants as addressings
 use Rattle.rv_insn.specs.declared.vector_operations.AddressMode.{AddressMode}
 use Rattle.rv_insn.specs.declared.vector_operations.AddressMode.TheVariants as modes
-use Rattle.assembler_mnemonics.specs.declared.forms.Form.{Form}
-use Rattle.assembler_mnemonics.specs.declared.forms.Form.TheVariants as f
+use Rattle.assembler_mnemonics.specs.declared.forms.MnemonicForm.{MnemonicForm}
+use Rattle.assembler_mnemonics.specs.declared.forms.MnemonicForm.TheVariants as f
 use Rattle.assembler_mnemonics.specs.declared.forms.VectorForm.{VectorForm}
 use Rattle.assembler_mnemonics.specs.declared.forms.VectorForm.TheVariants as v
 use Rattle.assembler_mnemonics.specs.Forms.{form_of, vector_form_of, row_name, IsWord}
@@ -78,7 +78,7 @@ vector_made (v.LoadElements mode width) fields = i.LoadElements width (number_in
 vector_made (v.StoreElements mode width) fields = i.StoreElements width (number_in fields 0) (number_in fields 1) (addressing_made mode fields)
     (flag_in fields (mask_place mode))
 
-made : Form → List ℤ → Insn
+made : MnemonicForm → List ℤ → Insn
 made f.Lui fields = Lui (number_in fields 0) (number_in fields 1)
 made f.Auipc fields = Auipc (number_in fields 0) (number_in fields 1)
 made f.Jal fields = Jal (number_in fields 0) (field_at fields 1)

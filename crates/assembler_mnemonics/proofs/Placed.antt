@@ -9,8 +9,8 @@ use Rattle.std.proofs.Math.ListN.{length-set}
 use Rattle.rv_insn.specs.Encoding.{bit_of}
 use Rattle.assembler_mnemonics.specs.declared.slots.Slot.{Slot}
 use Rattle.assembler_mnemonics.specs.declared.slots.Slot.TheVariants.{Integer, Vector, MaskRegister, Number, Upper, Based, Address, Target, Configuration, Mask}
-use Rattle.assembler_mnemonics.specs.declared.forms.Form.{Form}
-use Rattle.assembler_mnemonics.specs.declared.forms.Form.TheVariants as f
+use Rattle.assembler_mnemonics.specs.declared.forms.MnemonicForm.{MnemonicForm}
+use Rattle.assembler_mnemonics.specs.declared.forms.MnemonicForm.TheVariants as f
 use Rattle.assembler_mnemonics.specs.Slots.{shape, vector_shape, blank, vector_blank, field_at, IsWithin, FitsSlot, FitsSlots, Keeps}
 use Rattle.assembler_mnemonics.specs.Placing.{placed, GivesOne, Gives, AllGive}
 use Rattle.assembler_mnemonics.proofs.Named.{both_true}
@@ -249,18 +249,18 @@ all_fit (slot ∷ slots) fields pairs h e m d =
 fillable : List ℤ → List Slot → Bool
 fillable fields slots = list_all (in_place (length fields)) slots && (list_all (ready fields) slots && distinct slots)
 
-form_fillable : (form : Form) → fillable (blank form) (shape form) ≡ true
+form_fillable : (form : MnemonicForm) → fillable (blank form) (shape form) ≡ true
 unfolding fillable in_place ready is_one distinct free own_fields apart_from mask_apart blank vector_blank shape vector_shape
 form_fillable form = grind arith
 
-pub filled_fits : (form : Form) (pairs : List (ℕ × ℤ)) → AllGive (shape form) pairs → FitsSlots (placed (blank form) pairs) (shape form)
+pub filled_fits : (form : MnemonicForm) (pairs : List (ℕ × ℤ)) → AllGive (shape form) pairs → FitsSlots (placed (blank form) pairs) (shape form)
 unfolding fillable
 filled_fits form pairs h =
     let first = both_true _ _ (form_fillable form) in
     let second = both_true _ _ first.1 in
     all_fit (shape form) (blank form) pairs h first.0 second.0 second.1
 
-pub filled_keeps : (form : Form) (pairs : List (ℕ × ℤ)) → AllGive (shape form) pairs → Keeps form (placed (blank form) pairs)
+pub filled_keeps : (form : MnemonicForm) (pairs : List (ℕ × ℤ)) → AllGive (shape form) pairs → Keeps form (placed (blank form) pairs)
 unfolding shape blank free own_fields apart_from
 filled_keeps (f.AmoaddW aq rl) pairs h = (
   free_kept (Integer 0 ∷ Integer 2 ∷ Address 1 ∷ []) (pos 0 ∷ pos 0 ∷ pos 0 ∷ pos (bit_of aq) ∷ pos (bit_of rl) ∷ []) 3 pairs h refl,

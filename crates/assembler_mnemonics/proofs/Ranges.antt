@@ -20,7 +20,7 @@ use Rattle.rv_insn.specs.declared.instructions.Insn.TheVariants.{Lui, Auipc, Jal
 use Rattle.rv_insn.specs.declared.instructions.Insn.TheVariants.{Vector}
 use Rattle.assembler_mnemonics.specs.declared.slots.Slot.{Slot}
 use Rattle.assembler_mnemonics.specs.declared.slots.Slot.TheVariants as s
-use Rattle.assembler_mnemonics.specs.declared.forms.Form.{Form}
+use Rattle.assembler_mnemonics.specs.declared.forms.MnemonicForm.{MnemonicForm}
 use Rattle.assembler_mnemonics.specs.Forms.{form_of, row_name}
 use Rattle.assembler_mnemonics.specs.Slots.{shape, vector_shape, blank, vector_blank, field_at, IsWithin, FitsSlot, FitsSlots, Keeps}
 use Rattle.assembler_mnemonics.proofs.Named.{both_true}
@@ -138,13 +138,13 @@ slots_fit_row word fields (slot ∷ slots) e =
 -- ---- the forms against the table
 
 -- a row of the form's name has fields that fit the form's slots
-fits : Form → Row → Bool
+fits : MnemonicForm → Row → Bool
 fits form row = not (bytes_eq (row_name form) row.name) || list_all (fits_row row.fields) (shape form)
 
-fits_table : Form → Bool
+fits_table : MnemonicForm → Bool
 fits_table form = list_all (fits form) table
 
-form_fits : (form : Form) → fits_table form ≡ true
+form_fits : (form : MnemonicForm) → fits_table form ≡ true
 unfolding fits_table fits fits_row covers at_most least_of greatest_of shape vector_shape table scalar_table vector_table r_type i_type s_type b_type u_type
     j_type amo_type whole_word span
 form_fits form = grind arith steps 60000000
@@ -159,7 +159,7 @@ passes_other : (a b : Bool) → (not a || b) ≡ true → a ≡ true → b ≡ t
 passes_other true b h e = h
 passes_other false b h e = absurd cc
 
-row_fits : (form : Form) (row : Row) (k : ℕ) → k < length table → slice_index_or table k row ≡ row → row_name form ≡ row.name
+row_fits : (form : MnemonicForm) (row : Row) (k : ℕ) → k < length table → slice_index_or table k row ≡ row → row_name form ≡ row.name
     → list_all (fits_row row.fields) (shape form) ≡ true
 unfolding fits_table fits
 row_fits form row k within here named =

@@ -1,5 +1,5 @@
 -- How a vtype is written by names: the element's width, how many registers are grouped, and what happens to
--- elements behind the last and to those that the mask leaves out.
+-- elements after the last and to those that the mask leaves out.
 -- RISC-V Vector Extension 1.0, sections 3.4 and 6.1; which codes have names is this project's own.
 use Rattle.std.specs.Prelude.{ℕ, ◌+◌, ◌*◌, ◌/◌, ◌%◌, ◌&&◌, Bool, nat_lt, if◌then◌else◌, List, [], ◌∷◌, codes, bytes_eq, slice_index_or, Option, Some, None}
 use Rattle.std.specs.Prelude.{option_map}

@@ -1,6 +1,6 @@
 -- Forms: what mnemonics name, and which instructions have which form.
 -- RISC-V Unprivileged ISA 20191213, chapter 24 "RV32/64G Instruction Set Listings", and Vector Extension 1.0, chapter
--- 19, for the names; that the bits aq and rl are written behind the name of amoadd.w is of chapter 25 of the former.
+-- 19, for the names; that the bits aq and rl are written after the name of amoadd.w is of chapter 25 of the former.
 use Rattle.std.specs.Prelude.{◌≡◌, ℕ, ℤ, Bool, true, false, List, [], ◌++◌, map, codes}
 use Rattle.std.specs.List.{Contains}
 use Rattle.rv_insn.specs.Encoding.{Holds, Row, field_of, mode_of}
@@ -15,8 +15,8 @@ use Rattle.rv_insn.specs.declared.vector_instructions.VectorInsn.TheVariants.{Ar
 use Rattle.rv_insn.specs.declared.vector_instructions.VectorInsn.TheVariants.{CompareVi, MultiplyVv, MultiplyVx, Reduce, MergeVv, MergeVx, MergeVi, MoveVv}
 use Rattle.rv_insn.specs.declared.vector_instructions.VectorInsn.TheVariants.{MoveVx, MoveVi, MoveToScalar, MoveFromScalar, ElementNumbers, ExtendBytes}
 use Rattle.rv_insn.specs.declared.vector_instructions.VectorInsn.TheVariants.{Vsetvli, Vsetivli, Vsetvl, LoadElements, StoreElements}
-use Rattle.assembler_mnemonics.specs.declared.forms.Form.{Form}
-use Rattle.assembler_mnemonics.specs.declared.forms.Form.TheVariants as f
+use Rattle.assembler_mnemonics.specs.declared.forms.MnemonicForm.{MnemonicForm}
+use Rattle.assembler_mnemonics.specs.declared.forms.MnemonicForm.TheVariants as f
 use Rattle.assembler_mnemonics.specs.declared.forms.VectorForm.{VectorForm}
 use Rattle.assembler_mnemonics.specs.declared.forms.VectorForm.TheVariants as v
 
@@ -49,7 +49,7 @@ vector_form_of (Vsetvl rd rs1 rs2) = v.Vsetvl
 vector_form_of (LoadElements width vd rs1 addressing vm) = v.LoadElements (mode_of addressing) width
 vector_form_of (StoreElements width vs3 rs1 addressing vm) = v.StoreElements (mode_of addressing) width
 
-abbrev pub form_of : Insn → Form
+abbrev pub form_of : Insn → MnemonicForm
 form_of (Lui rd imm) = f.Lui
 form_of (Auipc rd imm) = f.Auipc
 form_of (Jal rd offset) = f.Jal
@@ -95,7 +95,7 @@ vector_row_name v.Vsetvl = codes "vsetvl"
 vector_row_name (v.LoadElements mode width) = load_elements_name mode width
 vector_row_name (v.StoreElements mode width) = store_elements_name mode width
 
-abbrev pub row_name : Form → List ℕ
+abbrev pub row_name : MnemonicForm → List ℕ
 row_name f.Lui = codes "lui"
 row_name f.Auipc = codes "auipc"
 row_name f.Jal = codes "jal"
@@ -120,13 +120,13 @@ order_suffix true false = codes ".aq"
 order_suffix false true = codes ".rl"
 order_suffix true true = codes ".aqrl"
 
-abbrev pub mnemonic : Form → List ℕ
+abbrev pub mnemonic : MnemonicForm → List ℕ
 mnemonic (f.AmoaddW aq rl) = codes "amoadd.w" ++ order_suffix aq rl
 mnemonic form = row_name form
 
 -- ---- the word of a form with numbers in all its fields: some row of the table has its name, the row's
 -- ---- fixed pairs hold in the word, and the fields are the numbers that stand at the row's places
 
-abbrev pub IsWord : ℕ → Form → List ℤ → Type 0
+abbrev pub IsWord : ℕ → MnemonicForm → List ℤ → Type 0
 IsWord word form fields =
     (row : Row) × Contains table row × Holds word row.pairs × (row_name form ≡ row.name) × (fields ≡ map (field_of word) row.fields)

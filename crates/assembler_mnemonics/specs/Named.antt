@@ -8,12 +8,12 @@ use Rattle.rv_insn.specs.VectorTable.{all_arithmetic_vvs, all_arithmetic_vxs, al
 use Rattle.rv_insn.specs.VectorTable.{all_compare_vis, all_multiplies, all_reductions, all_widths}
 use Rattle.rv_insn.specs.declared.vector_operations.AddressMode.{AddressMode}
 use Rattle.rv_insn.specs.declared.vector_operations.AddressMode.TheVariants as modes
-use Rattle.assembler_mnemonics.specs.declared.forms.Form.{Form}
-use Rattle.assembler_mnemonics.specs.declared.forms.Form.TheVariants as f
+use Rattle.assembler_mnemonics.specs.declared.forms.MnemonicForm.{MnemonicForm}
+use Rattle.assembler_mnemonics.specs.declared.forms.MnemonicForm.TheVariants as f
 use Rattle.assembler_mnemonics.specs.declared.forms.VectorForm.{VectorForm}
 use Rattle.assembler_mnemonics.specs.declared.forms.VectorForm.TheVariants as v
-use Rattle.assembler_mnemonics.specs.declared.search.Group.{Group}
-use Rattle.assembler_mnemonics.specs.declared.search.Group.TheVariants as g
+use Rattle.assembler_mnemonics.specs.declared.search.MnemonicGroup.{MnemonicGroup}
+use Rattle.assembler_mnemonics.specs.declared.search.MnemonicGroup.TheVariants as g
 use Rattle.assembler_mnemonics.specs.Forms.{mnemonic}
 
 -- ---- all forms: those of each group of operations, and the others
@@ -30,7 +30,7 @@ vector_forms =
     ++ (v.MergeVv ∷ v.MergeVx ∷ v.MergeVi ∷ v.MoveVv ∷ v.MoveVx ∷ v.MoveVi ∷ v.MoveToScalar ∷ v.MoveFromScalar ∷ v.ElementNumbers ∷ v.ExtendBytes
     ∷ v.Vsetvli ∷ v.Vsetivli ∷ v.Vsetvl ∷ []))))))))))))
 
-unfoldable pub forms : List Form
+unfoldable pub forms : List MnemonicForm
 forms =
     f.Lui ∷ f.Auipc ∷ f.Jal ∷ f.Jalr ∷ f.Fence ∷ f.Ecall ∷ f.Ebreak ∷
     f.AmoaddW false false ∷ f.AmoaddW true false ∷ f.AmoaddW false true ∷ f.AmoaddW true true ∷
@@ -40,23 +40,23 @@ forms =
 -- ---- the form that a mnemonic names
 
 -- the form among some that has a mnemonic
-unfoldable pub form_among : List Form → List ℕ → Option Form
+unfoldable pub form_among : List MnemonicForm → List ℕ → Option MnemonicForm
 form_among some name = find (λ form. bytes_eq (mnemonic form) name) some
 
-abbrev pub form_named : List ℕ → Option Form
+abbrev pub form_named : List ℕ → Option MnemonicForm
 form_named name = form_among forms name
 
 -- ---- where to look for it: a reader need not believe this, since the search is proved to be `form_named`
 
 -- groups by the first letter of the mnemonic, and those of `v` by its last two letters
-unfoldable pub group_by_ending : ℕ → ℕ → Group
+unfoldable pub group_by_ending : ℕ → ℕ → MnemonicGroup
 group_by_ending before last =
     if before == 118 && last == 118 then g.EndsVv
     else (if before == 118 && last == 120 then g.EndsVx
     else (if before == 118 && last == 105 then g.EndsVi
     else (if before == 46 && last == 118 then g.EndsV else g.EndsOther)))
 
-unfoldable pub group_of : List ℕ → Group
+unfoldable pub group_of : List ℕ → MnemonicGroup
 group_of name =
     if slice_index name 0 == 97 then g.BeginsA
     else (if slice_index name 0 == 98 then g.BeginsB
@@ -65,7 +65,7 @@ group_of name =
     else (if slice_index name 0 == 118 && nat_le 3 (length name) then group_by_ending (slice_index name (length name - 2)) (slice_index name (length name - 1))
     else g.BeginsOther))))
 
-abbrev pub group_number : Group → ℕ
+abbrev pub group_number : MnemonicGroup → ℕ
 group_number g.BeginsA = 0
 group_number g.BeginsB = 1
 group_number g.BeginsL = 2
@@ -77,8 +77,8 @@ group_number g.EndsVi = 7
 group_number g.EndsV = 8
 group_number g.EndsOther = 9
 
-unfoldable pub is_in : Group → Form → Bool
+unfoldable pub is_in : MnemonicGroup → MnemonicForm → Bool
 is_in group form = group_number (group_of (mnemonic form)) == group_number group
 
-unfoldable pub forms_in : Group → List Form
+unfoldable pub forms_in : MnemonicGroup → List MnemonicForm
 forms_in group = filter (is_in group) forms

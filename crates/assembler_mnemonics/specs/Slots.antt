@@ -7,8 +7,8 @@ use Rattle.rv_insn.specs.declared.vector_operations.AddressMode.{AddressMode}
 use Rattle.rv_insn.specs.declared.vector_operations.AddressMode.TheVariants as modes
 use Rattle.assembler_mnemonics.specs.declared.slots.Slot.{Slot}
 use Rattle.assembler_mnemonics.specs.declared.slots.Slot.TheVariants.{Integer, Vector, MaskRegister, Number, Upper, Based, Address, Target, Configuration, Mask}
-use Rattle.assembler_mnemonics.specs.declared.forms.Form.{Form}
-use Rattle.assembler_mnemonics.specs.declared.forms.Form.TheVariants as f
+use Rattle.assembler_mnemonics.specs.declared.forms.MnemonicForm.{MnemonicForm}
+use Rattle.assembler_mnemonics.specs.declared.forms.MnemonicForm.TheVariants as f
 use Rattle.assembler_mnemonics.specs.declared.forms.VectorForm.{VectorForm}
 use Rattle.assembler_mnemonics.specs.declared.forms.VectorForm.TheVariants as v
 
@@ -65,7 +65,7 @@ vector_shape v.Vsetvl = Integer 0 ∷ Integer 1 ∷ Integer 2 ∷ []
 vector_shape (v.LoadElements mode width) = access_operands mode
 vector_shape (v.StoreElements mode width) = access_operands mode
 
-unfoldable pub shape : Form → List Slot
+unfoldable pub shape : MnemonicForm → List Slot
 shape f.Lui = Integer 0 ∷ Upper 1 ∷ []
 shape f.Auipc = Integer 0 ∷ Upper 1 ∷ []
 shape f.Jal = Integer 0 ∷ Target 1 (pos 524288) ∷ []
@@ -106,7 +106,7 @@ vector_blank (v.LoadElements mode width) = access_blank mode
 vector_blank (v.StoreElements mode width) = access_blank mode
 vector_blank form = pos 0 ∷ pos 0 ∷ pos 0 ∷ pos 1 ∷ []
 
-unfoldable pub blank : Form → List ℤ
+unfoldable pub blank : MnemonicForm → List ℤ
 blank f.Lui = pos 0 ∷ pos 0 ∷ []
 blank f.Auipc = pos 0 ∷ pos 0 ∷ []
 blank f.Jal = pos 0 ∷ pos 0 ∷ []
@@ -147,6 +147,6 @@ FitsSlots fields (slot ∷ slots) = FitsSlot fields slot × FitsSlots fields slo
 -- ---- the fields that no operand gives
 
 -- the bits of amoadd.w are the form's
-abbrev pub Keeps : Form → List ℤ → Type 0
+abbrev pub Keeps : MnemonicForm → List ℤ → Type 0
 Keeps (f.AmoaddW aq rl) fields = (field_at fields 3 ≡ pos (bit_of aq)) × (field_at fields 4 ≡ pos (bit_of rl))
 Keeps form fields = Unit {0}

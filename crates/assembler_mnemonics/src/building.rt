@@ -7,11 +7,11 @@ ghost use Rattle.assembler_mnemonics.specs.Slots.{blank, shape, field_at, IsWith
 ghost use Rattle.assembler_mnemonics.specs.inner.Groups.{IsOperation, IsAccess};
 
 use crate::fields::Fields;
-use crate::forms::Form;
+use crate::forms::MnemonicForm;
 use crate::values::{amount_at, branch_at, immediate_12_at, integer_at, jump_at, upper_at};
 use rv_insn::{Insn, Reg};
 
-impl Form {
+impl MnemonicForm {
     /// The instruction of the form with these numbers in its fields, which are as many as the form
     /// has, and each a number that its slot can give.
     #[tactic(auto, using(crate::proofs::Fronts::no_fields, crate::proofs::Fronts::two_fields, crate::proofs::Fronts::three_fields), unfolding(crate::specs::Slots::blank, crate::specs::Slots::shape))]
@@ -23,24 +23,24 @@ impl Form {
         ensures fields { fields_of result ≡ fields.now }
     {
         match self {
-            Form::Lui => Insn::Lui {
+            MnemonicForm::Lui => Insn::Lui {
                 rd: integer_at(fields, 0),
                 imm: upper_at(fields, 1),
             },
-            Form::Auipc => Insn::Auipc {
+            MnemonicForm::Auipc => Insn::Auipc {
                 rd: integer_at(fields, 0),
                 imm: upper_at(fields, 1),
             },
-            Form::Jal => Insn::Jal {
+            MnemonicForm::Jal => Insn::Jal {
                 rd: integer_at(fields, 0),
                 offset: jump_at(fields, 1),
             },
-            Form::Jalr => Insn::Jalr {
+            MnemonicForm::Jalr => Insn::Jalr {
                 rd: integer_at(fields, 0),
                 rs1: integer_at(fields, 1),
                 imm: immediate_12_at(fields, 2),
             },
-            Form::Branch(op) => {
+            MnemonicForm::Branch(op) => {
                 let (rs1, rs2) = sources(fields);
                 let offset = branch_at(fields, 2);
                 Insn::Branch {
@@ -50,12 +50,14 @@ impl Form {
                     offset,
                 }
             }
-            Form::AluImm(_) | Form::Shift(_) | Form::Alu(_) => self.operation(fields),
-            Form::Load(_) | Form::Store(_) | Form::AmoaddW { .. } => self.access(fields),
-            Form::Fence => Insn::Fence,
-            Form::Ecall => Insn::Ecall,
-            Form::Ebreak => Insn::Ebreak,
-            Form::Vector(form) => Insn::Vector(form.instruction(fields)),
+            MnemonicForm::AluImm(_) | MnemonicForm::Shift(_) | MnemonicForm::Alu(_) =>
+                self.operation(fields),
+            MnemonicForm::Load(_) | MnemonicForm::Store(_) | MnemonicForm::AmoaddW { .. } =>
+                self.access(fields),
+            MnemonicForm::Fence => Insn::Fence,
+            MnemonicForm::Ecall => Insn::Ecall,
+            MnemonicForm::Ebreak => Insn::Ebreak,
+            MnemonicForm::Vector(form) => Insn::Vector(form.instruction(fields)),
         }
     }
 
@@ -69,19 +71,19 @@ impl Form {
         ensures fields { fields_of result ≡ fields.now }
     {
         match self {
-            Form::AluImm(op) => Insn::AluImm {
+            MnemonicForm::AluImm(op) => Insn::AluImm {
                 op,
                 rd: integer_at(fields, 0),
                 rs1: integer_at(fields, 1),
                 imm: immediate_12_at(fields, 2),
             },
-            Form::Shift(op) => Insn::Shift {
+            MnemonicForm::Shift(op) => Insn::Shift {
                 op,
                 rd: integer_at(fields, 0),
                 rs1: integer_at(fields, 1),
                 amount: amount_at(fields, 2),
             },
-            Form::Alu(op) => Insn::Alu {
+            MnemonicForm::Alu(op) => Insn::Alu {
                 op,
                 rd: integer_at(fields, 0),
                 rs1: integer_at(fields, 1),
@@ -102,18 +104,18 @@ impl Form {
         ensures fields { fields_of result ≡ fields.now }
     {
         match self {
-            Form::Load(op) => Insn::Load {
+            MnemonicForm::Load(op) => Insn::Load {
                 op,
                 rd: integer_at(fields, 0),
                 rs1: integer_at(fields, 1),
                 imm: immediate_12_at(fields, 2),
             },
-            Form::Store(op) => {
+            MnemonicForm::Store(op) => {
                 let (rs1, rs2) = sources(fields);
                 let imm = immediate_12_at(fields, 2);
                 Insn::Store { op, rs1, rs2, imm }
             }
-            Form::AmoaddW { aq, rl } => Insn::AmoaddW {
+            MnemonicForm::AmoaddW { aq, rl } => Insn::AmoaddW {
                 rd: integer_at(fields, 0),
                 rs1: integer_at(fields, 1),
                 rs2: integer_at(fields, 2),

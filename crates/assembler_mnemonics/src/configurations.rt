@@ -4,7 +4,7 @@ ghost use Rattle.std.specs.Prelude.{◌≡◌, ◌<◌, IfSome};
 ghost use Rattle.assembler_mnemonics.specs.Configuration as spec;
 
 /// The vtype of four names: the elements' width, how many registers are grouped, and what happens to
-/// elements behind the last and to those that the mask leaves out. `None` where one is no such name.
+/// elements after the last and to those that the mask leaves out. `None` where one is no such name.
 #[tactic(auto, unfolding(crate::specs::Configuration::vtype_named))]
 pub fn vtype_named(width: &[u8], group: &[u8], tail: &[u8], mask: &[u8]) -> Option<u32>
     ensures value { result ≡ spec.vtype_named width.now group.now tail.now mask.now }

@@ -9,7 +9,7 @@ ghost use Rattle.assembler_mnemonics.specs.Forms.{vector_form_of};
 ghost use Rattle.assembler_mnemonics.specs.Slots as spec;
 ghost use Rattle.assembler_mnemonics.specs.inner.Groups.{HasOther, IsConfiguration, IsElementAccess};
 
-use crate::forms::{Form, VectorForm};
+use crate::forms::{MnemonicForm, VectorForm};
 use rv_insn::{AddressMode, Addressing, Insn, Reg, VReg, VectorInsn};
 use std::marker::Model;
 
@@ -285,7 +285,7 @@ fn bit(flag: bool) -> i64
     if flag { 1 } else { 0 }
 }
 
-impl Form {
+impl MnemonicForm {
     /// The fields before any operand is read: a mask that isn't written is 1, the bits of `amoadd.w`
     /// are the form's, and all else is 0.
     #[tactic(auto, unfolding(crate::specs::Slots::blank))]
@@ -293,14 +293,16 @@ impl Form {
         ensures { result ≡ spec.blank self }
     {
         match self {
-            Form::Lui | Form::Auipc | Form::Jal => Fields::two(0, 0),
-            Form::Jalr | Form::Branch(_) | Form::Load(_) | Form::Store(_) => {
-                Fields::three(0, 0, 0)
-            }
-            Form::AluImm(_) | Form::Shift(_) | Form::Alu(_) => Fields::three(0, 0, 0),
-            Form::AmoaddW { aq, rl } => Fields::five(0, 0, 0, bit(aq), bit(rl)),
-            Form::Fence | Form::Ecall | Form::Ebreak => Fields::none(),
-            Form::Vector(form) => form.blank(),
+            MnemonicForm::Lui | MnemonicForm::Auipc | MnemonicForm::Jal => Fields::two(0, 0),
+            MnemonicForm::Jalr
+            | MnemonicForm::Branch(_)
+            | MnemonicForm::Load(_)
+            | MnemonicForm::Store(_) => { Fields::three(0, 0, 0) }
+            MnemonicForm::AluImm(_) | MnemonicForm::Shift(_) | MnemonicForm::Alu(_) =>
+                Fields::three(0, 0, 0),
+            MnemonicForm::AmoaddW { aq, rl } => Fields::five(0, 0, 0, bit(aq), bit(rl)),
+            MnemonicForm::Fence | MnemonicForm::Ecall | MnemonicForm::Ebreak => Fields::none(),
+            MnemonicForm::Vector(form) => form.blank(),
         }
     }
 }

@@ -20,7 +20,7 @@ use rv_insn::{
 /// An instruction without its operands: what a mnemonic names. Each is a row of the instruction table,
 /// but that `amoadd.w` has one for each setting of its bits `aq` and `rl`.
 #[derive(Clone, Copy)]
-pub enum Form {
+pub enum MnemonicForm {
     Lui,
     Auipc,
     Jal,
@@ -68,50 +68,50 @@ pub enum VectorForm {
     StoreElements(AddressMode, ElementWidth),
 }
 
-impl Form {
+impl MnemonicForm {
     /// The form of an instruction.
-    pub fn of(insn: &Insn) -> Form
+    pub fn of(insn: &Insn) -> MnemonicForm
         ensures { result ≡ form_of insn.now }
     {
         match *insn {
-            Insn::Lui { .. } => Form::Lui,
-            Insn::Auipc { .. } => Form::Auipc,
-            Insn::Jal { .. } => Form::Jal,
-            Insn::Jalr { .. } => Form::Jalr,
-            Insn::Branch { op, .. } => Form::Branch(op),
-            Insn::Load { op, .. } => Form::Load(op),
-            Insn::Store { op, .. } => Form::Store(op),
-            Insn::AluImm { op, .. } => Form::AluImm(op),
-            Insn::Shift { op, .. } => Form::Shift(op),
-            Insn::Alu { op, .. } => Form::Alu(op),
-            Insn::AmoaddW { aq, rl, .. } => Form::AmoaddW { aq, rl },
-            Insn::Fence => Form::Fence,
-            Insn::Ecall => Form::Ecall,
-            Insn::Ebreak => Form::Ebreak,
-            Insn::Vector(insn) => Form::Vector(VectorForm::of(&insn)),
+            Insn::Lui { .. } => MnemonicForm::Lui,
+            Insn::Auipc { .. } => MnemonicForm::Auipc,
+            Insn::Jal { .. } => MnemonicForm::Jal,
+            Insn::Jalr { .. } => MnemonicForm::Jalr,
+            Insn::Branch { op, .. } => MnemonicForm::Branch(op),
+            Insn::Load { op, .. } => MnemonicForm::Load(op),
+            Insn::Store { op, .. } => MnemonicForm::Store(op),
+            Insn::AluImm { op, .. } => MnemonicForm::AluImm(op),
+            Insn::Shift { op, .. } => MnemonicForm::Shift(op),
+            Insn::Alu { op, .. } => MnemonicForm::Alu(op),
+            Insn::AmoaddW { aq, rl, .. } => MnemonicForm::AmoaddW { aq, rl },
+            Insn::Fence => MnemonicForm::Fence,
+            Insn::Ecall => MnemonicForm::Ecall,
+            Insn::Ebreak => MnemonicForm::Ebreak,
+            Insn::Vector(insn) => MnemonicForm::Vector(VectorForm::of(&insn)),
         }
     }
 
-    /// The form's mnemonic: its row's name, and for `amoadd.w` behind it the bits that are 1.
+    /// The form's mnemonic: its row's name, and for `amoadd.w` after it the bits that are 1.
     pub fn mnemonic(self) -> &'static str
         ensures { result.now ≡ mnemonic self }
     {
         match self {
-            Form::Lui => "lui",
-            Form::Auipc => "auipc",
-            Form::Jal => "jal",
-            Form::Jalr => "jalr",
-            Form::Branch(op) => branch_mnemonic(op),
-            Form::Load(op) => load_mnemonic(op),
-            Form::Store(op) => store_mnemonic(op),
-            Form::AluImm(op) => alu_imm_mnemonic(op),
-            Form::Shift(op) => shift_mnemonic(op),
-            Form::Alu(op) => alu_mnemonic(op),
-            Form::AmoaddW { aq, rl } => amoadd_mnemonic(aq, rl),
-            Form::Fence => "fence",
-            Form::Ecall => "ecall",
-            Form::Ebreak => "ebreak",
-            Form::Vector(form) => form.mnemonic(),
+            MnemonicForm::Lui => "lui",
+            MnemonicForm::Auipc => "auipc",
+            MnemonicForm::Jal => "jal",
+            MnemonicForm::Jalr => "jalr",
+            MnemonicForm::Branch(op) => branch_mnemonic(op),
+            MnemonicForm::Load(op) => load_mnemonic(op),
+            MnemonicForm::Store(op) => store_mnemonic(op),
+            MnemonicForm::AluImm(op) => alu_imm_mnemonic(op),
+            MnemonicForm::Shift(op) => shift_mnemonic(op),
+            MnemonicForm::Alu(op) => alu_mnemonic(op),
+            MnemonicForm::AmoaddW { aq, rl } => amoadd_mnemonic(aq, rl),
+            MnemonicForm::Fence => "fence",
+            MnemonicForm::Ecall => "ecall",
+            MnemonicForm::Ebreak => "ebreak",
+            MnemonicForm::Vector(form) => form.mnemonic(),
         }
     }
 }

@@ -3,7 +3,7 @@
 ghost use Rattle.std.specs.Prelude.{◌≡◌, ◌<◌, ℕ, ℤ, ◌↔◌, List, length, Some, true};
 ghost use Rattle.rv_insn.specs.Table.{name_of, fields_of, Means};
 ghost use Rattle.rv_insn.specs.declared.instructions.Insn.{Insn};
-ghost use Rattle.assembler_mnemonics.specs.declared.forms.Form.{Form};
+ghost use Rattle.assembler_mnemonics.specs.declared.forms.MnemonicForm.{MnemonicForm};
 ghost use Rattle.assembler_mnemonics.specs.Forms.{form_of, mnemonic, row_name, IsWord};
 ghost use Rattle.assembler_mnemonics.specs.Named.{form_named};
 ghost use Rattle.assembler_mnemonics.specs.Slots.{shape, blank, FitsSlots, Keeps};
@@ -15,8 +15,8 @@ ghost use Rattle.assembler_mnemonics.specs.Configuration.{name_at};
 
 /// A law: each form is found by its mnemonic, and by nothing else.
 pub fn mnemonics_tell_apart()
-    ensures found { (form : Form) → form_named (mnemonic form) ≡ Some form }
-    ensures alone { (name : List ℕ) (form : Form) → form_named name ≡ Some form → mnemonic form ≡ name }
+    ensures found { (form : MnemonicForm) → form_named (mnemonic form) ≡ Some form }
+    ensures alone { (name : List ℕ) (form : MnemonicForm) → form_named name ≡ Some form → mnemonic form ≡ name }
 {}
 
 /// A law: an instruction's name in the instruction table is that of its form.
@@ -37,11 +37,11 @@ pub fn told_apart()
 
 /// A law: blank fields that a form's operands filled are fields of the form.
 pub fn operands_fill()
-    ensures count { (form : Form) (pairs : List (ℕ × ℤ)) → AllGive (shape form) pairs
+    ensures count { (form : MnemonicForm) (pairs : List (ℕ × ℤ)) → AllGive (shape form) pairs
         → length (placed (blank form) pairs) ≡ length (blank form) }
-    ensures fits { (form : Form) (pairs : List (ℕ × ℤ)) → AllGive (shape form) pairs
+    ensures fits { (form : MnemonicForm) (pairs : List (ℕ × ℤ)) → AllGive (shape form) pairs
         → FitsSlots (placed (blank form) pairs) (shape form) }
-    ensures kept { (form : Form) (pairs : List (ℕ × ℤ)) → AllGive (shape form) pairs
+    ensures kept { (form : MnemonicForm) (pairs : List (ℕ × ℤ)) → AllGive (shape form) pairs
         → Keeps form (placed (blank form) pairs) }
 {}
 

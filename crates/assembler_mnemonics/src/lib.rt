@@ -1,6 +1,6 @@
 //! The rows of the instruction table as text has them: mnemonics, and how operands are written.
 //!
-//! A [`Form`] is an instruction without its operands. It has a mnemonic and a list of [`Slot`]s, one
+//! A [`MnemonicForm`] is an instruction without its operands. It has a mnemonic and a list of [`Slot`]s, one
 //! for each operand, that say how the operand is written and which field of the row it gives. With
 //! numbers for all fields a form is an instruction, and an instruction gives its form and numbers back.
 //! The assembler reads by this one table, and the listing writes by it.
@@ -31,6 +31,6 @@ mod vector_names;
 
 pub use crate::configurations::vtype_named;
 pub use crate::fields::Fields;
-pub use crate::forms::{Form, VectorForm};
+pub use crate::forms::{MnemonicForm, VectorForm};
 pub use crate::registers::{integer_register, vector_register};
 pub use crate::slots::Slot;

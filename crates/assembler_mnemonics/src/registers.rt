@@ -25,7 +25,7 @@ pub fn vector_register(word: &[u8]) -> Option<VReg>
     }
 }
 
-// The number behind a letter: no leading zero, and at most 31.
+// The number after a letter: no leading zero, and at most 31.
 #[tactic(auto, unfolding(crate::specs::Registers::register_number))]
 fn register_number(letter: u8, word: &[u8]) -> Option<u8>
     ensures value { result ≡ number_named letter word.now }

@@ -3,7 +3,7 @@
 ghost use Rattle.std.specs.Prelude.{◌≡◌};
 ghost use Rattle.assembler_mnemonics.specs.Named as spec;
 
-use crate::forms::{Form, VectorForm};
+use crate::forms::{MnemonicForm, VectorForm};
 use rv_insn::{
     AddressMode, AluImmOp, AluOp, ArithmeticViOp, ArithmeticVvOp, ArithmeticVxOp, BranchOp,
     CompareViOp, CompareVvOp, CompareVxOp, ElementWidth, LoadOp, MultiplyOp, ReductionOp, ShiftOp,
@@ -13,7 +13,7 @@ use rv_insn::{
 // Where the forms are to be looked for: groups by the mnemonic's first letter, and those that begin
 // with `v` by the last two.
 #[derive(Clone, Copy)]
-enum Group {
+enum MnemonicGroup {
     BeginsA,
     BeginsB,
     BeginsL,
@@ -27,215 +27,215 @@ enum Group {
 }
 
 // Mnemonics that begin with `a`.
-const A_FORMS: [Form; 9] = [
-    Form::Auipc,
-    Form::AmoaddW {
+const A_FORMS: [MnemonicForm; 9] = [
+    MnemonicForm::Auipc,
+    MnemonicForm::AmoaddW {
         aq: false,
         rl: false,
     },
-    Form::AmoaddW {
+    MnemonicForm::AmoaddW {
         aq: true,
         rl: false,
     },
-    Form::AmoaddW {
+    MnemonicForm::AmoaddW {
         aq: false,
         rl: true,
     },
-    Form::AmoaddW { aq: true, rl: true },
-    Form::AluImm(AluImmOp::Addi),
-    Form::AluImm(AluImmOp::Andi),
-    Form::Alu(AluOp::Add),
-    Form::Alu(AluOp::And),
+    MnemonicForm::AmoaddW { aq: true, rl: true },
+    MnemonicForm::AluImm(AluImmOp::Addi),
+    MnemonicForm::AluImm(AluImmOp::Andi),
+    MnemonicForm::Alu(AluOp::Add),
+    MnemonicForm::Alu(AluOp::And),
 ];
 
 // Mnemonics that begin with `b`.
-const B_FORMS: [Form; 6] = [
-    Form::Branch(BranchOp::Beq),
-    Form::Branch(BranchOp::Bne),
-    Form::Branch(BranchOp::Blt),
-    Form::Branch(BranchOp::Bge),
-    Form::Branch(BranchOp::Bltu),
-    Form::Branch(BranchOp::Bgeu),
+const B_FORMS: [MnemonicForm; 6] = [
+    MnemonicForm::Branch(BranchOp::Beq),
+    MnemonicForm::Branch(BranchOp::Bne),
+    MnemonicForm::Branch(BranchOp::Blt),
+    MnemonicForm::Branch(BranchOp::Bge),
+    MnemonicForm::Branch(BranchOp::Bltu),
+    MnemonicForm::Branch(BranchOp::Bgeu),
 ];
 
 // Mnemonics that begin with `l`.
-const L_FORMS: [Form; 6] = [
-    Form::Lui,
-    Form::Load(LoadOp::Lb),
-    Form::Load(LoadOp::Lh),
-    Form::Load(LoadOp::Lw),
-    Form::Load(LoadOp::Lbu),
-    Form::Load(LoadOp::Lhu),
+const L_FORMS: [MnemonicForm; 6] = [
+    MnemonicForm::Lui,
+    MnemonicForm::Load(LoadOp::Lb),
+    MnemonicForm::Load(LoadOp::Lh),
+    MnemonicForm::Load(LoadOp::Lw),
+    MnemonicForm::Load(LoadOp::Lbu),
+    MnemonicForm::Load(LoadOp::Lhu),
 ];
 
 // Mnemonics that begin with `s`.
-const S_FORMS: [Form; 14] = [
-    Form::Store(StoreOp::Sb),
-    Form::Store(StoreOp::Sh),
-    Form::Store(StoreOp::Sw),
-    Form::AluImm(AluImmOp::Slti),
-    Form::AluImm(AluImmOp::Sltiu),
-    Form::Shift(ShiftOp::Slli),
-    Form::Shift(ShiftOp::Srli),
-    Form::Shift(ShiftOp::Srai),
-    Form::Alu(AluOp::Sub),
-    Form::Alu(AluOp::Sll),
-    Form::Alu(AluOp::Slt),
-    Form::Alu(AluOp::Sltu),
-    Form::Alu(AluOp::Srl),
-    Form::Alu(AluOp::Sra),
+const S_FORMS: [MnemonicForm; 14] = [
+    MnemonicForm::Store(StoreOp::Sb),
+    MnemonicForm::Store(StoreOp::Sh),
+    MnemonicForm::Store(StoreOp::Sw),
+    MnemonicForm::AluImm(AluImmOp::Slti),
+    MnemonicForm::AluImm(AluImmOp::Sltiu),
+    MnemonicForm::Shift(ShiftOp::Slli),
+    MnemonicForm::Shift(ShiftOp::Srli),
+    MnemonicForm::Shift(ShiftOp::Srai),
+    MnemonicForm::Alu(AluOp::Sub),
+    MnemonicForm::Alu(AluOp::Sll),
+    MnemonicForm::Alu(AluOp::Slt),
+    MnemonicForm::Alu(AluOp::Sltu),
+    MnemonicForm::Alu(AluOp::Srl),
+    MnemonicForm::Alu(AluOp::Sra),
 ];
 
 // Mnemonics that begin with other letters than `v`.
-const OTHER_FORMS: [Form; 17] = [
-    Form::Jal,
-    Form::Jalr,
-    Form::Fence,
-    Form::Ecall,
-    Form::Ebreak,
-    Form::AluImm(AluImmOp::Xori),
-    Form::AluImm(AluImmOp::Ori),
-    Form::Alu(AluOp::Xor),
-    Form::Alu(AluOp::Or),
-    Form::Alu(AluOp::Mul),
-    Form::Alu(AluOp::Mulh),
-    Form::Alu(AluOp::Mulhsu),
-    Form::Alu(AluOp::Mulhu),
-    Form::Alu(AluOp::Div),
-    Form::Alu(AluOp::Divu),
-    Form::Alu(AluOp::Rem),
-    Form::Alu(AluOp::Remu),
+const OTHER_FORMS: [MnemonicForm; 17] = [
+    MnemonicForm::Jal,
+    MnemonicForm::Jalr,
+    MnemonicForm::Fence,
+    MnemonicForm::Ecall,
+    MnemonicForm::Ebreak,
+    MnemonicForm::AluImm(AluImmOp::Xori),
+    MnemonicForm::AluImm(AluImmOp::Ori),
+    MnemonicForm::Alu(AluOp::Xor),
+    MnemonicForm::Alu(AluOp::Or),
+    MnemonicForm::Alu(AluOp::Mul),
+    MnemonicForm::Alu(AluOp::Mulh),
+    MnemonicForm::Alu(AluOp::Mulhsu),
+    MnemonicForm::Alu(AluOp::Mulhu),
+    MnemonicForm::Alu(AluOp::Div),
+    MnemonicForm::Alu(AluOp::Divu),
+    MnemonicForm::Alu(AluOp::Rem),
+    MnemonicForm::Alu(AluOp::Remu),
 ];
 
 // Mnemonics that begin with `v`, and end with `vv`.
-const VV_FORMS: [Form; 26] = [
-    Form::Vector(VectorForm::ArithmeticVv(ArithmeticVvOp::Vadd)),
-    Form::Vector(VectorForm::ArithmeticVv(ArithmeticVvOp::Vsub)),
-    Form::Vector(VectorForm::ArithmeticVv(ArithmeticVvOp::Vminu)),
-    Form::Vector(VectorForm::ArithmeticVv(ArithmeticVvOp::Vmin)),
-    Form::Vector(VectorForm::ArithmeticVv(ArithmeticVvOp::Vmaxu)),
-    Form::Vector(VectorForm::ArithmeticVv(ArithmeticVvOp::Vmax)),
-    Form::Vector(VectorForm::ArithmeticVv(ArithmeticVvOp::Vand)),
-    Form::Vector(VectorForm::ArithmeticVv(ArithmeticVvOp::Vor)),
-    Form::Vector(VectorForm::ArithmeticVv(ArithmeticVvOp::Vxor)),
-    Form::Vector(VectorForm::ArithmeticVv(ArithmeticVvOp::Vsll)),
-    Form::Vector(VectorForm::ArithmeticVv(ArithmeticVvOp::Vsrl)),
-    Form::Vector(VectorForm::ArithmeticVv(ArithmeticVvOp::Vsra)),
-    Form::Vector(VectorForm::CompareVv(CompareVvOp::Vmseq)),
-    Form::Vector(VectorForm::CompareVv(CompareVvOp::Vmsne)),
-    Form::Vector(VectorForm::CompareVv(CompareVvOp::Vmsltu)),
-    Form::Vector(VectorForm::CompareVv(CompareVvOp::Vmslt)),
-    Form::Vector(VectorForm::CompareVv(CompareVvOp::Vmsleu)),
-    Form::Vector(VectorForm::CompareVv(CompareVvOp::Vmsle)),
-    Form::Vector(VectorForm::MultiplyVv(MultiplyOp::Vdivu)),
-    Form::Vector(VectorForm::MultiplyVv(MultiplyOp::Vdiv)),
-    Form::Vector(VectorForm::MultiplyVv(MultiplyOp::Vremu)),
-    Form::Vector(VectorForm::MultiplyVv(MultiplyOp::Vrem)),
-    Form::Vector(VectorForm::MultiplyVv(MultiplyOp::Vmulhu)),
-    Form::Vector(VectorForm::MultiplyVv(MultiplyOp::Vmul)),
-    Form::Vector(VectorForm::MultiplyVv(MultiplyOp::Vmulhsu)),
-    Form::Vector(VectorForm::MultiplyVv(MultiplyOp::Vmulh)),
+const VV_FORMS: [MnemonicForm; 26] = [
+    MnemonicForm::Vector(VectorForm::ArithmeticVv(ArithmeticVvOp::Vadd)),
+    MnemonicForm::Vector(VectorForm::ArithmeticVv(ArithmeticVvOp::Vsub)),
+    MnemonicForm::Vector(VectorForm::ArithmeticVv(ArithmeticVvOp::Vminu)),
+    MnemonicForm::Vector(VectorForm::ArithmeticVv(ArithmeticVvOp::Vmin)),
+    MnemonicForm::Vector(VectorForm::ArithmeticVv(ArithmeticVvOp::Vmaxu)),
+    MnemonicForm::Vector(VectorForm::ArithmeticVv(ArithmeticVvOp::Vmax)),
+    MnemonicForm::Vector(VectorForm::ArithmeticVv(ArithmeticVvOp::Vand)),
+    MnemonicForm::Vector(VectorForm::ArithmeticVv(ArithmeticVvOp::Vor)),
+    MnemonicForm::Vector(VectorForm::ArithmeticVv(ArithmeticVvOp::Vxor)),
+    MnemonicForm::Vector(VectorForm::ArithmeticVv(ArithmeticVvOp::Vsll)),
+    MnemonicForm::Vector(VectorForm::ArithmeticVv(ArithmeticVvOp::Vsrl)),
+    MnemonicForm::Vector(VectorForm::ArithmeticVv(ArithmeticVvOp::Vsra)),
+    MnemonicForm::Vector(VectorForm::CompareVv(CompareVvOp::Vmseq)),
+    MnemonicForm::Vector(VectorForm::CompareVv(CompareVvOp::Vmsne)),
+    MnemonicForm::Vector(VectorForm::CompareVv(CompareVvOp::Vmsltu)),
+    MnemonicForm::Vector(VectorForm::CompareVv(CompareVvOp::Vmslt)),
+    MnemonicForm::Vector(VectorForm::CompareVv(CompareVvOp::Vmsleu)),
+    MnemonicForm::Vector(VectorForm::CompareVv(CompareVvOp::Vmsle)),
+    MnemonicForm::Vector(VectorForm::MultiplyVv(MultiplyOp::Vdivu)),
+    MnemonicForm::Vector(VectorForm::MultiplyVv(MultiplyOp::Vdiv)),
+    MnemonicForm::Vector(VectorForm::MultiplyVv(MultiplyOp::Vremu)),
+    MnemonicForm::Vector(VectorForm::MultiplyVv(MultiplyOp::Vrem)),
+    MnemonicForm::Vector(VectorForm::MultiplyVv(MultiplyOp::Vmulhu)),
+    MnemonicForm::Vector(VectorForm::MultiplyVv(MultiplyOp::Vmul)),
+    MnemonicForm::Vector(VectorForm::MultiplyVv(MultiplyOp::Vmulhsu)),
+    MnemonicForm::Vector(VectorForm::MultiplyVv(MultiplyOp::Vmulh)),
 ];
 
 // Mnemonics that begin with `v`, and end with `vx`.
-const VX_FORMS: [Form; 29] = [
-    Form::Vector(VectorForm::ArithmeticVx(ArithmeticVxOp::Vadd)),
-    Form::Vector(VectorForm::ArithmeticVx(ArithmeticVxOp::Vsub)),
-    Form::Vector(VectorForm::ArithmeticVx(ArithmeticVxOp::Vrsub)),
-    Form::Vector(VectorForm::ArithmeticVx(ArithmeticVxOp::Vminu)),
-    Form::Vector(VectorForm::ArithmeticVx(ArithmeticVxOp::Vmin)),
-    Form::Vector(VectorForm::ArithmeticVx(ArithmeticVxOp::Vmaxu)),
-    Form::Vector(VectorForm::ArithmeticVx(ArithmeticVxOp::Vmax)),
-    Form::Vector(VectorForm::ArithmeticVx(ArithmeticVxOp::Vand)),
-    Form::Vector(VectorForm::ArithmeticVx(ArithmeticVxOp::Vor)),
-    Form::Vector(VectorForm::ArithmeticVx(ArithmeticVxOp::Vxor)),
-    Form::Vector(VectorForm::ArithmeticVx(ArithmeticVxOp::Vsll)),
-    Form::Vector(VectorForm::ArithmeticVx(ArithmeticVxOp::Vsrl)),
-    Form::Vector(VectorForm::ArithmeticVx(ArithmeticVxOp::Vsra)),
-    Form::Vector(VectorForm::CompareVx(CompareVxOp::Vmseq)),
-    Form::Vector(VectorForm::CompareVx(CompareVxOp::Vmsne)),
-    Form::Vector(VectorForm::CompareVx(CompareVxOp::Vmsltu)),
-    Form::Vector(VectorForm::CompareVx(CompareVxOp::Vmslt)),
-    Form::Vector(VectorForm::CompareVx(CompareVxOp::Vmsleu)),
-    Form::Vector(VectorForm::CompareVx(CompareVxOp::Vmsle)),
-    Form::Vector(VectorForm::CompareVx(CompareVxOp::Vmsgtu)),
-    Form::Vector(VectorForm::CompareVx(CompareVxOp::Vmsgt)),
-    Form::Vector(VectorForm::MultiplyVx(MultiplyOp::Vdivu)),
-    Form::Vector(VectorForm::MultiplyVx(MultiplyOp::Vdiv)),
-    Form::Vector(VectorForm::MultiplyVx(MultiplyOp::Vremu)),
-    Form::Vector(VectorForm::MultiplyVx(MultiplyOp::Vrem)),
-    Form::Vector(VectorForm::MultiplyVx(MultiplyOp::Vmulhu)),
-    Form::Vector(VectorForm::MultiplyVx(MultiplyOp::Vmul)),
-    Form::Vector(VectorForm::MultiplyVx(MultiplyOp::Vmulhsu)),
-    Form::Vector(VectorForm::MultiplyVx(MultiplyOp::Vmulh)),
+const VX_FORMS: [MnemonicForm; 29] = [
+    MnemonicForm::Vector(VectorForm::ArithmeticVx(ArithmeticVxOp::Vadd)),
+    MnemonicForm::Vector(VectorForm::ArithmeticVx(ArithmeticVxOp::Vsub)),
+    MnemonicForm::Vector(VectorForm::ArithmeticVx(ArithmeticVxOp::Vrsub)),
+    MnemonicForm::Vector(VectorForm::ArithmeticVx(ArithmeticVxOp::Vminu)),
+    MnemonicForm::Vector(VectorForm::ArithmeticVx(ArithmeticVxOp::Vmin)),
+    MnemonicForm::Vector(VectorForm::ArithmeticVx(ArithmeticVxOp::Vmaxu)),
+    MnemonicForm::Vector(VectorForm::ArithmeticVx(ArithmeticVxOp::Vmax)),
+    MnemonicForm::Vector(VectorForm::ArithmeticVx(ArithmeticVxOp::Vand)),
+    MnemonicForm::Vector(VectorForm::ArithmeticVx(ArithmeticVxOp::Vor)),
+    MnemonicForm::Vector(VectorForm::ArithmeticVx(ArithmeticVxOp::Vxor)),
+    MnemonicForm::Vector(VectorForm::ArithmeticVx(ArithmeticVxOp::Vsll)),
+    MnemonicForm::Vector(VectorForm::ArithmeticVx(ArithmeticVxOp::Vsrl)),
+    MnemonicForm::Vector(VectorForm::ArithmeticVx(ArithmeticVxOp::Vsra)),
+    MnemonicForm::Vector(VectorForm::CompareVx(CompareVxOp::Vmseq)),
+    MnemonicForm::Vector(VectorForm::CompareVx(CompareVxOp::Vmsne)),
+    MnemonicForm::Vector(VectorForm::CompareVx(CompareVxOp::Vmsltu)),
+    MnemonicForm::Vector(VectorForm::CompareVx(CompareVxOp::Vmslt)),
+    MnemonicForm::Vector(VectorForm::CompareVx(CompareVxOp::Vmsleu)),
+    MnemonicForm::Vector(VectorForm::CompareVx(CompareVxOp::Vmsle)),
+    MnemonicForm::Vector(VectorForm::CompareVx(CompareVxOp::Vmsgtu)),
+    MnemonicForm::Vector(VectorForm::CompareVx(CompareVxOp::Vmsgt)),
+    MnemonicForm::Vector(VectorForm::MultiplyVx(MultiplyOp::Vdivu)),
+    MnemonicForm::Vector(VectorForm::MultiplyVx(MultiplyOp::Vdiv)),
+    MnemonicForm::Vector(VectorForm::MultiplyVx(MultiplyOp::Vremu)),
+    MnemonicForm::Vector(VectorForm::MultiplyVx(MultiplyOp::Vrem)),
+    MnemonicForm::Vector(VectorForm::MultiplyVx(MultiplyOp::Vmulhu)),
+    MnemonicForm::Vector(VectorForm::MultiplyVx(MultiplyOp::Vmul)),
+    MnemonicForm::Vector(VectorForm::MultiplyVx(MultiplyOp::Vmulhsu)),
+    MnemonicForm::Vector(VectorForm::MultiplyVx(MultiplyOp::Vmulh)),
 ];
 
 // Mnemonics that begin with `v`, and end with `vi`.
-const VI_FORMS: [Form; 14] = [
-    Form::Vector(VectorForm::ArithmeticVi(ArithmeticViOp::Vadd)),
-    Form::Vector(VectorForm::ArithmeticVi(ArithmeticViOp::Vrsub)),
-    Form::Vector(VectorForm::ArithmeticVi(ArithmeticViOp::Vand)),
-    Form::Vector(VectorForm::ArithmeticVi(ArithmeticViOp::Vor)),
-    Form::Vector(VectorForm::ArithmeticVi(ArithmeticViOp::Vxor)),
-    Form::Vector(VectorForm::ShiftVi(ShiftViOp::Vsll)),
-    Form::Vector(VectorForm::ShiftVi(ShiftViOp::Vsrl)),
-    Form::Vector(VectorForm::ShiftVi(ShiftViOp::Vsra)),
-    Form::Vector(VectorForm::CompareVi(CompareViOp::Vmseq)),
-    Form::Vector(VectorForm::CompareVi(CompareViOp::Vmsne)),
-    Form::Vector(VectorForm::CompareVi(CompareViOp::Vmsleu)),
-    Form::Vector(VectorForm::CompareVi(CompareViOp::Vmsle)),
-    Form::Vector(VectorForm::CompareVi(CompareViOp::Vmsgtu)),
-    Form::Vector(VectorForm::CompareVi(CompareViOp::Vmsgt)),
+const VI_FORMS: [MnemonicForm; 14] = [
+    MnemonicForm::Vector(VectorForm::ArithmeticVi(ArithmeticViOp::Vadd)),
+    MnemonicForm::Vector(VectorForm::ArithmeticVi(ArithmeticViOp::Vrsub)),
+    MnemonicForm::Vector(VectorForm::ArithmeticVi(ArithmeticViOp::Vand)),
+    MnemonicForm::Vector(VectorForm::ArithmeticVi(ArithmeticViOp::Vor)),
+    MnemonicForm::Vector(VectorForm::ArithmeticVi(ArithmeticViOp::Vxor)),
+    MnemonicForm::Vector(VectorForm::ShiftVi(ShiftViOp::Vsll)),
+    MnemonicForm::Vector(VectorForm::ShiftVi(ShiftViOp::Vsrl)),
+    MnemonicForm::Vector(VectorForm::ShiftVi(ShiftViOp::Vsra)),
+    MnemonicForm::Vector(VectorForm::CompareVi(CompareViOp::Vmseq)),
+    MnemonicForm::Vector(VectorForm::CompareVi(CompareViOp::Vmsne)),
+    MnemonicForm::Vector(VectorForm::CompareVi(CompareViOp::Vmsleu)),
+    MnemonicForm::Vector(VectorForm::CompareVi(CompareViOp::Vmsle)),
+    MnemonicForm::Vector(VectorForm::CompareVi(CompareViOp::Vmsgtu)),
+    MnemonicForm::Vector(VectorForm::CompareVi(CompareViOp::Vmsgt)),
 ];
 
 // Mnemonics that begin with `v`, and end with `.v`.
-const V_FORMS: [Form; 20] = [
-    Form::Vector(VectorForm::LoadElements(AddressMode::UnitStride, ElementWidth::Bits8)),
-    Form::Vector(VectorForm::LoadElements(AddressMode::UnitStride, ElementWidth::Bits16)),
-    Form::Vector(VectorForm::LoadElements(AddressMode::UnitStride, ElementWidth::Bits32)),
-    Form::Vector(VectorForm::LoadElements(AddressMode::Strided, ElementWidth::Bits8)),
-    Form::Vector(VectorForm::LoadElements(AddressMode::Strided, ElementWidth::Bits16)),
-    Form::Vector(VectorForm::LoadElements(AddressMode::Strided, ElementWidth::Bits32)),
-    Form::Vector(VectorForm::LoadElements(AddressMode::Indexed, ElementWidth::Bits8)),
-    Form::Vector(VectorForm::LoadElements(AddressMode::Indexed, ElementWidth::Bits16)),
-    Form::Vector(VectorForm::LoadElements(AddressMode::Indexed, ElementWidth::Bits32)),
-    Form::Vector(VectorForm::StoreElements(AddressMode::UnitStride, ElementWidth::Bits8)),
-    Form::Vector(VectorForm::StoreElements(AddressMode::UnitStride, ElementWidth::Bits16)),
-    Form::Vector(VectorForm::StoreElements(AddressMode::UnitStride, ElementWidth::Bits32)),
-    Form::Vector(VectorForm::StoreElements(AddressMode::Strided, ElementWidth::Bits8)),
-    Form::Vector(VectorForm::StoreElements(AddressMode::Strided, ElementWidth::Bits16)),
-    Form::Vector(VectorForm::StoreElements(AddressMode::Strided, ElementWidth::Bits32)),
-    Form::Vector(VectorForm::StoreElements(AddressMode::Indexed, ElementWidth::Bits8)),
-    Form::Vector(VectorForm::StoreElements(AddressMode::Indexed, ElementWidth::Bits16)),
-    Form::Vector(VectorForm::StoreElements(AddressMode::Indexed, ElementWidth::Bits32)),
-    Form::Vector(VectorForm::MoveVv),
-    Form::Vector(VectorForm::ElementNumbers),
+const V_FORMS: [MnemonicForm; 20] = [
+    MnemonicForm::Vector(VectorForm::LoadElements(AddressMode::UnitStride, ElementWidth::Bits8)),
+    MnemonicForm::Vector(VectorForm::LoadElements(AddressMode::UnitStride, ElementWidth::Bits16)),
+    MnemonicForm::Vector(VectorForm::LoadElements(AddressMode::UnitStride, ElementWidth::Bits32)),
+    MnemonicForm::Vector(VectorForm::LoadElements(AddressMode::Strided, ElementWidth::Bits8)),
+    MnemonicForm::Vector(VectorForm::LoadElements(AddressMode::Strided, ElementWidth::Bits16)),
+    MnemonicForm::Vector(VectorForm::LoadElements(AddressMode::Strided, ElementWidth::Bits32)),
+    MnemonicForm::Vector(VectorForm::LoadElements(AddressMode::Indexed, ElementWidth::Bits8)),
+    MnemonicForm::Vector(VectorForm::LoadElements(AddressMode::Indexed, ElementWidth::Bits16)),
+    MnemonicForm::Vector(VectorForm::LoadElements(AddressMode::Indexed, ElementWidth::Bits32)),
+    MnemonicForm::Vector(VectorForm::StoreElements(AddressMode::UnitStride, ElementWidth::Bits8)),
+    MnemonicForm::Vector(VectorForm::StoreElements(AddressMode::UnitStride, ElementWidth::Bits16)),
+    MnemonicForm::Vector(VectorForm::StoreElements(AddressMode::UnitStride, ElementWidth::Bits32)),
+    MnemonicForm::Vector(VectorForm::StoreElements(AddressMode::Strided, ElementWidth::Bits8)),
+    MnemonicForm::Vector(VectorForm::StoreElements(AddressMode::Strided, ElementWidth::Bits16)),
+    MnemonicForm::Vector(VectorForm::StoreElements(AddressMode::Strided, ElementWidth::Bits32)),
+    MnemonicForm::Vector(VectorForm::StoreElements(AddressMode::Indexed, ElementWidth::Bits8)),
+    MnemonicForm::Vector(VectorForm::StoreElements(AddressMode::Indexed, ElementWidth::Bits16)),
+    MnemonicForm::Vector(VectorForm::StoreElements(AddressMode::Indexed, ElementWidth::Bits32)),
+    MnemonicForm::Vector(VectorForm::MoveVv),
+    MnemonicForm::Vector(VectorForm::ElementNumbers),
 ];
 
 // The other mnemonics that begin with `v`.
-const OTHER_VECTOR_FORMS: [Form; 16] = [
-    Form::Vector(VectorForm::Reduce(ReductionOp::Vredsum)),
-    Form::Vector(VectorForm::Reduce(ReductionOp::Vredminu)),
-    Form::Vector(VectorForm::Reduce(ReductionOp::Vredmin)),
-    Form::Vector(VectorForm::Reduce(ReductionOp::Vredmaxu)),
-    Form::Vector(VectorForm::Reduce(ReductionOp::Vredmax)),
-    Form::Vector(VectorForm::MergeVv),
-    Form::Vector(VectorForm::MergeVx),
-    Form::Vector(VectorForm::MergeVi),
-    Form::Vector(VectorForm::MoveVx),
-    Form::Vector(VectorForm::MoveVi),
-    Form::Vector(VectorForm::MoveToScalar),
-    Form::Vector(VectorForm::MoveFromScalar),
-    Form::Vector(VectorForm::ExtendBytes),
-    Form::Vector(VectorForm::Vsetvli),
-    Form::Vector(VectorForm::Vsetivli),
-    Form::Vector(VectorForm::Vsetvl),
+const OTHER_VECTOR_FORMS: [MnemonicForm; 16] = [
+    MnemonicForm::Vector(VectorForm::Reduce(ReductionOp::Vredsum)),
+    MnemonicForm::Vector(VectorForm::Reduce(ReductionOp::Vredminu)),
+    MnemonicForm::Vector(VectorForm::Reduce(ReductionOp::Vredmin)),
+    MnemonicForm::Vector(VectorForm::Reduce(ReductionOp::Vredmaxu)),
+    MnemonicForm::Vector(VectorForm::Reduce(ReductionOp::Vredmax)),
+    MnemonicForm::Vector(VectorForm::MergeVv),
+    MnemonicForm::Vector(VectorForm::MergeVx),
+    MnemonicForm::Vector(VectorForm::MergeVi),
+    MnemonicForm::Vector(VectorForm::MoveVx),
+    MnemonicForm::Vector(VectorForm::MoveVi),
+    MnemonicForm::Vector(VectorForm::MoveToScalar),
+    MnemonicForm::Vector(VectorForm::MoveFromScalar),
+    MnemonicForm::Vector(VectorForm::ExtendBytes),
+    MnemonicForm::Vector(VectorForm::Vsetvli),
+    MnemonicForm::Vector(VectorForm::Vsetivli),
+    MnemonicForm::Vector(VectorForm::Vsetvl),
 ];
 
-impl Form {
+impl MnemonicForm {
     /// The form that a mnemonic names, or `None` where it names none.
     #[tactic(auto, using(crate::proofs::Named::among_candidates))]
-    pub fn named(mnemonic: &[u8]) -> Option<Form>
+    pub fn named(mnemonic: &[u8]) -> Option<MnemonicForm>
         ensures { result ≡ spec.form_named mnemonic.now }
     {
         named_among(likely_group(mnemonic).forms(), mnemonic)
@@ -244,7 +244,7 @@ impl Form {
 
 // The first of some forms that has a mnemonic.
 #[tactic(auto, unfolding(crate::specs::Named::form_among))]
-fn named_among(forms: &[Form], mnemonic: &[u8]) -> Option<Form>
+fn named_among(forms: &[MnemonicForm], mnemonic: &[u8]) -> Option<MnemonicForm>
     ensures { result ≡ spec.form_among forms.now mnemonic.now }
 {
     let mut rest = forms;
@@ -259,49 +259,49 @@ fn named_among(forms: &[Form], mnemonic: &[u8]) -> Option<Form>
 
 // The group in which a form with this mnemonic stands, if there is one.
 #[tactic(auto, unfolding(crate::specs::Named::group_of))]
-fn likely_group(mnemonic: &[u8]) -> Group
+fn likely_group(mnemonic: &[u8]) -> MnemonicGroup
     ensures { result ≡ spec.group_of mnemonic.now }
 {
     match mnemonic {
-        [b'a', ..] => Group::BeginsA,
-        [b'b', ..] => Group::BeginsB,
-        [b'l', ..] => Group::BeginsL,
-        [b's', ..] => Group::BeginsS,
+        [b'a', ..] => MnemonicGroup::BeginsA,
+        [b'b', ..] => MnemonicGroup::BeginsB,
+        [b'l', ..] => MnemonicGroup::BeginsL,
+        [b's', ..] => MnemonicGroup::BeginsS,
         [b'v', .., before, last] => group_by_ending(*before, *last),
-        _ => Group::BeginsOther,
+        _ => MnemonicGroup::BeginsOther,
     }
 }
 
 // The same for a mnemonic that begins with `v`, by its last two bytes.
 #[tactic(auto, unfolding(crate::specs::Named::group_by_ending))]
-fn group_by_ending(before: u8, last: u8) -> Group
+fn group_by_ending(before: u8, last: u8) -> MnemonicGroup
     ensures { result ≡ spec.group_by_ending before last }
 {
     match (before, last) {
-        (b'v', b'v') => Group::EndsVv,
-        (b'v', b'x') => Group::EndsVx,
-        (b'v', b'i') => Group::EndsVi,
-        (b'.', b'v') => Group::EndsV,
-        _ => Group::EndsOther,
+        (b'v', b'v') => MnemonicGroup::EndsVv,
+        (b'v', b'x') => MnemonicGroup::EndsVx,
+        (b'v', b'i') => MnemonicGroup::EndsVi,
+        (b'.', b'v') => MnemonicGroup::EndsV,
+        _ => MnemonicGroup::EndsOther,
     }
 }
 
-impl Group {
+impl MnemonicGroup {
     #[tactic(auto, unfolding(crate::specs::Named::forms_in, crate::specs::Named::is_in, crate::specs::Named::forms, crate::specs::Named::vector_forms, crate::specs::Named::group_of, crate::specs::Named::group_by_ending))]
-    fn forms(self) -> &'static [Form]
+    fn forms(self) -> &'static [MnemonicForm]
         ensures { result.now ≡ spec.forms_in self }
     {
         match self {
-            Group::BeginsA => &A_FORMS,
-            Group::BeginsB => &B_FORMS,
-            Group::BeginsL => &L_FORMS,
-            Group::BeginsS => &S_FORMS,
-            Group::BeginsOther => &OTHER_FORMS,
-            Group::EndsVv => &VV_FORMS,
-            Group::EndsVx => &VX_FORMS,
-            Group::EndsVi => &VI_FORMS,
-            Group::EndsV => &V_FORMS,
-            Group::EndsOther => &OTHER_VECTOR_FORMS,
+            MnemonicGroup::BeginsA => &A_FORMS,
+            MnemonicGroup::BeginsB => &B_FORMS,
+            MnemonicGroup::BeginsL => &L_FORMS,
+            MnemonicGroup::BeginsS => &S_FORMS,
+            MnemonicGroup::BeginsOther => &OTHER_FORMS,
+            MnemonicGroup::EndsVv => &VV_FORMS,
+            MnemonicGroup::EndsVx => &VX_FORMS,
+            MnemonicGroup::EndsVi => &VI_FORMS,
+            MnemonicGroup::EndsV => &V_FORMS,
+            MnemonicGroup::EndsOther => &OTHER_VECTOR_FORMS,
         }
     }
 }

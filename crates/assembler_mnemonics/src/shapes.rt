@@ -3,7 +3,7 @@
 ghost use Rattle.std.specs.Prelude.{◌≡◌};
 ghost use Rattle.assembler_mnemonics.specs.Slots as spec;
 
-use crate::forms::{Form, VectorForm};
+use crate::forms::{MnemonicForm, VectorForm};
 use crate::slots::Slot;
 use rv_insn::AddressMode;
 
@@ -123,23 +123,26 @@ const INDEXED: [Slot; 4] = [
     Slot::Mask(3),
 ];
 
-impl Form {
+impl MnemonicForm {
     /// How the form's operands are written, in the order of the text.
     #[tactic(auto, unfolding(crate::specs::Slots::shape))]
     pub fn shape(self) -> &'static [Slot]
         ensures { result.now ≡ spec.shape self }
     {
         match self {
-            Form::Lui | Form::Auipc => &[Slot::Integer(0), Slot::Upper(1)],
-            Form::Jal => &[
+            MnemonicForm::Lui | MnemonicForm::Auipc => &[Slot::Integer(0), Slot::Upper(1)],
+            MnemonicForm::Jal => &[
                 Slot::Integer(0),
                 Slot::Target {
                     field: 1,
                     reach: 524_288,
                 },
             ],
-            Form::Jalr | Form::Load(_) => &[Slot::Integer(0), Slot::Based { offset: 2, base: 1 }],
-            Form::Branch(_) => &[
+            MnemonicForm::Jalr | MnemonicForm::Load(_) => &[
+                Slot::Integer(0),
+                Slot::Based { offset: 2, base: 1 },
+            ],
+            MnemonicForm::Branch(_) => &[
                 Slot::Integer(0),
                 Slot::Integer(1),
                 Slot::Target {
@@ -147,8 +150,8 @@ impl Form {
                     reach: 2048,
                 },
             ],
-            Form::Store(_) => &[Slot::Integer(1), Slot::Based { offset: 2, base: 0 }],
-            Form::AluImm(_) => &[
+            MnemonicForm::Store(_) => &[Slot::Integer(1), Slot::Based { offset: 2, base: 0 }],
+            MnemonicForm::AluImm(_) => &[
                 Slot::Integer(0),
                 Slot::Integer(1),
                 Slot::Number {
@@ -157,11 +160,11 @@ impl Form {
                     greatest: 2047,
                 },
             ],
-            Form::Shift(_) => &[Slot::Integer(0), Slot::Integer(1), AMOUNT],
-            Form::Alu(_) => &[Slot::Integer(0), Slot::Integer(1), Slot::Integer(2)],
-            Form::AmoaddW { .. } => &[Slot::Integer(0), Slot::Integer(2), Slot::Address(1)],
-            Form::Fence | Form::Ecall | Form::Ebreak => &[],
-            Form::Vector(form) => form.shape(),
+            MnemonicForm::Shift(_) => &[Slot::Integer(0), Slot::Integer(1), AMOUNT],
+            MnemonicForm::Alu(_) => &[Slot::Integer(0), Slot::Integer(1), Slot::Integer(2)],
+            MnemonicForm::AmoaddW { .. } => &[Slot::Integer(0), Slot::Integer(2), Slot::Address(1)],
+            MnemonicForm::Fence | MnemonicForm::Ecall | MnemonicForm::Ebreak => &[],
+            MnemonicForm::Vector(form) => form.shape(),
         }
     }
 }

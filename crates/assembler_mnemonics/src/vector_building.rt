@@ -273,14 +273,14 @@ impl VectorForm {
 
 // What a load or store of elements has beside its width.
 #[derive(Clone, Copy)]
-struct Access {
+struct AccessOperands {
     v: VReg,
     rs1: Reg,
     addressing: Addressing,
     vm: bool,
 }
 
-impl Access {
+impl AccessOperands {
     fn load(self, width: ElementWidth) -> VectorInsn
         ensures { result ≡ insns.LoadElements width self.v self.rs1 self.addressing self.vm }
     {
@@ -308,7 +308,7 @@ impl Access {
 
 // The load or store of a mode with these numbers in its fields.
 #[tactic(auto, using(crate::proofs::Fronts::three_fields, crate::proofs::Fronts::four_fields))]
-fn access_in(mode: AddressMode, fields: &Fields) -> Access
+fn access_in(mode: AddressMode, fields: &Fields) -> AccessOperands
     requires count { length fields.now ≡ length (access_blank mode) }
     requires fits { FitsSlots fields.now (access_operands mode) }
     ensures mode { mode_of result.addressing ≡ mode }
@@ -316,13 +316,13 @@ fn access_in(mode: AddressMode, fields: &Fields) -> Access
         ≡ fields.now }
 {
     match mode {
-        AddressMode::UnitStride => Access {
+        AddressMode::UnitStride => AccessOperands {
             v: vector_at(fields, 0),
             rs1: integer_at(fields, 1),
             addressing: Addressing::UnitStride,
             vm: flag_at(fields, 2),
         },
-        AddressMode::Strided => Access {
+        AddressMode::Strided => AccessOperands {
             v: vector_at(fields, 0),
             rs1: integer_at(fields, 1),
             addressing: Addressing::Strided {
@@ -330,7 +330,7 @@ fn access_in(mode: AddressMode, fields: &Fields) -> Access
             },
             vm: flag_at(fields, 3),
         },
-        AddressMode::Indexed => Access {
+        AddressMode::Indexed => AccessOperands {
             v: vector_at(fields, 0),
             rs1: integer_at(fields, 1),
             addressing: Addressing::Indexed {

@@ -3,11 +3,11 @@
 use Rattle.std.specs.Prelude.{ℕ, ◌&&◌, Bool, true, false, nat_le, if◌then◌else◌, ℤ, List, [], ◌∷◌, length, Option, Some, None}
 use Rattle.std.specs.List.{list_all}
 use Rattle.line_text.specs.Lines.{begins_name, continues_name}
-use Rattle.assembler_syntax.specs.declared.tokens.Token.{Token}
-use Rattle.assembler_syntax.specs.declared.tokens.Token.TheVariants as t
+use Rattle.assembler_syntax.specs.declared.tokens.AssemblyToken.{AssemblyToken}
+use Rattle.assembler_syntax.specs.declared.tokens.AssemblyToken.TheVariants as t
 use Rattle.assembler_syntax.specs.declared.statements.Operand.{Operand}
 use Rattle.assembler_syntax.specs.declared.statements.Operand.TheVariants as o
-use Rattle.assembler_syntax.specs.declared.statements.Command.{Command}
+use Rattle.assembler_syntax.specs.declared.statements.MnemonicLine.{MnemonicLine}
 use Rattle.assembler_syntax.specs.declared.statements.Statement.{Statement}
 use Rattle.assembler_syntax.specs.declared.statements.Head.{Head}
 
@@ -22,7 +22,7 @@ is_label word = begins_label word && list_all continues_name word && nat_le (len
 
 -- ---- operands: a word, a number, `number(word)` or `(word)`
 
-unfoldable pub operand_of : List Token → Option Operand
+unfoldable pub operand_of : List AssemblyToken → Option Operand
 operand_of (t.Word word ∷ []) = Some (o.Word word)
 operand_of (t.Number number ∷ []) = Some (o.Number number)
 operand_of (t.Number number ∷ t.Open ∷ t.Word base ∷ t.Close ∷ []) = Some (o.Based number base)
@@ -30,22 +30,22 @@ operand_of (t.Open ∷ t.Word base ∷ t.Close ∷ []) = Some (o.Bracketed base)
 operand_of tokens = None
 
 -- a token in front of pieces joins the first of them
-abbrev pub joined : Token → List (List Token) → List (List Token)
+abbrev pub joined : AssemblyToken → List (List AssemblyToken) → List (List AssemblyToken)
 joined token [] = (token ∷ []) ∷ []
 joined token (piece ∷ pieces) = (token ∷ piece) ∷ pieces
 
 -- the pieces between commas: one more than there are commas
-unfoldable pub pieces_of : List Token → List (List Token)
+unfoldable pub pieces_of : List AssemblyToken → List (List AssemblyToken)
 pieces_of [] = [] ∷ []
 pieces_of (t.Comma ∷ tokens) = [] ∷ pieces_of tokens
 pieces_of (token ∷ tokens) = joined token (pieces_of tokens)
 
--- the pieces behind a comma, if there is one
-abbrev pub later_pieces : Option (List Token) → List (List Token)
+-- the pieces after a comma, if there is one
+abbrev pub later_pieces : Option (List AssemblyToken) → List (List AssemblyToken)
 later_pieces None = []
 later_pieces (Some tokens) = pieces_of tokens
 
-abbrev pub is_plain : Token → Bool
+abbrev pub is_plain : AssemblyToken → Bool
 is_plain t.Comma = false
 is_plain token = true
 
@@ -55,12 +55,12 @@ with_first None others = None
 with_first (Some operand) None = None
 with_first (Some operand) (Some operands) = Some (operand ∷ operands)
 
-unfoldable pub all_operands : List (List Token) → Option (List Operand)
+unfoldable pub all_operands : List (List AssemblyToken) → Option (List Operand)
 all_operands [] = Some []
 all_operands (piece ∷ pieces) = with_first (operand_of piece) (all_operands pieces)
 
--- the operands behind a mnemonic: none, or pieces between commas
-unfoldable pub operands_of : List Token → Option (List Operand)
+-- the operands after a mnemonic: none, or pieces between commas
+unfoldable pub operands_of : List AssemblyToken → Option (List Operand)
 operands_of [] = Some []
 operands_of (token ∷ tokens) = all_operands (pieces_of (token ∷ tokens))
 
@@ -71,26 +71,26 @@ commanded label mnemonic None = None
 commanded label mnemonic (Some operands) = Some (record { label = label; command = Some (record { mnemonic = mnemonic; operands = operands }) })
 
 -- a mnemonic and its operands, or nothing
-abbrev pub behind_label : Option (List ℕ) → List Token → Option Statement
+abbrev pub behind_label : Option (List ℕ) → List AssemblyToken → Option Statement
 behind_label label [] = Some (record { label = label; command = None })
 behind_label label (t.Word mnemonic ∷ tokens) = commanded label mnemonic (operands_of tokens)
 behind_label label (token ∷ tokens) = None
 
-unfoldable pub statement_of : List Token → Option Statement
+unfoldable pub statement_of : List AssemblyToken → Option Statement
 statement_of (t.Word label ∷ t.Colon ∷ tokens) = if is_label label then behind_label (Some label) tokens else None
 statement_of tokens = behind_label None tokens
 
 -- ---- the front of a line, whatever follows: its label, its mnemonic, and how much a number that is its only
 -- ---- operand asks for
 
-abbrev pub only_number : List Token → Option ℤ
+abbrev pub only_number : List AssemblyToken → Option ℤ
 only_number (t.Number number ∷ []) = Some number
 only_number tokens = None
 
-abbrev pub command_head : Option (List ℕ) → List Token → Head
+abbrev pub command_head : Option (List ℕ) → List AssemblyToken → Head
 command_head label (t.Word mnemonic ∷ tokens) = record { label = label; mnemonic = Some mnemonic; number = only_number tokens }
 command_head label tokens = record { label = label; mnemonic = None; number = None }
 
-unfoldable pub head_of : List Token → Head
+unfoldable pub head_of : List AssemblyToken → Head
 head_of (t.Word label ∷ t.Colon ∷ tokens) = command_head (if is_label label then Some label else None) tokens
 head_of tokens = command_head None tokens

@@ -4,8 +4,8 @@ use Rattle.std.specs.Prelude.{ℕ, zero, suc, ◌+◌, ◌%◌, ◌^◌, ◌-◌
 use Rattle.std.specs.Prelude.{take, drop}
 use Rattle.std.specs.List.{prefix_len, list_all}
 use Rattle.line_text.specs.Lines.{begins_name, continues_name, is_digit, is_hexadecimal, skip_blanks, ends, decimal_number, hexadecimal_number}
-use Rattle.assembler_syntax.specs.declared.tokens.Token.{Token}
-use Rattle.assembler_syntax.specs.declared.tokens.Token.TheVariants as t
+use Rattle.assembler_syntax.specs.declared.tokens.AssemblyToken.{AssemblyToken}
+use Rattle.assembler_syntax.specs.declared.tokens.AssemblyToken.TheVariants as t
 
 -- ---- words: letters, digits, `_` and `.`, of which a digit isn't the first
 
@@ -22,22 +22,22 @@ unfoldable pub capped : ℕ → ℕ
 capped n = if nat_le n (2 ^ 32) then n else 2 ^ 32 + n % 2
 
 -- bytes that are decimal digits, or `0x` and hexadecimal digits, are a number; others are none
-unfoldable pub prefixed : List ℕ → Token
+unfoldable pub prefixed : List ℕ → AssemblyToken
 prefixed (zero_digit ∷ x ∷ d ∷ digits) =
     if zero_digit == 48 && x == 120 && list_all is_hexadecimal (d ∷ digits) then t.Number (pos (capped (hexadecimal_number (d ∷ digits))))
     else t.Other
 prefixed bytes = t.Other
 
-unfoldable pub number_token : List ℕ → Token
+unfoldable pub number_token : List ℕ → AssemblyToken
 number_token bytes = if list_all is_digit bytes then t.Number (pos (capped (decimal_number bytes))) else prefixed bytes
 
--- behind a minus stand decimal digits, at least one
-unfoldable pub negative_token : List ℕ → Token
+-- after a minus stand decimal digits, at least one
+unfoldable pub negative_token : List ℕ → AssemblyToken
 negative_token [] = t.Other
 negative_token (d ∷ digits) = if list_all is_digit (d ∷ digits) then t.Number (pos 0 -ℤ pos (capped (decimal_number (d ∷ digits)))) else t.Other
 
 -- the marks , : ( )
-abbrev pub mark : ℕ → Token
+abbrev pub mark : ℕ → AssemblyToken
 mark byte =
     if byte == 44 then t.Comma
     else if byte == 58 then t.Colon
@@ -50,7 +50,7 @@ abbrev pub span : List ℕ → ℕ
 span bytes = prefix_len continues_word bytes
 
 -- the token at the front, and what follows it
-unfoldable pub front_token : List ℕ → Token × List ℕ
+unfoldable pub front_token : List ℕ → AssemblyToken × List ℕ
 front_token [] = (t.Other, [])
 front_token (byte ∷ rest) =
     if begins_word byte then (t.Word (take (span (byte ∷ rest)) (byte ∷ rest)), drop (span (byte ∷ rest)) (byte ∷ rest))
@@ -59,12 +59,12 @@ front_token (byte ∷ rest) =
     else (mark byte, rest)
 
 -- the tokens of bytes that are fewer than the first number
-unfoldable pub tokens_from : ℕ → List ℕ → List Token
+unfoldable pub tokens_from : ℕ → List ℕ → List AssemblyToken
 tokens_from zero bytes = []
 tokens_from (suc n) bytes =
     if ends (skip_blanks bytes) then []
     else (front_token (skip_blanks bytes)).0 ∷ tokens_from n (front_token (skip_blanks bytes)).1
 
 -- the tokens of a line; where bytes stand that are no token, `Other` stands for them
-unfoldable pub tokens_of : List ℕ → List Token
+unfoldable pub tokens_of : List ℕ → List AssemblyToken
 tokens_of line = tokens_from (suc (length line)) line

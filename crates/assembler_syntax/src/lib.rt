@@ -9,5 +9,7 @@
 pub mod statements;
 pub mod tokens;
 
-pub use crate::statements::{Command, Head, Operand, Statement, head_of, is_label, statement_of};
-pub use crate::tokens::{Token, tokens_of};
+pub use crate::statements::{
+    Head, MnemonicLine, Operand, Statement, head_of, is_label, statement_of,
+};
+pub use crate::tokens::{AssemblyToken, tokens_of};

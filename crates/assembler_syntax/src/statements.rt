@@ -5,7 +5,7 @@ ghost use Rattle.std.specs.List.{list_all, prefix_len};
 ghost use Rattle.line_text.specs.Lines.{continues_name};
 ghost use Rattle.assembler_syntax.specs.Statements as spec;
 
-use crate::tokens::Token;
+use crate::tokens::AssemblyToken;
 use line_text::spans::{begins_name, continues_name};
 use sqlite_items::Items;
 use std::alloc::{AllocError, Global};
@@ -28,7 +28,7 @@ pub enum Operand {
 
 /// A mnemonic and its operands.
 #[derive(Debug, Drop)]
-pub struct Command {
+pub struct MnemonicLine {
     pub mnemonic: Items<u8>,
     pub operands: Items<Operand>,
 }
@@ -37,7 +37,7 @@ pub struct Command {
 #[derive(Debug, Drop)]
 pub struct Statement {
     pub label: Option<Items<u8>>,
-    pub command: Option<Command>,
+    pub command: Option<MnemonicLine>,
 }
 
 /// The front of a line, whatever follows.
@@ -45,7 +45,7 @@ pub struct Statement {
 pub struct Head {
     pub label: Option<Items<u8>>,
     pub mnemonic: Option<Items<u8>>,
-    /// The number that is the only thing behind the mnemonic, if that is so.
+    /// The number that is the only thing after the mnemonic, if that is so.
     pub number: Option<i64>,
 }
 
@@ -81,42 +81,44 @@ pub fn is_label(word: &[u8]) -> bool
 
 /// The operand that is all of the tokens, if they are one.
 #[tactic(auto, unfolding(crate::specs::Statements::operand_of))]
-fn operand_of(alloc: Global, tokens: &[Token]) -> Result<Option<Operand>, AllocError>
+fn operand_of(alloc: Global, tokens: &[AssemblyToken]) -> Result<Option<Operand>, AllocError>
     ensures { IfOk result (λ operand. operand ≡ spec.operand_of tokens.now) }
 {
     match tokens {
-        [Token::Word(word)] => Ok(Some(Operand::Word(copied(alloc, word)?))),
-        [Token::Number(number)] => Ok(Some(Operand::Number(*number))),
+        [AssemblyToken::Word(word)] => Ok(Some(Operand::Word(copied(alloc, word)?))),
+        [AssemblyToken::Number(number)] => Ok(Some(Operand::Number(*number))),
         [
-            Token::Number(number),
-            Token::Open,
-            Token::Word(base),
-            Token::Close,
+            AssemblyToken::Number(number),
+            AssemblyToken::Open,
+            AssemblyToken::Word(base),
+            AssemblyToken::Close,
         ] => Ok(Some(Operand::Based(*number, copied(alloc, base)?))),
-        [Token::Open, Token::Word(base), Token::Close] => {
-            Ok(Some(Operand::Bracketed(copied(alloc, base)?)))
-        }
+        [
+            AssemblyToken::Open,
+            AssemblyToken::Word(base),
+            AssemblyToken::Close,
+        ] => { Ok(Some(Operand::Bracketed(copied(alloc, base)?))) }
         _ => Ok(None),
     }
 }
 
 /// Whether a token is no comma.
-fn is_plain(token: &Token) -> bool
+fn is_plain(token: &AssemblyToken) -> bool
     ensures { result ≡ spec.is_plain token.now }
 {
-    !matches!(token, Token::Comma)
+    !matches!(token, AssemblyToken::Comma)
 }
 
 /// How many tokens stand before the first comma.
-fn piece_len(tokens: &[Token]) -> usize
+fn piece_len(tokens: &[AssemblyToken]) -> usize
     ensures value { result ≡ prefix_len spec.is_plain tokens.now }
     ensures within { result ≤ length tokens.now }
 {
     tokens.iter().take_while(|&token| is_plain(token)).count()
 }
 
-/// The tokens before the first comma, and those behind it, if there is one.
-fn first_piece(tokens: &[Token]) -> (&[Token], Option<&[Token]>)
+/// The tokens before the first comma, and those after it, if there is one.
+fn first_piece(tokens: &[AssemblyToken]) -> (&[AssemblyToken], Option<&[AssemblyToken]>)
     ensures pieces { spec.pieces_of tokens.now ≡ result.0.now
         ∷ spec.later_pieces (option_map (λ more. more.now) result.1) }
     ensures shorter { IfSome result.1 (λ more. length more.now < length tokens.now) }
@@ -129,7 +131,10 @@ fn first_piece(tokens: &[Token]) -> (&[Token], Option<&[Token]>)
 }
 
 /// The operands between commas, none for no tokens, or nothing where a piece is no operand.
-fn operands_of(alloc: Global, tokens: &[Token]) -> Result<Option<Items<Operand>>, AllocError>
+fn operands_of(
+    alloc: Global,
+    tokens: &[AssemblyToken],
+) -> Result<Option<Items<Operand>>, AllocError>
     ensures { IfOk result (λ operands. operands ≡ spec.operands_of tokens.now) }
 {
     let mut operands = Items::new(alloc);
@@ -150,11 +155,11 @@ fn operands_of(alloc: Global, tokens: &[Token]) -> Result<Option<Items<Operand>>
     }
 }
 
-/// What the tokens behind a label say, or all tokens where there is none.
+/// What the tokens after a label say, or all tokens where there is none.
 fn behind_label(
     alloc: Global,
     label: Option<Items<u8>>,
-    tokens: &[Token],
+    tokens: &[AssemblyToken],
 ) -> Result<Option<Statement>, AllocError>
     ensures { IfOk result (λ statement. statement ≡ spec.behind_label label tokens.now) }
 {
@@ -163,14 +168,14 @@ fn behind_label(
             label,
             command: None,
         })),
-        [Token::Word(mnemonic), rest @ ..] => {
+        [AssemblyToken::Word(mnemonic), rest @ ..] => {
             let Some(operands) = operands_of(alloc, rest)? else {
                 return Ok(None);
             };
             let mnemonic = copied(alloc, mnemonic)?;
             Ok(Some(Statement {
                 label,
-                command: Some(Command { mnemonic, operands }),
+                command: Some(MnemonicLine { mnemonic, operands }),
             }))
         }
         _ => Ok(None),
@@ -179,11 +184,14 @@ fn behind_label(
 
 /// What a line says, by its tokens, or nothing where they are no statement.
 #[tactic(auto, unfolding(crate::specs::Statements::statement_of))]
-pub fn statement_of(alloc: Global, tokens: &[Token]) -> Result<Option<Statement>, AllocError>
+pub fn statement_of(
+    alloc: Global,
+    tokens: &[AssemblyToken],
+) -> Result<Option<Statement>, AllocError>
     ensures { IfOk result (λ statement. statement ≡ spec.statement_of tokens.now) }
 {
     match tokens {
-        [Token::Word(label), Token::Colon, rest @ ..] => {
+        [AssemblyToken::Word(label), AssemblyToken::Colon, rest @ ..] => {
             if is_label(label.as_slice()) {
                 behind_label(alloc, Some(copied(alloc, label)?), rest)
             } else {
@@ -195,25 +203,25 @@ pub fn statement_of(alloc: Global, tokens: &[Token]) -> Result<Option<Statement>
 }
 
 /// The number that is all of the tokens.
-fn only_number(tokens: &[Token]) -> Option<i64>
+fn only_number(tokens: &[AssemblyToken]) -> Option<i64>
     ensures { result ≡ spec.only_number tokens.now }
 {
     match tokens {
-        [Token::Number(number)] => Some(*number),
+        [AssemblyToken::Number(number)] => Some(*number),
         _ => None,
     }
 }
 
-/// The front of a line behind its label.
+/// The front of a line after its label.
 fn command_head(
     alloc: Global,
     label: Option<Items<u8>>,
-    tokens: &[Token],
+    tokens: &[AssemblyToken],
 ) -> Result<Head, AllocError>
     ensures { IfOk result (λ head. head ≡ spec.command_head label tokens.now) }
 {
     match tokens {
-        [Token::Word(mnemonic), rest @ ..] => Ok(Head {
+        [AssemblyToken::Word(mnemonic), rest @ ..] => Ok(Head {
             label,
             mnemonic: Some(copied(alloc, mnemonic)?),
             number: only_number(rest),
@@ -228,11 +236,11 @@ fn command_head(
 
 /// The front of a line, by its tokens: its label and mnemonic, whatever follows.
 #[tactic(auto, unfolding(crate::specs::Statements::head_of))]
-pub fn head_of(alloc: Global, tokens: &[Token]) -> Result<Head, AllocError>
+pub fn head_of(alloc: Global, tokens: &[AssemblyToken]) -> Result<Head, AllocError>
     ensures { IfOk result (λ head. head ≡ spec.head_of tokens.now) }
 {
     match tokens {
-        [Token::Word(label), Token::Colon, rest @ ..] => {
+        [AssemblyToken::Word(label), AssemblyToken::Colon, rest @ ..] => {
             let label = if is_label(label.as_slice()) {
                 Some(copied(alloc, label)?)
             } else {

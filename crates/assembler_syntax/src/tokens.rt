@@ -12,7 +12,7 @@ use std::alloc::{AllocError, Global};
 
 /// A word, a number or a mark.
 #[derive(Debug, Drop)]
-pub enum Token {
+pub enum AssemblyToken {
     /// Letters, digits, `_` and `.`, of which a digit isn't the first: a mnemonic, a register, a name.
     Word(Items<u8>),
     /// A number. One above 2^32, of either sign, is kept as 2^32 or 2^32 + 1, whichever is odd or even
@@ -104,16 +104,16 @@ fn hexadecimal(digits: &[u8]) -> u64
     number
 }
 
-/// A hexadecimal number behind `0x`, or no token.
+/// A hexadecimal number after `0x`, or no token.
 #[tactic(auto, unfolding(crate::specs::Tokens::prefixed))]
-fn prefixed(bytes: &[u8]) -> Token
+fn prefixed(bytes: &[u8]) -> AssemblyToken
     ensures { result ≡ spec.prefixed bytes.now }
 {
     match bytes {
         [b'0', b'x', digits @ ..] if !digits.is_empty() && is_all_hexadecimal(digits) => {
-            Token::Number(hexadecimal(digits) as i64)
+            AssemblyToken::Number(hexadecimal(digits) as i64)
         }
-        _ => Token::Other,
+        _ => AssemblyToken::Other,
     }
 }
 
@@ -133,52 +133,52 @@ fn is_all_hexadecimal(bytes: &[u8]) -> bool
 
 /// The number that bytes of a word spell, of which the first is a digit, or no token.
 #[tactic(auto, unfolding(crate::specs::Tokens::number_token))]
-fn number_token(bytes: &[u8]) -> Token
+fn number_token(bytes: &[u8]) -> AssemblyToken
     ensures { result ≡ spec.number_token bytes.now }
 {
     if is_all_decimal(bytes) {
-        Token::Number(decimal(bytes) as i64)
+        AssemblyToken::Number(decimal(bytes) as i64)
     } else {
         prefixed(bytes)
     }
 }
 
-/// The number that decimal digits spell behind a minus, or no token.
+/// The number that decimal digits spell after a minus, or no token.
 #[tactic(auto, unfolding(crate::specs::Tokens::negative_token))]
-fn negative_token(digits: &[u8]) -> Token
+fn negative_token(digits: &[u8]) -> AssemblyToken
     ensures { result ≡ spec.negative_token digits.now }
 {
     if digits.is_empty() || !is_all_decimal(digits) {
-        return Token::Other;
+        return AssemblyToken::Other;
     }
-    Token::Number(-(decimal(digits) as i64))
+    AssemblyToken::Number(-(decimal(digits) as i64))
 }
 
 /// A mark, or no token.
-fn mark(byte: u8) -> Token
+fn mark(byte: u8) -> AssemblyToken
     ensures { result ≡ spec.mark byte }
 {
     match byte {
-        b',' => Token::Comma,
-        b':' => Token::Colon,
-        b'(' => Token::Open,
-        b')' => Token::Close,
-        _ => Token::Other,
+        b',' => AssemblyToken::Comma,
+        b':' => AssemblyToken::Colon,
+        b'(' => AssemblyToken::Open,
+        b')' => AssemblyToken::Close,
+        _ => AssemblyToken::Other,
     }
 }
 
 /// The token at the front, and what follows it.
 #[tactic(auto, unfolding(crate::specs::Tokens::front_token))]
-fn front_token(alloc: Global, bytes: &[u8]) -> Result<(Token, &[u8]), AllocError>
+fn front_token(alloc: Global, bytes: &[u8]) -> Result<(AssemblyToken, &[u8]), AllocError>
     ensures value { IfOk result (λ x. (x.0, x.1.now) ≡ spec.front_token bytes.now) }
     ensures shorter { IfOk result (λ x. 0 < length bytes.now → length x.1.now < length bytes.now) }
 {
     let [first, rest @ ..] = bytes else {
-        return Ok((Token::Other, bytes));
+        return Ok((AssemblyToken::Other, bytes));
     };
     if begins_word(*first) {
         let (word, rest) = bytes.split_at(span(bytes));
-        Ok((Token::Word(Items::from_slice(alloc, word)?), rest))
+        Ok((AssemblyToken::Word(Items::from_slice(alloc, word)?), rest))
     } else if is_digit(*first) {
         let (number, rest) = bytes.split_at(span(bytes));
         Ok((number_token(number), rest))
@@ -191,7 +191,7 @@ fn front_token(alloc: Global, bytes: &[u8]) -> Result<(Token, &[u8]), AllocError
 }
 
 /// The tokens of a line, up to its comment. Bytes that are no token are `Other`.
-pub fn tokens_of(alloc: Global, line: &[u8]) -> Result<Vec<Token>, AllocError>
+pub fn tokens_of(alloc: Global, line: &[u8]) -> Result<Vec<AssemblyToken>, AllocError>
     ensures { IfOk result (λ tokens. tokens.items ≡ spec.tokens_of line.now) }
 {
     let mut tokens = Vec::new(alloc);

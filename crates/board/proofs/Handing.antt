@@ -8,32 +8,32 @@ use native.Mathlib.Decide.{ℕ_discrete}
 use lib.ListN.{get_elem?}
 use Rattle.atomic_table.specs.Table.{Splits, Joins, Enters as Comes, Me, step}
 use Rattle.atomic_table.proofs.Lists.{at_set, at_snoc}
-use Rattle.board.specs.declared.known.Known.{Known}
+use Rattle.board.specs.declared.known.SeatKnowledge.{SeatKnowledge}
 use Rattle.board.specs.Rule.{known, nothing, times, total, AreWords, AreSeen, Fits, Stands, most_harts, at_start}
 use Rattle.board.specs.Steps.{Enters, without_first, first_alone, both}
 use Rattle.board.proofs.Counting.{total-set, total-append, times-append, times-here, times-apart}
 
-abbrev counted : ℕ → Known → ℕ
+abbrev counted : ℕ → SeatKnowledge → ℕ
 counted hart token = times hart token.counts
 
 -- what is known by nobody is so
 nothing-fits : (words : List ℕ) → Fits words nothing
 nothing-fits words = record { counts = tt; sights = tt; asked = λ e. absurd (true≢false (sym e)); heard = λ e. absurd (true≢false (sym e)) }
 
-fits-longer : (words : List ℕ) (tokens : List Known) (new : Known) → ((j : ℕ) (token : Known) → get_elem? tokens j ≡ some token → Fits words token)
+fits-longer : (words : List ℕ) (tokens : List SeatKnowledge) (new : SeatKnowledge) → ((j : ℕ) (token : SeatKnowledge) → get_elem? tokens j ≡ some token → Fits words token)
     → Fits words new
-    → (j : ℕ) (token : Known) → get_elem? (tokens ++ new ∷ []) j ≡ some token → Fits words token
+    → (j : ℕ) (token : SeatKnowledge) → get_elem? (tokens ++ new ∷ []) j ≡ some token → Fits words token
 fits-longer words tokens new old mine j token at = ⊎_elim (λ e. old j token e) (λ (e : new ≡ token). subst (Fits words) e mine) (at_snoc tokens new token j at)
 
-fits-other : (words : List ℕ) (tokens : List Known) (id : ℕ) (new : Known) → ((j : ℕ) (token : Known) → get_elem? tokens j ≡ some token → Fits words token)
+fits-other : (words : List ℕ) (tokens : List SeatKnowledge) (id : ℕ) (new : SeatKnowledge) → ((j : ℕ) (token : SeatKnowledge) → get_elem? tokens j ≡ some token → Fits words token)
     → Fits words new
-    → (j : ℕ) (token : Known) → get_elem? (set tokens id new) j ≡ some token → Fits words token
+    → (j : ℕ) (token : SeatKnowledge) → get_elem? (set tokens id new) j ≡ some token → Fits words token
 fits-other words tokens id new old mine j token at =
     ⊎_elim (λ (x : (j ≡ id) × (new ≡ token)). subst (Fits words) x.1 mine) (λ (x : (j ≢ id) × (get_elem? tokens j ≡ some token)). old j token x.1)
     (at_set tokens id j new token at)
 
 -- a token comes that knows nothing
-pub comes : (harts : ℕ) (words : List ℕ) (tokens : List Known) → Stands harts words tokens → Stands harts words (tokens ++ nothing ∷ [])
+pub comes : (harts : ℕ) (words : List ℕ) (tokens : List SeatKnowledge) → Stands harts words tokens → Stands harts words (tokens ++ nothing ∷ [])
 comes harts words tokens stands = record {
   places = stands.places;
   few = stands.few;
@@ -45,7 +45,7 @@ comes harts words tokens stands = record {
 }
 
 -- a token is cut in two
-pub divides : (harts : ℕ) (words : List ℕ) (tokens : List Known) (id : ℕ) (old left right : Known) → Stands harts words tokens → get_elem? tokens id ≡ some old
+pub divides : (harts : ℕ) (words : List ℕ) (tokens : List SeatKnowledge) (id : ℕ) (old left right : SeatKnowledge) → Stands harts words tokens → get_elem? tokens id ≡ some old
     → ((hart : ℕ) → counted hart left + counted hart right ≡ counted hart old) → Fits words left → Fits words right
     → Stands harts words (set tokens id left ++ right ∷ [])
 divides harts words tokens id old left right stands at same one other =
@@ -63,7 +63,7 @@ divides harts words tokens id old left right stands at same one other =
       stop = stands.stop;
     }
 
-fits-both : (words : List ℕ) (one other : Known) → Fits words one → Fits words other → Fits words (both one other)
+fits-both : (words : List ℕ) (one other : SeatKnowledge) → Fits words one → Fits words other → Fits words (both one other)
 fits-both words one other f g = record {
   counts = words-append words other.counts one.counts g.counts f.counts;
   sights = seen-append words other.sights
@@ -81,7 +81,7 @@ fits-both words one other f g = record {
     seen-append words (x ∷ xs) ys a b = (a.0, seen-append words xs ys a.1 b)
 
 -- two tokens become one
-pub unites : (harts : ℕ) (words : List ℕ) (tokens : List Known) (id : ℕ) (old : Known) (other : ℕ) (its : Known) → Stands harts words tokens
+pub unites : (harts : ℕ) (words : List ℕ) (tokens : List SeatKnowledge) (id : ℕ) (old : SeatKnowledge) (other : ℕ) (its : SeatKnowledge) → Stands harts words tokens
     → get_elem? tokens id ≡ some old → ¬ (other ≡ id)
     → get_elem? (set tokens id (both old its)) other ≡ some its
     → Stands harts words (set (set tokens id (both old its)) other nothing)
@@ -104,7 +104,7 @@ unites harts words tokens id old other its stands at apart there =
     }
 
 -- what is known by one token that was made of two, is known by each
-pub of-both : (words : List ℕ) (one other : Known) → Fits words (both one other) → Fits words one × AreWords words other.counts × AreSeen words other.sights
+pub of-both : (words : List ℕ) (one other : SeatKnowledge) → Fits words (both one other) → Fits words one × AreWords words other.counts × AreSeen words other.sights
 of-both words one other f =
     let c = words-parts words other.counts one.counts f.counts in
     let s = seen-parts words other.sights one.sights f.sights in
@@ -170,7 +170,7 @@ begins harts few = record {
   stop = omega (arith);
 }
   where
-    one : (id : ℕ) (token : Known) → get_elem? (known (at_start 0 harts) [] false false ∷ []) id ≡ some token → Fits (replicate 9 0) token
+    one : (id : ℕ) (token : SeatKnowledge) → get_elem? (known (at_start 0 harts) [] false false ∷ []) id ≡ some token → Fits (replicate 9 0) token
     one zero token e = subst (Fits (replicate 9 0)) (some-injective _ _ e) (record {
       counts = start-words 0 harts;
       sights = tt;
@@ -180,22 +180,22 @@ begins harts few = record {
     })
     one (suc id) token e = absurd (some-ne-none token (sym e))
 
--- the first of the harts that are left, and those behind it
+-- the first of the harts that are left, and those after it
 pub start-first : (hart harts : ℕ) → hart < harts → at_start hart (harts - hart) ≡ (hart, 0) ∷ at_start (suc hart) (harts - suc hart)
 start-first hart harts below = ap (at_start hart) (let e : harts - hart ≡ suc (harts - suc hart) = omega (arith) in e)
 
 -- ---- as the table asks for it
 
 module _ {S : Type 0} (harts : ℕ) where
-  pub enters : (slots : ℕ) (first : Me S Known) (word : ℕ)
+  pub enters : (slots : ℕ) (first : Me S SeatKnowledge) (word : ℕ)
       → Comes {S = S} (λ s. Stands harts s.words s.views) slots word (λ n w. Enters (step slots word 0 0 none) first n (w, []))
   enters slots first word s stands len bound = (nothing, comes harts s.words s.views stands, refl)
 
-  pub deals-glance : (id : ℕ) (token : Known) → Splits {S = S} (λ s. Stands harts s.words s.views) id token token nothing
+  pub deals-glance : (id : ℕ) (token : SeatKnowledge) → Splits {S = S} (λ s. Stands harts s.words s.views) id token token nothing
   deals-glance id token s stands at = divides harts s.words s.views id token token nothing stands at (λ hart. omega (arith)) (stands.fits id token at)
       (nothing-fits s.words)
 
-  pub deals-seat : (id : ℕ) (token : Known) → Splits {S = S} (λ s. Stands harts s.words s.views) id token (without_first token) (first_alone token)
+  pub deals-seat : (id : ℕ) (token : SeatKnowledge) → Splits {S = S} (λ s. Stands harts s.words s.views) id token (without_first token) (first_alone token)
   deals-seat id token s stands at =
       let f = stands.fits id token at in
       divides harts s.words s.views id token (without_first token) (first_alone token) stands at (λ hart. cut-counts hart token.counts)
@@ -220,6 +220,6 @@ module _ {S : Type 0} (harts : ℕ) where
       first-word words [] a = tt
       first-word words (x ∷ xs) a = (a.0, tt)
 
-  pub gathers : (id : ℕ) (token : Known) (other : ℕ) (its : Known) → Joins {S = S} (λ s. Stands harts s.words s.views) id token other its (both token its)
+  pub gathers : (id : ℕ) (token : SeatKnowledge) (other : ℕ) (its : SeatKnowledge) → Joins {S = S} (λ s. Stands harts s.words s.views) id token other its (both token its)
       nothing
   gathers id token other its s stands at apart there = unites harts s.words s.views id token other its stands at apart there

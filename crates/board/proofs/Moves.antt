@@ -9,19 +9,19 @@ use native.Mathlib.Decide.{ℕ_discrete}
 use lib.ListN.{get_elem?}
 use Rattle.atomic_table.specs.Table.{Allows, Me, step, keeps}
 use Rattle.atomic_table.proofs.Lists.{at_set}
-use Rattle.board.specs.declared.known.Known.{Known}
+use Rattle.board.specs.declared.known.SeatKnowledge.{SeatKnowledge}
 use Rattle.board.specs.Rule.{times, AreWords, AreSeen, Fits, Stands, stop_word, most_harts, most_number}
 use Rattle.board.specs.Steps.{last_found, added, looked, asked, heard, Adds, Looks, Asks, Hears}
 use Rattle.board.proofs.Counting.{total-set, total-one, total-two, times-here, counts-set, sights-set, last_found-here, last_found-apart}
 
 -- how often a token counts a hart
-abbrev counted : ℕ → Known → ℕ
+abbrev counted : ℕ → SeatKnowledge → ℕ
 counted hart token = times hart token.counts
 
 -- the tokens after one has learned something
-fits-learned : (words : List ℕ) (tokens : List Known) (id : ℕ) (new : Known) → ((j : ℕ) (token : Known) → j ≢ id → get_elem? tokens j ≡ some token
+fits-learned : (words : List ℕ) (tokens : List SeatKnowledge) (id : ℕ) (new : SeatKnowledge) → ((j : ℕ) (token : SeatKnowledge) → j ≢ id → get_elem? tokens j ≡ some token
     → Fits words token) → Fits words new
-    → (j : ℕ) (token : Known) → get_elem? (set tokens id new) j ≡ some token → Fits words token
+    → (j : ℕ) (token : SeatKnowledge) → get_elem? (set tokens id new) j ≡ some token → Fits words token
 fits-learned words tokens id new others mine j token at =
     ⊎_elim
     (λ (x : (j ≡ id) × (new ≡ token)). subst (Fits words) x.1 mine)
@@ -29,7 +29,7 @@ fits-learned words tokens id new others mine j token at =
     (at_set tokens id j new token at)
 
 -- a token learns, and no word changes
-pub learns : (harts : ℕ) (words : List ℕ) (tokens : List Known) (id : ℕ) (old new : Known) → Stands harts words tokens → get_elem? tokens id ≡ some old
+pub learns : (harts : ℕ) (words : List ℕ) (tokens : List SeatKnowledge) (id : ℕ) (old new : SeatKnowledge) → Stands harts words tokens → get_elem? tokens id ≡ some old
     → ((hart : ℕ) → counted hart new ≡ counted hart old) → Fits words new
     → Stands harts words (set tokens id new)
 learns harts words tokens id old new stands at same mine = record {
@@ -43,10 +43,10 @@ learns harts words tokens id old new stands at same mine = record {
 }
 
 -- a word becomes more, and a token with it
-pub grows : (harts : ℕ) (words : List ℕ) (tokens : List Known) (id : ℕ) (old new : Known) (i value : ℕ) → Stands harts words tokens
+pub grows : (harts : ℕ) (words : List ℕ) (tokens : List SeatKnowledge) (id : ℕ) (old new : SeatKnowledge) (i value : ℕ) → Stands harts words tokens
     → get_elem? tokens id ≡ some old
     → ((hart : ℕ) → counted hart new ≡ counted hart old) → i < length words → slice_index words i ≤ value → Fits (set words i value) new
-    → ((j : ℕ) (token : Known) → j ≢ id → get_elem? tokens j ≡ some token → counted i token ≡ 0)
+    → ((j : ℕ) (token : SeatKnowledge) → j ≢ id → get_elem? tokens j ≡ some token → counted i token ≡ 0)
     → (i ≡ stop_word → value ≡ 1) → (i ≢ stop_word → i < harts)
     → Stands harts (set words i value) (set tokens id new)
 grows harts words tokens id old new i value stands at same there more mine others at_stop at_hart =
@@ -89,7 +89,7 @@ times-map hart k [] = refl
 times-map hart k (one ∷ others) = ap (λ n. (if one.0 == hart then 1 else 0) + n) (times-map hart k others)
 
 -- one word is read and stays
-read-stands : (harts : ℕ) (words : List ℕ) (tokens : List Known) (i : ℕ) → Stands harts words tokens → Stands harts (set words i (slice_index words i)) tokens
+read-stands : (harts : ℕ) (words : List ℕ) (tokens : List SeatKnowledge) (i : ℕ) → Stands harts words tokens → Stands harts (set words i (slice_index words i)) tokens
 read-stands harts words tokens i = subst (λ ws. Stands harts ws tokens) (sym (set-get_or words i 0))
 
 counts-one : (words : List ℕ) (counts : List (ℕ × ℕ)) (hart number : ℕ) → counts ≡ (hart, number) ∷ [] → AreWords words counts → slice_index words hart ≡ number
@@ -98,7 +98,7 @@ counts-one words counts hart number is a = (subst (AreWords words) is a).0
 one-counted : (counts : List (ℕ × ℕ)) (hart number : ℕ) → counts ≡ (hart, number) ∷ [] → times hart counts ≡ 1
 one-counted counts hart number is = ap (times hart) is ∙ times-here hart (hart, number) [] refl
 
-added-fits : (words : List ℕ) (token : Known) (hart number k : ℕ) → token.counts ≡ (hart, number) ∷ [] → hart < length words → hart ≢ stop_word
+added-fits : (words : List ℕ) (token : SeatKnowledge) (hart number k : ℕ) → token.counts ≡ (hart, number) ∷ [] → hart < length words → hart ≢ stop_word
     → Fits words token → Fits (set words hart (number + k)) (added k token)
 added-fits words token hart number k is there apart f =
     let stops : slice_index words stop_word ≡ 1 → slice_index (set words hart (number + k)) stop_word ≡ 1 = λ was. get_or-set_other words hart stop_word
@@ -111,7 +111,7 @@ added-fits words token hart number k is there apart f =
       heard = λ a. stops (f.heard a);
     }
 
-added-stands : (harts : ℕ) (words : List ℕ) (tokens : List Known) (id : ℕ) (old : Known) (hart number k : ℕ) → old.counts ≡ (hart, number) ∷ []
+added-stands : (harts : ℕ) (words : List ℕ) (tokens : List SeatKnowledge) (id : ℕ) (old : SeatKnowledge) (hart number k : ℕ) → old.counts ≡ (hart, number) ∷ []
     → hart < most_harts → Stands harts words tokens → get_elem? tokens id ≡ some old
     → Stands harts (set words hart (number + k)) (set tokens id (added k old))
 added-stands harts words tokens id old hart number k is below stands at =
@@ -129,7 +129,7 @@ added-stands harts words tokens id old hart number k is below stands at =
 no-wrap : (n number k : ℕ) → n ≡ number → number + k ≤ most_number → (n + k) % 2 ^ 64 ≡ number + k
 no-wrap n number k is room = omega (arith)
 
-module _ {S : Type 0} (harts slots id : ℕ) (me : Me S Known) where
+module _ {S : Type 0} (harts slots id : ℕ) (me : Me S SeatKnowledge) where
   -- add to a seat's word
   pub adds : (hart number k : ℕ) → me.0.counts ≡ (hart, number) ∷ [] → hart < most_harts → number + k ≤ most_number
       → Allows (λ s. Stands harts s.words s.views) slots id me hart (λ n. (n + k) % 2 ^ 64) (Adds (step slots hart k 0 none) me)
@@ -163,7 +163,7 @@ module _ {S : Type 0} (harts slots id : ℕ) (me : Me S Known) where
       let f = stands.fits id me.0 at in
       let there : stop_word < length s.words = let p = stands.places in omega (arith) in
       let set_now = get_or-set_same s.words stop_word 1 0 there in
-      let no_hart : (token : Known) (j : ℕ) → get_elem? s.views j ≡ some token → counted stop_word token ≡ 0 = λ token j e. let t =
+      let no_hart : (token : SeatKnowledge) (j : ℕ) → get_elem? s.views j ≡ some token → counted stop_word token ≡ 0 = λ token j e. let t =
       total-one (counted stop_word) s.views j token e in let z = stands.none stop_word stands.few in omega (arith, t, z) in
       let more : slice_index s.words stop_word ≤ 1 = stands.stop in (
         asked me.0,

@@ -4,9 +4,9 @@
 use Rattle.std.specs.Prelude.{◌≡◌, ℕ, zero, suc, ◌+◌, ◌<◌, ◌≤◌, ◌^◌, ◌==◌, Bool, true, false, if◌then◌else◌, List, [], ◌∷◌, length, slice_index}
 use mathlib.Core.Option.{some}
 use lib.ListN.{get_elem?}
-use Rattle.board.specs.declared.known.Known.{Known}
+use Rattle.board.specs.declared.known.SeatKnowledge.{SeatKnowledge}
 
--- as many words as there can be harts, and one behind them for the stop
+-- as many words as there can be harts, and one after them for the stop
 abbrev pub most_harts : ℕ
 most_harts = 8
 
@@ -20,11 +20,11 @@ words_of_board = 9
 abbrev pub most_number : ℕ
 most_number = 2 ^ 40
 
-abbrev pub known : List (ℕ × ℕ) → List (ℕ × ℕ) → Bool → Bool → Known
+abbrev pub known : List (ℕ × ℕ) → List (ℕ × ℕ) → Bool → Bool → SeatKnowledge
 known counts sights asked heard = record { counts = counts; sights = sights; asked = asked; heard = heard }
 
 -- what a new glance knows
-abbrev pub nothing : Known
+abbrev pub nothing : SeatKnowledge
 nothing = known [] [] false false
 
 -- how often a list of pairs has the hart
@@ -48,17 +48,17 @@ AreSeen words [] = Unit {0}
 AreSeen words (one ∷ others) = (one.1 ≤ slice_index words one.0) × AreSeen words others
 
 -- what a token knows is so
-pub record Fits (words : List ℕ) (token : Known) : Type 0 where
+pub record Fits (words : List ℕ) (token : SeatKnowledge) : Type 0 where
   pub counts : AreWords words token.counts
   pub sights : AreSeen words token.sights
   pub asked : token.asked ≡ true → slice_index words stop_word ≡ 1
   pub heard : token.heard ≡ true → slice_index words stop_word ≡ 1
 
 -- the rule of the board of so many harts, over its words and what each of its tokens knows
-pub record Stands (harts : ℕ) (words : List ℕ) (tokens : List Known) : Type 0 where
+pub record Stands (harts : ℕ) (words : List ℕ) (tokens : List SeatKnowledge) : Type 0 where
   pub places : length words ≡ words_of_board
   pub few : harts ≤ most_harts
-  pub fits : (id : ℕ) (token : Known) → get_elem? tokens id ≡ some token → Fits words token
+  pub fits : (id : ℕ) (token : SeatKnowledge) → get_elem? tokens id ≡ some token → Fits words token
   -- one token at most counts a hart
   pub once : (hart : ℕ) → total (λ token. times hart token.counts) tokens ≤ 1
   -- none counts a number that is no hart's, and its word stays 0

@@ -3,17 +3,17 @@
 ghost use Rattle.std.specs.Prelude.{◌≡◌, ◌<◌, ◌≤◌, [], ◌∷◌};
 ghost use Rattle.board.specs.Rule.{most_harts, most_number, words_of_board};
 
-use crate::known::Known;
+use crate::known::SeatKnowledge;
 use crate::rule::Rule;
 use std::alloc::Global;
 
 /// The right to step on a board, and what is known by it. It has no bytes.
-pub(crate) type Token = atomic_table::Seat<(), Known>;
+pub(crate) type BoardToken = atomic_table::Seat<(), SeatKnowledge>;
 
 /// A word for each of 1 to 8 harts, and whether a stop was asked. Threads share it by reference.
 #[derive(Drop)]
 pub struct Board {
-    pub(crate) table: atomic_table::Table<(), Known, usize, Rule, Global>,
+    pub(crate) table: atomic_table::Table<(), SeatKnowledge, usize, Rule, Global>,
     pub(crate) harts: usize,
     ghost sized: { (table.shared.table_id.words ≡ words_of_board) × (table.shared.table_id.slots ≡ 0) },
     ghost ruled: { table.shared.key ≡ harts },
@@ -25,7 +25,7 @@ pub struct Board {
 pub struct BoardSeat {
     pub(crate) hart: usize,
     pub(crate) number: u64,
-    pub(crate) token: Token,
+    pub(crate) token: BoardToken,
     ghost counts: { (token.me.0.counts ≡ (hart, number) ∷ []) × (token.me.1 ≡ []) },
     ghost below: { hart < most_harts },
     ghost most: { number ≤ most_number },
@@ -34,7 +34,7 @@ pub struct BoardSeat {
 /// Looks at a board. What it has seen is kept in proofs alone.
 #[derive(Drop)]
 pub struct Glance {
-    pub(crate) token: Token,
+    pub(crate) token: BoardToken,
     ghost counts: { (token.me.0.counts ≡ []) × (token.me.1 ≡ []) },
 }
 
@@ -43,7 +43,7 @@ pub struct Glance {
 #[derive(Drop)]
 pub struct Closing {
     pub(crate) board: Board,
-    pub(crate) gatherer: Token,
+    pub(crate) gatherer: BoardToken,
     ghost of: { gatherer.table_id ≡ board.table.shared.table_id },
     ghost slots: { gatherer.me.1 ≡ [] },
 }

@@ -5,7 +5,7 @@ ghost use Rattle.board.specs.Rule.{most_harts, at_start};
 ghost use Rattle.board.specs.Closing.{IsNewSeat, AreNewSeats, IsUnused, IsNewGlance};
 ghost use Rattle.board.specs.Tokens.{name_of};
 
-use crate::boards::{Board, BoardSeat, Glance, Token};
+use crate::boards::{Board, BoardSeat, BoardToken, Glance};
 use crate::rule::{DealGlance, DealSeat, Enter};
 use atomic_table::Table;
 use std::alloc::{AllocError, Global};
@@ -45,7 +45,7 @@ impl Board {
     }
 
     // The seat of the first hart that the dealer counts.
-    fn deal_seat(&self, dealer: &mut Token, hart: usize) -> BoardSeat
+    fn deal_seat(&self, dealer: &mut BoardToken, hart: usize) -> BoardSeat
         requires of { dealer.old.table_id ≡ name_of self.now }
         requires hart { hart < most_harts }
         requires first { dealer.old.me.0.counts ≡ (hart, 0) ∷ drop 1 dealer.old.me.0.counts }
@@ -63,7 +63,11 @@ impl Board {
     }
 
     // The seats of all harts.
-    fn deal_seats(&self, alloc: Global, dealer: &mut Token) -> Result<Vec<BoardSeat>, AllocError>
+    fn deal_seats(
+        &self,
+        alloc: Global,
+        dealer: &mut BoardToken,
+    ) -> Result<Vec<BoardSeat>, AllocError>
         requires of { dealer.old.table_id ≡ name_of self.now }
         requires all { dealer.old.me.0.counts ≡ at_start 0 self.now.harts }
         ensures all { IfOk result (λ seats. length seats.items ≡ self.now.harts) }
@@ -80,7 +84,7 @@ impl Board {
     }
 
     // A glance that has seen nothing.
-    fn deal_glance(&self, dealer: &mut Token) -> Glance
+    fn deal_glance(&self, dealer: &mut BoardToken) -> Glance
         requires { dealer.old.table_id ≡ name_of self.now }
         ensures glance { IsNewGlance (name_of self.now) result }
         ensures of { dealer.new.table_id ≡ name_of self.now }
@@ -93,7 +97,7 @@ impl Board {
     fn deal_glances(
         &self,
         alloc: Global,
-        dealer: &mut Token,
+        dealer: &mut BoardToken,
         count: usize,
     ) -> Result<Vec<Glance>, AllocError>
         requires { dealer.old.table_id ≡ name_of self.now }

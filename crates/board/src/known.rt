@@ -6,7 +6,7 @@ ghost use Rattle.std.specs.Borrow.{ftrue};
 use std::marker::Model;
 
 /// What a seat or a glance of a board knows. No value of it is made.
-pub struct Known {
+pub struct SeatKnowledge {
     // The harts whose words it alone adds to, each with its word.
     pub ghost counts: { List (ℕ × ℕ) },
     // The looks that it made, the last one first: each hart with the number that was found.
@@ -17,6 +17,6 @@ pub struct Known {
     pub ghost heard: { Bool },
 }
 
-impl Model for Known {
+impl Model for SeatKnowledge {
     ghost also_owns = { λ _. ftrue };
 }

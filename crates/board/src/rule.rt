@@ -4,13 +4,13 @@ ghost use Rattle.std.specs.Prelude.{[], false};
 ghost use Rattle.board.specs.Rule.{Stands, known, nothing, at_start};
 ghost use Rattle.board.specs.Steps.{Adds, Looks, Asks, Hears, Enters, without_first, first_alone, both};
 
-use crate::known::Known;
+use crate::known::SeatKnowledge;
 use atomic_table::{Join, Play, Split, TableRule};
 
 /// The rule of a board. Its key is the number of harts.
 pub struct Rule;
 
-impl TableRule<(), Known, usize> for Rule {
+impl TableRule<(), SeatKnowledge, usize> for Rule {
     ghost holds = { λ harts table. Stands harts table.words table.views };
 
     ghost first = { λ harts. known (at_start 0 harts) [] false false };
@@ -19,35 +19,35 @@ impl TableRule<(), Known, usize> for Rule {
 /// A seat's word becomes more.
 pub struct Add;
 
-impl Play<(), Known> for Add {
+impl Play<(), SeatKnowledge> for Add {
     ghost then = { Adds };
 }
 
 /// A seat's word is read.
 pub struct Look;
 
-impl Play<(), Known> for Look {
+impl Play<(), SeatKnowledge> for Look {
     ghost then = { Looks };
 }
 
 /// A stop is asked.
 pub struct Ask;
 
-impl Play<(), Known> for Ask {
+impl Play<(), SeatKnowledge> for Ask {
     ghost then = { Asks };
 }
 
 /// The stop word is read.
 pub struct Hear;
 
-impl Play<(), Known> for Hear {
+impl Play<(), SeatKnowledge> for Hear {
     ghost then = { Hears };
 }
 
 /// A new seat takes over a hart.
 pub struct DealSeat;
 
-impl Split<Known> for DealSeat {
+impl Split<SeatKnowledge> for DealSeat {
     ghost left = { without_first };
 
     ghost right = { first_alone };
@@ -56,7 +56,7 @@ impl Split<Known> for DealSeat {
 /// A new glance knows nothing.
 pub struct DealGlance;
 
-impl Split<Known> for DealGlance {
+impl Split<SeatKnowledge> for DealGlance {
     ghost left = { λ token. token };
 
     ghost right = { λ token. nothing };
@@ -65,7 +65,7 @@ impl Split<Known> for DealGlance {
 /// What two tokens know becomes what one knows.
 pub struct Gather;
 
-impl Join<Known> for Gather {
+impl Join<SeatKnowledge> for Gather {
     ghost both = { both };
 
     ghost spent = { nothing };
@@ -74,6 +74,6 @@ impl Join<Known> for Gather {
 /// A token that knows nothing comes.
 pub struct Enter;
 
-impl Play<(), Known> for Enter {
+impl Play<(), SeatKnowledge> for Enter {
     ghost then = { Enters };
 }

@@ -190,7 +190,7 @@ further-none : (f : Option Found) → further f ≡ None → f ≡ None
 further-none None e = refl
 further-none (Some f) e = absurd (cc e)
 
--- what no part of a list has stands behind the list
+-- what no part of a list has stands after the list
 behind : (sizes : List ℕ) (n : ℕ) → find sizes n ≡ None → total sizes ≤ n
 behind [] n e = omega arith
 behind (size ∷ sizes) n e = elim (cases_lt n size) [

@@ -7,7 +7,7 @@
 use Rattle.std.specs.Prelude.{◌≡◌, ℕ, ◌+◌, ◌-◌, ◌^◌, ◌&&◌, nat_le, Bool, true, if◌then◌else◌, List, [], ◌∷◌, Option, Some, None, ◌==◌, false}
 use Rattle.std.specs.List.{AllByRecursion}
 use Rattle.halide_pipeline.specs.declared.expressions.Source.{Source}
-use Rattle.bounds_ranges.specs.declared.expressions.Asked.{Asked}
+use Rattle.bounds_ranges.specs.declared.expressions.ReadRange.{ReadRange}
 use Rattle.bounds_ranges.specs.declared.ranges.Ends.{Ends}
 use Rattle.bounds_ranges.specs.declared.ranges.Range.{Range}
 use Rattle.bounds_ranges.specs.Ranges.{no_base, every, ends_of, fit, IsFit, widened, together, hull}
@@ -86,14 +86,14 @@ abbrev pub joined : List ℕ → Bool → Option Range → Range → Option Rang
 joined lasts counts own range = if counts then Some (with_range lasts own range) else own
 
 -- with one read, of whose dimensions these count
-abbrev pub with_read : Option ConsumerLoop → List ℕ → Bool → Bool → Spread → Asked → Spread
+abbrev pub with_read : Option ConsumerLoop → List ℕ → Bool → Bool → Spread → ReadRange → Spread
 with_read consumer lasts first second spread read = record {
   x = joined (lasts_of consumer) first spread.x (taken consumer lasts read.x);
   y = joined (lasts_of consumer) second spread.y (taken consumer lasts read.y);
 }
 
 -- with all reads of the source among these
-abbrev pub gathered : Option ConsumerLoop → List ℕ → Source → Bool → Bool → Spread → List Asked → Spread
+abbrev pub gathered : Option ConsumerLoop → List ℕ → Source → Bool → Bool → Spread → List ReadRange → Spread
 gathered consumer lasts source first second spread [] = spread
 gathered consumer lasts source first second spread (read ∷ others) =
     gathered consumer lasts source first second (if same_source read.source source then with_read consumer lasts first second spread read else spread) others

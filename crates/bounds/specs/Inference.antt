@@ -1,4 +1,4 @@
--- The boxes of all sources, from the output back: what is read of a Func depends on the Funcs behind it alone.
+-- The boxes of all sources, from the output back: what is read of a Func depends on the Funcs after it alone.
 --
 -- Where some box leaves -2^24 to 2^24 there are no boxes.
 -- This project's own.
@@ -16,14 +16,14 @@ use Rattle.halide_pipeline.specs.declared.definitions.Reduction.{Reduction}
 use Rattle.halide_pipeline.specs.declared.expressions.Expr.{Expr}
 use Rattle.schedule.specs.declared.plans.FuncPlan.{FuncPlan}
 use Rattle.schedule.specs.declared.schedules.Schedule.{Schedule}
-use Rattle.schedule.specs.declared.standings.LoopPlace.{LoopPlace}
-use Rattle.schedule.specs.declared.standings.Place.{Place}
-use Rattle.schedule.specs.declared.standings.Place.TheVariants as places
-use Rattle.schedule.specs.declared.standings.Standing.{Standing}
+use Rattle.schedule.specs.declared.placements.LoopPlace.{LoopPlace}
+use Rattle.schedule.specs.declared.placements.ComputeLevel.{ComputeLevel}
+use Rattle.schedule.specs.declared.placements.ComputeLevel.TheVariants as places
+use Rattle.schedule.specs.declared.placements.FuncPlacement.{FuncPlacement}
 use Rattle.bounds_ranges.specs.declared.ranges.Range.{Range}
 use Rattle.bounds_ranges.specs.Ranges.{no_base, fit, literal}
 use Rattle.bounds_ranges.specs.Numbers.{origin, spot}
-use Rattle.bounds_ranges.specs.declared.expressions.Asked.{Asked}
+use Rattle.bounds_ranges.specs.declared.expressions.ReadRange.{ReadRange}
 use Rattle.bounds_ranges.specs.declared.expressions.OwnCalls.{OwnCalls}
 use Rattle.bounds_ranges.specs.declared.expressions.Variables.{Variables}
 use Rattle.bounds_ranges.specs.Expressions.{Ranged, walked, walked_update}
@@ -77,22 +77,22 @@ module _ (inputs : List Input) (funcs : List Func) (flags : List Bool) (place : 
   unfoldable pub right : Update → Ranged
   right update = walked_update view.lasts inputs flags funcs (suc place) (own_calls place update) false (update_variables view update) update.right
 
-  abbrev pub left_read : Update → Asked
+  abbrev pub left_read : Update → ReadRange
   left_read update = record { source = sources.Func place; x = (left update update.left_x).range; y = (second_left update update.left_y).range }
 
-  unfoldable pub update_asked : Update → List Asked
+  unfoldable pub update_asked : Update → List ReadRange
   update_asked update =
       (left update update.left_x).asked ++ ((second_left update update.left_y).asked ++ (left_read update ∷ (right update).asked))
 
-  abbrev pub updates_asked : List Update → List Asked
+  abbrev pub updates_asked : List Update → List ReadRange
   updates_asked [] = []
   updates_asked (update ∷ others) = update_asked update ++ updates_asked others
 
   -- ---- all of the Func at this place
-  unfoldable pub func_asked : Func → List Asked
+  unfoldable pub func_asked : Func → List ReadRange
   func_asked func = (walked view.lasts inputs flags funcs place (pure_variables view) func.pure).asked ++ updates_asked func.updates
 
--- ---- what a Func reads of itself out of place doesn't hang on its box: its arguments may be anywhere
+-- ---- what a Func reads of itself out of place doesn't depend on its box: its arguments may be anywhere
 
 abbrev pub anywhere : Range
 anywhere = fit no_loops no_base (record { low = origin - 2 ^ 24; high = origin + 2 ^ 24 })
@@ -169,7 +169,7 @@ module _ (pipeline : Pipeline) (schedule : Schedule) (flags : List Bool) where
       (read_from (at + 1) consumer (sources.Func at) behind (own_updates pipeline flags at consumer (wanted pipeline.output at consumer) func.updates))
 
   -- A Func that is inlined or computed nowhere has no box.
-  abbrev pub placed_box : ℕ → Func → List (Option SourceBox) → Place → Option SourceBox
+  abbrev pub placed_box : ℕ → Func → List (Option SourceBox) → ComputeLevel → Option SourceBox
   placed_box at func behind places.Root = computed_box at func behind None
   placed_box at func behind (places.At place) = computed_box at func behind (consumer_of place (slice_get schedule.funcs place.func) (box_at place.func (at
       + 1) behind))
@@ -177,7 +177,7 @@ module _ (pipeline : Pipeline) (schedule : Schedule) (flags : List Bool) where
   placed_box at func behind places.Nowhere = None
 
   -- Nor has one that the output doesn't reach.
-  abbrev pub func_box : ℕ → Func → List (Option SourceBox) → Option Standing → Option SourceBox
+  abbrev pub func_box : ℕ → Func → List (Option SourceBox) → Option FuncPlacement → Option SourceBox
   func_box at func behind None = None
   func_box at func behind (Some own) = if own.is_reached then placed_box at func behind own.place else None
 

@@ -8,9 +8,9 @@ use Rattle.halide_pipeline.specs.declared.definitions.Input.{Input}
 use Rattle.halide_pipeline.specs.Pipelines.{Pipeline}
 use Rattle.halide_pipeline.specs.WellFormed.{is_input}
 use Rattle.schedule.specs.declared.schedules.Schedule.{Schedule}
-use Rattle.schedule.specs.declared.standings.Place.{Place}
-use Rattle.schedule.specs.declared.standings.Place.TheVariants as places
-use Rattle.schedule.specs.declared.standings.Standing.{Standing}
+use Rattle.schedule.specs.declared.placements.ComputeLevel.{ComputeLevel}
+use Rattle.schedule.specs.declared.placements.ComputeLevel.TheVariants as places
+use Rattle.schedule.specs.declared.placements.FuncPlacement.{FuncPlacement}
 use Rattle.bounds_weights.specs.Weight.{needs, has_frames}
 use Rattle.bounds.specs.declared.boxes.SourceBox.{SourceBox}
 use Rattle.bounds.specs.declared.layout.Layout.{Layout}
@@ -27,21 +27,21 @@ abbrev pub input_bytes : Input → ℕ
 input_bytes input = if input.is_bytes then (input.width * input.height + 3) / 4 * 4 else input.width * input.height * 4
 
 -- the box of a Func, if it is computed at root
-abbrev pub root_bytes : Place → Option SourceBox → ℕ
+abbrev pub root_bytes : ComputeLevel → Option SourceBox → ℕ
 root_bytes places.Root (Some own) = points own * 4
 root_bytes _ own = 0
 
 -- all copies of it, if it is computed at a loop
-abbrev pub private_bytes : Place → Option SourceBox → ℕ
+abbrev pub private_bytes : ComputeLevel → Option SourceBox → ℕ
 private_bytes (places.At place) (Some own) = points own * 4 * 8
 private_bytes _ own = 0
 
-abbrev pub root_sizes : List Standing → List (Option SourceBox) → List ℕ
+abbrev pub root_sizes : List FuncPlacement → List (Option SourceBox) → List ℕ
 root_sizes [] boxes = []
 root_sizes (standing ∷ standings) [] = []
 root_sizes (standing ∷ standings) (own ∷ boxes) = root_bytes standing.place own ∷ root_sizes standings boxes
 
-abbrev pub private_sizes : List Standing → List (Option SourceBox) → List ℕ
+abbrev pub private_sizes : List FuncPlacement → List (Option SourceBox) → List ℕ
 private_sizes [] boxes = []
 private_sizes (standing ∷ standings) [] = []
 private_sizes (standing ∷ standings) (own ∷ boxes) = private_bytes standing.place own ∷ private_sizes standings boxes
@@ -51,11 +51,11 @@ frame_bytes is_needed = if is_needed then 8 * 4096 else 0
 
 -- ---- phases: the stages of Funcs computed at root
 
-abbrev pub phases_of : Place → Func → Option SourceBox → ℕ
+abbrev pub phases_of : ComputeLevel → Func → Option SourceBox → ℕ
 phases_of places.Root func (Some own) = length func.updates + 1
 phases_of _ func own = 0
 
-abbrev pub phases : List Standing → List Func → List (Option SourceBox) → ℕ
+abbrev pub phases : List FuncPlacement → List Func → List (Option SourceBox) → ℕ
 phases [] funcs boxes = 0
 phases (standing ∷ standings) [] boxes = 0
 phases (standing ∷ standings) (func ∷ funcs) [] = 0

@@ -41,7 +41,7 @@ abbrev pub further : Option Found → Option Found
 further None = None
 further (Some found) = Some (record { place = suc found.place; offset = found.offset })
 
--- among parts of these sizes, one behind the other
+-- among parts of these sizes, one after the other
 abbrev pub find : List ℕ → ℕ → Option Found
 find [] n = None
 find (size ∷ sizes) n = if nat_lt n size then Some (record { place = 0; offset = n }) else further (find sizes (n - size))

@@ -10,9 +10,9 @@ use Rattle.halide_pipeline.specs.Pipelines.{Pipeline}
 use Rattle.halide_pipeline.specs.declared.definitions.Update.{Update}
 use Rattle.schedule.specs.declared.plans.FuncPlan.{FuncPlan}
 use Rattle.schedule.specs.declared.schedules.Schedule.{Schedule}
-use Rattle.schedule.specs.declared.standings.Place.{Place}
-use Rattle.schedule.specs.declared.standings.Place.TheVariants as places
-use Rattle.schedule.specs.declared.standings.Standing.{Standing}
+use Rattle.schedule.specs.declared.placements.ComputeLevel.{ComputeLevel}
+use Rattle.schedule.specs.declared.placements.ComputeLevel.TheVariants as places
+use Rattle.schedule.specs.declared.placements.FuncPlacement.{FuncPlacement}
 use Rattle.schedule.specs.Uses.{IsReached}
 use Rattle.bounds.specs.declared.boxes.SourceBox.{SourceBox}
 use Rattle.bounds.specs.declared.verdict.Boxes.{Boxes}
@@ -23,12 +23,12 @@ use Rattle.schedule_lines.specs.declared.stages.Stage.{Stage}
 use Rattle.schedule_loops.specs.Visits.{points_written, iteration_count, owns, Visit}
 
 -- A Func that the output reaches and that is computed there, with its loops and its box.
-pub record IsComputedAt (pipeline : Pipeline) (schedule : Schedule) (boxes : Boxes) (placed : Place) (place : ℕ) (func : Func) (plan : FuncPlan)
+pub record IsComputedAt (pipeline : Pipeline) (schedule : Schedule) (boxes : Boxes) (placed : ComputeLevel) (place : ℕ) (func : Func) (plan : FuncPlan)
     (own : SourceBox) : Type 0 where
   pub func_is : slice_get pipeline.funcs place ≡ Some func
   pub plan_is : slice_get schedule.funcs place ≡ Some plan
   pub box_is : slice_get boxes.funcs place ≡ Some (Some own)
-  pub standing : Standing
+  pub standing : FuncPlacement
   pub there : IsReached schedule.standings place standing
   pub placed_is : standing.place ≡ placed
 
@@ -63,11 +63,11 @@ abbrev pub stages_to : ℕ → ℕ → List StagePlace
 stages_to func zero = []
 stages_to func (suc number) = stages_to func number ++ record { func = func; number = number } ∷ []
 
-abbrev pub stages_where : Place → Func → Option SourceBox → ℕ → List StagePlace
+abbrev pub stages_where : ComputeLevel → Func → Option SourceBox → ℕ → List StagePlace
 stages_where places.Root func (Some own) place = stages_to place (suc (length func.updates))
 stages_where _ func own place = []
 
-abbrev pub stages_at : ℕ → Option Standing → Option Func → Option (Option SourceBox) → List StagePlace
+abbrev pub stages_at : ℕ → Option FuncPlacement → Option Func → Option (Option SourceBox) → List StagePlace
 stages_at place None func own = []
 stages_at place (Some standing) None own = []
 stages_at place (Some standing) (Some func) None = []

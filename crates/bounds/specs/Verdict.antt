@@ -1,6 +1,6 @@
 -- The boxes of an algorithm under a schedule, or the first fault that stands.
 --
--- The faults are judged in turn: a box leaves -2^24 to 2^24; an input is read outside its extents; a shifted split is of a loop below
+-- The faults are judged in order: a box leaves -2^24 to 2^24; an input is read outside its extents; a shifted split is of a loop below
 -- its factor; a box or the data are too large.
 -- This project's own.
 use Rattle.std.specs.Prelude.{◌≡◌, ℕ, ◌&&◌, nat_le, not, if◌then◌else◌, List, Option, Some, None, Result, Ok, Err, ◌+◌, nat_lt, Bool, true, [], ◌∷◌}

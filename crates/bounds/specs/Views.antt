@@ -16,7 +16,7 @@ use Rattle.schedule_lines.specs.declared.stages.Stage.{Stage}
 use Rattle.schedule_lines.specs.Directives.{same_id}
 use Rattle.schedule.specs.declared.plans.FuncPlan.{FuncPlan}
 use Rattle.schedule.specs.declared.schedules.Schedule.{Schedule}
-use Rattle.schedule.specs.declared.standings.Standing.{Standing}
+use Rattle.schedule.specs.declared.placements.FuncPlacement.{FuncPlacement}
 use Rattle.schedule.specs.Legal.{is_root}
 use Rattle.schedule_loops.specs.declared.extents.Extents.{Extents}
 use Rattle.schedule_loops.specs.Visits.{counts, strides, AreSplits}
@@ -58,7 +58,7 @@ consumer_loop plan own id = consumer_loop_in (extents_of own) plan.pure.splits p
 
 -- ---- arguments of the consumer
 
--- how far a turn of a loop takes a variable; not at all, where none is there or it is over another one
+-- how far an iteration of a loop takes a variable; not at all, where none is there or it is over another one
 abbrev pub multiple_of : List Split → Variable → Option Loop → Multiple
 multiple_of splits variable None = zero_multiple
 multiple_of splits variable (Some own) = if same_variable own.variable variable then record { more = strides splits own.id; less = 0 } else zero_multiple
@@ -114,7 +114,7 @@ settled_box inner own = record { x = settled inner own.lasts own.x; y = settled 
 
 -- ---- whichever it is
 
-abbrev pub is_root_at : Option Standing → Bool
+abbrev pub is_root_at : Option FuncPlacement → Bool
 is_root_at None = false
 is_root_at (Some own) = is_root own.place
 
@@ -122,7 +122,7 @@ abbrev pub view_at_root : Option FuncPlan → SourceBox → ConsumerLoop → Sou
 view_at_root None own consumer = own
 view_at_root (Some plan) own consumer = consumer_view plan.pure own consumer
 
-abbrev pub view_of : Option FuncPlan → Option Standing → SourceBox → Option ConsumerLoop → SourceBox
+abbrev pub view_of : Option FuncPlan → Option FuncPlacement → SourceBox → Option ConsumerLoop → SourceBox
 view_of plan standing own None = own
 view_of plan standing own (Some consumer) = if is_root_at standing then view_at_root plan own consumer else settled_box consumer.inner own
 

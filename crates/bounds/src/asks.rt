@@ -8,7 +8,9 @@ ghost use Rattle.bounds.specs.Inference as spec;
 
 use crate::boxes::{NO_LOOPS, SourceBox};
 use bounds_ranges::bases::no_base;
-use bounds_ranges::expressions::{Asked, OwnCalls, Scope, Variables, ranged, ranged_update};
+use bounds_ranges::expressions::{
+    OwnCalls, RangeScope, ReadRange, Variables, ranged, ranged_update,
+};
 use bounds_ranges::ranges::{Ends, LEAST, Lasts, ORIGIN, Range, fit, literal};
 use halide_pipeline::{Expr, Func, Pipeline, Reduction, Source, Update};
 use std::alloc::AllocError;
@@ -100,13 +102,13 @@ fn own_calls(place: usize, update: &Update) -> OwnCalls
     }
 }
 
-/// The range of a left index, behind what it reads.
+/// The range of a left index, after what it reads.
 #[tactic(auto, unfolding(crate::specs::Inference::left))]
 fn ask_left(
     reader: &ReadingFunc<'_>,
     update: &Update,
     index: &Expr,
-    asked: &mut Vec<Asked>,
+    asked: &mut Vec<ReadRange>,
 ) -> Result<Range, AllocError>
     requires x { IsFit reader.now.view.now.lasts reader.now.view.now.x }
     requires y { IsFit reader.now.view.now.lasts reader.now.view.now.y }
@@ -122,7 +124,7 @@ fn ask_left(
 {
     let variables = update_variables(reader.view, update);
     let own = own_calls(reader.place, update);
-    let scope = Scope {
+    let scope = RangeScope {
         lasts: &reader.view.lasts,
         inputs: reader.pipeline.inputs(),
         funcs: reader.pipeline.funcs(),
@@ -138,7 +140,7 @@ fn ask_left(
 fn ask_second_left(
     reader: &ReadingFunc<'_>,
     update: &Update,
-    asked: &mut Vec<Asked>,
+    asked: &mut Vec<ReadRange>,
 ) -> Result<Range, AllocError>
     requires x { IsFit reader.now.view.now.lasts reader.now.view.now.x }
     requires y { IsFit reader.now.view.now.lasts reader.now.view.now.y }
@@ -166,7 +168,7 @@ fn ask_second_left(
 fn ask_right(
     reader: &ReadingFunc<'_>,
     update: &Update,
-    asked: &mut Vec<Asked>,
+    asked: &mut Vec<ReadRange>,
 ) -> Result<(), AllocError>
     requires few { reader.now.place < 2 ^ 63 }
     requires x { IsFit reader.now.view.now.lasts reader.now.view.now.x }
@@ -179,7 +181,7 @@ fn ask_right(
 {
     let variables = update_variables(reader.view, update);
     let own = own_calls(reader.place, update);
-    let scope = Scope {
+    let scope = RangeScope {
         lasts: &reader.view.lasts,
         inputs: reader.pipeline.inputs(),
         funcs: reader.pipeline.funcs(),
@@ -196,7 +198,7 @@ fn ask_right(
 pub fn ask_update(
     reader: &ReadingFunc<'_>,
     update: &Update,
-    asked: &mut Vec<Asked>,
+    asked: &mut Vec<ReadRange>,
 ) -> Result<(), AllocError>
     requires few { reader.now.place < 2 ^ 63 }
     requires x { IsFit reader.now.view.now.lasts reader.now.view.now.x }
@@ -209,7 +211,7 @@ pub fn ask_update(
 {
     let x = ask_left(reader, update, &update.left_x, asked)?;
     let y = ask_second_left(reader, update, asked)?;
-    asked.push(Asked {
+    asked.push(ReadRange {
         source: Source::Func(reader.place),
         x,
         y,
@@ -222,7 +224,7 @@ pub fn ask_update(
 fn ask_updates(
     reader: &ReadingFunc<'_>,
     updates: &[Update],
-    asked: &mut Vec<Asked>,
+    asked: &mut Vec<ReadRange>,
 ) -> Result<(), AllocError>
     requires few { reader.now.place < 2 ^ 63 }
     requires x { IsFit reader.now.view.now.lasts reader.now.view.now.x }
@@ -248,7 +250,7 @@ fn ask_updates(
 pub fn ask_func(
     reader: &ReadingFunc<'_>,
     func: &Func,
-    asked: &mut Vec<Asked>,
+    asked: &mut Vec<ReadRange>,
 ) -> Result<(), AllocError>
     requires few { reader.now.place < 2 ^ 63 }
     requires x { IsFit reader.now.view.now.lasts reader.now.view.now.x }
@@ -260,7 +262,7 @@ pub fn ask_func(
     ensures reads { OnOk result (AreFitReads reader.now.view.now.lasts asked.new.items) }
 {
     let variables = pure_variables(reader.view);
-    let scope = Scope {
+    let scope = RangeScope {
         lasts: &reader.view.lasts,
         inputs: reader.pipeline.inputs(),
         funcs: reader.pipeline.funcs(),

@@ -8,7 +8,7 @@ ghost use Rattle.bounds_ranges.specs.Ranges.{IsFit};
 
 use crate::sources::same_source;
 use bounds_ranges::bases::no_base;
-use bounds_ranges::expressions::Asked;
+use bounds_ranges::expressions::ReadRange;
 use bounds_ranges::ranges::{Ends, Lasts, ORIGIN, Range, fit, hull, widened};
 use halide_pipeline::Source;
 use schedule_lines::LoopId;
@@ -166,7 +166,7 @@ fn with_read(
     first: bool,
     second: bool,
     spread: Spread,
-    read: &Asked,
+    read: &ReadRange,
 ) -> Spread
     requires spread { spec.IsSpread (spec.lasts_of consumer.now) spread }
     requires first { IsFit lasts.now read.now.x }
@@ -191,7 +191,7 @@ pub fn gathered(
     first: bool,
     second: bool,
     spread: Spread,
-    asked: &[Asked],
+    asked: &[ReadRange],
 ) -> Spread
     requires spread { spec.IsSpread (spec.lasts_of sought.now.consumer.now) spread }
     requires asked { AreFitReads lasts.now asked.now }

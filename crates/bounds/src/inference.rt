@@ -15,7 +15,7 @@ use crate::views::consumer_loop;
 use bounds_ranges::bases::no_base;
 use bounds_ranges::ranges::{Ends, Lasts, ORIGIN, Range, fit};
 use halide_pipeline::{Func, Input, Pipeline, Source};
-use schedule::{LoopPlace, Place, Schedule};
+use schedule::{ComputeLevel, LoopPlace, Schedule};
 use std::alloc::{AllocError, Global};
 
 /// So many pixels from 0 on.
@@ -137,9 +137,9 @@ fn func_box(
         return Ok(None);
     }
     let consumer = match own.place {
-        Place::Root => None,
-        Place::At(place) => consumer_of(alloc, scheduled.schedule, at + 1, behind, place)?,
-        Place::Inlined | Place::Nowhere => return Ok(None),
+        ComputeLevel::Root => None,
+        ComputeLevel::At(place) => consumer_of(alloc, scheduled.schedule, at + 1, behind, place)?,
+        ComputeLevel::Inlined | ComputeLevel::Nowhere => return Ok(None),
     };
     let own = computed_box(alloc, scheduled, at, func, behind, &consumer)?;
     Ok(own)

@@ -7,7 +7,7 @@ ghost use Rattle.bounds.specs.Layout as spec;
 use crate::boxes::{SourceBox, points};
 use bounds_weights::needs;
 use halide_pipeline::{Func, Input, Pipeline};
-use schedule::{Place, Schedule, Standing};
+use schedule::{ComputeLevel, FuncPlacement, Schedule};
 use sqlite_items::Items;
 use std::alloc::{AllocError, Global};
 
@@ -92,32 +92,32 @@ fn input_sizes(alloc: Global, inputs: &[Input]) -> Result<Vec<u64>, AllocError>
 }
 
 /// The bytes of a Func's box, if it is computed at root.
-fn root_bytes(place: Place, own: &Option<SourceBox>) -> u64
+fn root_bytes(place: ComputeLevel, own: &Option<SourceBox>) -> u64
     requires { IsBoxOrNone own.now }
     ensures is { result ≡ spec.root_bytes place own.now }
     ensures small { spec.IsSize result }
 {
     match place {
-        Place::Root => match own {
+        ComputeLevel::Root => match own {
             Some(own) => points(own) * 4,
             None => 0,
         },
-        Place::Inlined | Place::At(_) | Place::Nowhere => 0,
+        ComputeLevel::Inlined | ComputeLevel::At(_) | ComputeLevel::Nowhere => 0,
     }
 }
 
 /// The bytes of all copies of a Func's box, if it is computed at a loop.
-fn private_bytes(place: Place, own: &Option<SourceBox>) -> u64
+fn private_bytes(place: ComputeLevel, own: &Option<SourceBox>) -> u64
     requires { IsBoxOrNone own.now }
     ensures is { result ≡ spec.private_bytes place own.now }
     ensures small { spec.IsSize result }
 {
     match place {
-        Place::At(_) => match own {
+        ComputeLevel::At(_) => match own {
             Some(own) => points(own) * 4 * COPIES,
             None => 0,
         },
-        Place::Inlined | Place::Root | Place::Nowhere => 0,
+        ComputeLevel::Inlined | ComputeLevel::Root | ComputeLevel::Nowhere => 0,
     }
 }
 
@@ -125,7 +125,7 @@ fn private_bytes(place: Place, own: &Option<SourceBox>) -> u64
 #[tactic(auto, unfolding(crate::specs::Layout::AreSizes))]
 fn root_sizes(
     alloc: Global,
-    standings: &[Standing],
+    standings: &[FuncPlacement],
     boxes: &[Option<SourceBox>],
 ) -> Result<Vec<u64>, AllocError>
     requires { AreBoxes boxes.now }
@@ -150,7 +150,7 @@ fn root_sizes(
 #[tactic(auto, unfolding(crate::specs::Layout::AreSizes))]
 fn private_sizes(
     alloc: Global,
-    standings: &[Standing],
+    standings: &[FuncPlacement],
     boxes: &[Option<SourceBox>],
 ) -> Result<Vec<u64>, AllocError>
     requires { AreBoxes boxes.now }
@@ -203,22 +203,22 @@ fn placed(alloc: Global, start: u64, sizes: &[u64]) -> Result<Vec<u64>, AllocErr
 }
 
 /// How many phases a Func has.
-fn phases_of(place: Place, func: &Func, own: &Option<SourceBox>) -> u64
+fn phases_of(place: ComputeLevel, func: &Func, own: &Option<SourceBox>) -> u64
     requires { spec.HasFewUpdates func.now }
     ensures few { result ≤ 5 }
     ensures is { result ≡ spec.phases_of place func.now own.now }
 {
     match place {
-        Place::Root => match own {
+        ComputeLevel::Root => match own {
             Some(_) => func.updates.len() as u64 + 1,
             None => 0,
         },
-        Place::Inlined | Place::At(_) | Place::Nowhere => 0,
+        ComputeLevel::Inlined | ComputeLevel::At(_) | ComputeLevel::Nowhere => 0,
     }
 }
 
 /// How many phases there are.
-fn phases(standings: &[Standing], funcs: &[Func], boxes: &[Option<SourceBox>]) -> u64
+fn phases(standings: &[FuncPlacement], funcs: &[Func], boxes: &[Option<SourceBox>]) -> u64
     requires updates { spec.HaveFewUpdates funcs.now }
     requires few { length funcs.now ≤ 12 }
     ensures is { result ≡ spec.phases standings.now funcs.now boxes.now }

@@ -13,7 +13,7 @@ use crate::boxes::{ConsumerLoop, SourceBox, extents_of};
 use bounds_ranges::bases::{Base, Multiple, less_sum, more_sum, no_base};
 use bounds_ranges::ranges::{Ends, Lasts, Range, fit};
 use halide_pipeline::Variable;
-use schedule::{FuncPlan, Place, Schedule};
+use schedule::{ComputeLevel, FuncPlan, Schedule};
 use schedule_lines::stages::same_id;
 use schedule_lines::{Loop, LoopId, Stage};
 use schedule_loops::LoopSizes;
@@ -97,7 +97,7 @@ pub fn consumer_loop(
     Ok(consumer_loop_in(&sizes, plan.pure.loops.as_slice(), id))
 }
 
-/// How far a turn of a loop takes a variable.
+/// How far an iteration of a loop takes a variable.
 fn multiple_of(sizes: &LoopSizes, variable: Variable, own: &Loop) -> Multiple
     ensures { result ≡ spec.multiple_of sizes.now.splits variable (Some own.now) }
 {
@@ -111,7 +111,7 @@ fn multiple_of(sizes: &LoopSizes, variable: Variable, own: &Loop) -> Multiple
     }
 }
 
-/// How far a turn of the loop at a place takes a variable, if it is not one of the first so many.
+/// How far an iteration of the loop at a place takes a variable, if it is not one of the first so many.
 fn multiple_at(
     sizes: &LoopSizes,
     loops: &[Loop],
@@ -130,7 +130,7 @@ fn multiple_at(
     }
 }
 
-/// The multiples of a variable in the loops behind the first so many.
+/// The multiples of a variable in the loops after the first so many.
 fn base_in(sizes: &LoopSizes, loops: &[Loop], variable: Variable, inner: usize) -> Base
     ensures { result ≡ spec.base_in sizes.now.splits loops.now variable inner }
 {
@@ -275,7 +275,7 @@ fn outer_multiple(inner: usize, at: usize, own: Multiple) -> Multiple
     }
 }
 
-/// The multiples of the loops behind the first so many.
+/// The multiples of the loops after the first so many.
 fn outer_part(inner: usize, base: Base) -> Base
     ensures { result ≡ spec.outer_part inner base }
 {
@@ -323,7 +323,7 @@ fn is_root_at(schedule: &Schedule, at: usize) -> bool
 {
     match schedule.standing(at) {
         None => false,
-        Some(own) => matches!(own.place, Place::Root),
+        Some(own) => matches!(own.place, ComputeLevel::Root),
     }
 }
 

@@ -15,11 +15,11 @@ use Rattle.halide_pipeline.specs.declared.expressions.Source.TheVariants as sour
 use Rattle.halide_pipeline.specs.declared.expressions.Variable.{Variable}
 use Rattle.halide_pipeline.specs.Levels.{Both, left_of, right_of}
 use Rattle.halide_pipeline.proofs.Folds.{folds_related}
-use Rattle.schedule.specs.Standing.{is_func, calls, calls_at, second_calls, update_calls, updates_call, func_calls}
+use Rattle.schedule.specs.Placements.{is_func, calls, calls_at, second_calls, update_calls, updates_call, func_calls}
 use Rattle.bounds_inlining.specs.Inlining.{Inside, answer, answered, through, through_at, inside, made_in, func_in, flagged}
 use Rattle.bounds_inlining.proofs.Kept.{inside_computed}
 use Rattle.bounds_inlining.proofs.Steps.{inside_before, inside_is}
-use Rattle.bounds_ranges.specs.declared.expressions.Asked.{Asked}
+use Rattle.bounds_ranges.specs.declared.expressions.ReadRange.{ReadRange}
 use Rattle.bounds_ranges.specs.declared.expressions.OwnCalls.{OwnCalls}
 use Rattle.bounds_ranges.specs.declared.ranges.Range.{Range}
 use Rattle.bounds_ranges.specs.Expressions.{Ranged, ranging, second_asked, unasked_variable, ranges_where, is_anywhere, chosen, ranged_update, range_of, walked}
@@ -29,13 +29,13 @@ use Rattle.bounds.specs.Boxes.{same_source}
 
 module _ (sought : ℕ) where
   -- one of the reads is of the Func
-  abbrev pub asks : List Asked → Bool
+  abbrev pub asks : List ReadRange → Bool
   asks asked = list_any (λ read. same_source read.source (sources.Func sought)) asked
 
-  asks_first : (some more : List Asked) → asks some ≡ true → asks (some ++ more) ≡ true
+  asks_first : (some more : List ReadRange) → asks some ≡ true → asks (some ++ more) ≡ true
   asks_first some more e = list_any-append (λ read. same_source read.source (sources.Func sought)) some more ∙ or_left (asks some) (asks more) e
 
-  asks_second : (some more : List Asked) → asks more ≡ true → asks (some ++ more) ≡ true
+  asks_second : (some more : List ReadRange) → asks more ≡ true → asks (some ++ more) ≡ true
   asks_second some more e = list_any-append (λ read. same_source read.source (sources.Func sought)) some more ∙ or_right (asks some) (asks more) e
 
 module _ (sought : ℕ) (inputs : List Input) (funcs : List Func) (flags : List Bool) where
@@ -104,7 +104,7 @@ module _ (sought : ℕ) (inputs : List Input) (funcs : List Func) (flags : List 
           (called lasts x y count func before leads other
           (λ same. asked (ap (λ (t : Source). same_source t (sources.Func sought)) (source_is s e) ∙ eq-eqb func sought same)))
 
-      own_read : (some : List Asked) (read : Asked) → same_source read.source (sources.Func sought) ≡ true → asks sought (some ++ (read ∷ [])) ≡ true
+      own_read : (some : List ReadRange) (read : ReadRange) → same_source read.source (sources.Func sought) ≡ true → asks sought (some ++ (read ∷ [])) ≡ true
       own_read some read e = asks_second sought some (read ∷ []) (or_left (same_source read.source (sources.Func sought)) false e)
 
       abbrev R : Bool → Ranged → Type 0
@@ -205,10 +205,10 @@ module _ (sought : ℕ) (inputs : List Input) (funcs : List Func) (flags : List 
           update.right r false)))
     ]
       where
-        first : List Asked
+        first : List ReadRange
         first = (left inputs funcs flags place view update update.left_x).asked
 
-        second : List Asked
+        second : List ReadRange
         second = (second_left inputs funcs flags place view update update.left_y).asked
 
     updates_ask : (updates : List Update) → updates_call func updates ≡ true → asks sought (updates_asked inputs funcs flags place view updates) ≡ true
@@ -225,5 +225,5 @@ module _ (sought : ℕ) (inputs : List Input) (funcs : List Func) (flags : List 
       | inr r ↦ asks_second sought pure _ (updates_ask own.updates r)
     ]
       where
-        pure : List Asked
+        pure : List ReadRange
         pure = (walked view.lasts inputs flags funcs place (pure_variables view) own.pure).asked

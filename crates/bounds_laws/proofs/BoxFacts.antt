@@ -9,9 +9,9 @@ use Rattle.halide_pipeline.specs.declared.expressions.Source.TheVariants as sour
 use Rattle.halide_pipeline.specs.Pipelines.{Pipeline}
 use Rattle.schedule.specs.declared.plans.FuncPlan.{FuncPlan}
 use Rattle.schedule.specs.declared.schedules.Schedule.{Schedule}
-use Rattle.schedule.specs.declared.standings.Place.{Place}
-use Rattle.schedule.specs.declared.standings.Place.TheVariants as places
-use Rattle.schedule.specs.declared.standings.Standing.{Standing}
+use Rattle.schedule.specs.declared.placements.ComputeLevel.{ComputeLevel}
+use Rattle.schedule.specs.declared.placements.ComputeLevel.TheVariants as places
+use Rattle.schedule.specs.declared.placements.FuncPlacement.{FuncPlacement}
 use Rattle.schedule.specs.Accepted.{IsAccepted, IsProduced}
 use Rattle.schedule.specs.Uses.{IsReached}
 use Rattle.schedule.proofs.Uses.{numbered_at}
@@ -82,7 +82,7 @@ lasts_by lasts (Some x) (Some y) own e = let same = got (record { x = x; y = y; 
 pub record HasBox (pipeline : Pipeline) (schedule : Schedule) (boxes : Boxes) (place : ℕ) (own : SourceBox) : Type 0 where
   pub func : Func
   pub func_is : slice_get pipeline.funcs place ≡ Some func
-  pub standing : Standing
+  pub standing : FuncPlacement
   pub there : IsReached schedule.standings place standing
   pub computed : IsComputed place standing.place
   pub near : is_near own ≡ true
@@ -93,23 +93,23 @@ module _ (pipeline : Pipeline) (schedule : Schedule) (boxes : Boxes) (accepted :
     flags : List Bool
     flags = flags_of schedule.standings
 
-    produced : (place : ℕ) (own : Standing) → slice_get schedule.standings place ≡ Some own → IsProduced pipeline schedule.funcs place own
+    produced : (place : ℕ) (own : FuncPlacement) → slice_get schedule.standings place ≡ Some own → IsProduced pipeline schedule.funcs place own
     produced place own found =
         let here : 0 + place ≡ place = omega arith in
         subst (λ (n : ℕ). IsProduced pipeline schedule.funcs n own) here (numbered_at (IsProduced pipeline schedule.funcs) 0 schedule.standings
         accepted.consumers
         place own found)
 
-    placed_so : (place : ℕ) (own : Standing) → slice_get schedule.standings place ≡ Some own
+    placed_so : (place : ℕ) (own : FuncPlacement) → slice_get schedule.standings place ≡ Some own
         → (func : Func) (behind : List (Option SourceBox)) (box : SourceBox)
-        → (where_ : Place) → own.place ≡ where_ → Some box ≡ placed_box pipeline schedule flags place func behind where_ → IsComputed place where_
+        → (where_ : ComputeLevel) → own.place ≡ where_ → Some box ≡ placed_box pipeline schedule flags place func behind where_ → IsComputed place where_
     placed_so place own found func behind box places.Root e some = tt
     placed_so place own found func behind box (places.At consumer) e some = (produced place own found consumer e).later
     placed_so place own found func behind box places.Inlined e some = absurd cc
     placed_so place own found func behind box places.Nowhere e some = absurd cc
 
     module _ (place : ℕ) (own : SourceBox) (at : IsAt pipeline schedule flags 0 place pipeline.funcs boxes.funcs (Some own)) (near : is_near own ≡ true) where
-      by_reached : (standing : Standing) → slice_get schedule.standings place ≡ Some standing → (reached : Bool) → standing.is_reached ≡ reached
+      by_reached : (standing : FuncPlacement) → slice_get schedule.standings place ≡ Some standing → (reached : Bool) → standing.is_reached ≡ reached
           → Some own ≡ cond reached (placed_box pipeline schedule flags place at.func at.behind standing.place) None → HasBox pipeline schedule boxes place own
       by_reached standing found false r e = absurd cc
       by_reached standing found true r e =
@@ -125,12 +125,12 @@ module _ (pipeline : Pipeline) (schedule : Schedule) (boxes : Boxes) (accepted :
             computed = computed;
             near = near;
             lasts = lasts_by (lasts_of consumer) spread.x spread.y own
-                (sym (e ∙ sym (ap (λ (s : Option Standing). func_box pipeline schedule flags place at.func at.behind s) found
+                (sym (e ∙ sym (ap (λ (s : Option FuncPlacement). func_box pipeline schedule flags place at.func at.behind s) found
                 ∙ ap (λ (test : Bool). cond test (placed_box pipeline schedule flags place at.func at.behind standing.place) None) r)
                 ∙ sought_is pipeline schedule flags boxes.funcs place at.func at.behind at.later standing found r computed));
           }
 
-      by_standing : (standing : Option Standing) → slice_get schedule.standings place ≡ standing
+      by_standing : (standing : Option FuncPlacement) → slice_get schedule.standings place ≡ standing
           → Some own ≡ func_box pipeline schedule flags place at.func at.behind standing → HasBox pipeline schedule boxes place own
       by_standing None found e = absurd cc
       by_standing (Some standing) found e = by_reached standing found standing.is_reached refl e

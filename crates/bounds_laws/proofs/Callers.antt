@@ -21,8 +21,8 @@ use Rattle.halide_pipeline.specs.declared.environments.Environment.{Environment}
 use Rattle.halide_pipeline.specs.Pixel.{Reads, at_point, at_reduction}
 use Rattle.halide_pipeline.specs.Points.{Point, Seen}
 use Rattle.halide_pipeline.proofs.Seeing.{all_both}
-use Rattle.schedule.specs.declared.standings.Standing.{Standing}
-use Rattle.schedule.specs.Standing.{is_func, calls, calls_at, second_calls, update_calls, updates_call, func_calls, place_calls, place_calls_of}
+use Rattle.schedule.specs.declared.placements.FuncPlacement.{FuncPlacement}
+use Rattle.schedule.specs.Placements.{is_func, calls, calls_at, second_calls, update_calls, updates_call, func_calls, place_calls, place_calls_of}
 use Rattle.bounds_inlining.specs.Inlining.{none, second_of, arguments, answer, answered, through, through_at, inside, made_in, inlined, flagged}
 use Rattle.bounds_inlining.specs.Laws.{seen_variable}
 use Rattle.bounds_inlining.specs.Values.{seeing, unread, second_points}
@@ -74,7 +74,7 @@ module _ (reads : Source → ℕ → Bool) (has : Variable → Bool) (func : ℕ
 
 -- ---- what an expression of a Func reads
 
-module _ (pipeline : Pipeline) (standings : List Standing) (rules : IsWellFormed pipeline) (reads : Reads) where
+module _ (pipeline : Pipeline) (standings : List FuncPlacement) (rules : IsWellFormed pipeline) (reads : Reads) where
   abbrev is_inlined : ℕ → Bool
   is_inlined = flagged (flags_of standings)
 

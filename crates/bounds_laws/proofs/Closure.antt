@@ -1,4 +1,4 @@
--- Boxes hold all that the output's pixels read, with all that these read in turn.
+-- Boxes hold all that the output's pixels read, all that those read, and so on.
 use Rattle.std.proofs.Common.{◌≡◌, ℕ, zero, suc, ◌+◌, ◌^◌, ◌<◌, Bool, true, false, cond, not, List, [], ◌∷◌, length, Option, None, Some, refl, sym, ap, subst}
 use Rattle.std.proofs.Common.{◌∙◌, arith, inl, inr, true≢false}
 use Rattle.std.specs.Prelude.{◌==◌, ◌&&◌, ◌||◌, nat_lt, slice_get, is_some, Ok}
@@ -21,13 +21,13 @@ use Rattle.halide_pipeline.proofs.Holding.{definitions_hold_reads}
 use Rattle.halide_pipeline.proofs.Tracing.{closed_points_hold_reads}
 use Rattle.halide_pipeline.proofs.Seeing.{all_both, all_parts}
 use Rattle.schedule.specs.declared.schedules.Schedule.{Schedule}
-use Rattle.schedule.specs.declared.standings.Place.{Place}
-use Rattle.schedule.specs.declared.standings.Place.TheVariants as places
-use Rattle.schedule.specs.declared.standings.Standing.{Standing}
+use Rattle.schedule.specs.declared.placements.ComputeLevel.{ComputeLevel}
+use Rattle.schedule.specs.declared.placements.ComputeLevel.TheVariants as places
+use Rattle.schedule.specs.declared.placements.FuncPlacement.{FuncPlacement}
 use Rattle.schedule.specs.Accepted.{IsAccepted, IsPlan, IsLegal, IsProduced}
-use Rattle.schedule.specs.Standing.{calls, second_calls, update_calls, updates_call, func_calls, place_calls, place_calls_of, standings_from}
+use Rattle.schedule.specs.Placements.{calls, second_calls, update_calls, updates_call, func_calls, place_calls, place_calls_of, standings_from}
 use Rattle.schedule.specs.Legal.{is_inlined, is_nowhere}
-use Rattle.schedule.specs.Standing as standing
+use Rattle.schedule.specs.Placements as standing
 use Rattle.schedule.specs.Uses.{IsReached}
 use Rattle.schedule.proofs.Uses.{IsSome, some_before, output_standing, standing_some, numbered_at}
 use Rattle.schedule_loops.proofs.AcceptedStages.{pair_at}
@@ -138,13 +138,13 @@ module _ (pipeline : Pipeline) (schedule : Schedule) (boxes : Boxes) (rules : Is
 
   -- ---- which Funcs are computed
 
-  produced_later : (place : ℕ) (own : Standing) → slice_get schedule.standings place ≡ Some own → IsProduced pipeline schedule.funcs place own
+  produced_later : (place : ℕ) (own : FuncPlacement) → slice_get schedule.standings place ≡ Some own → IsProduced pipeline schedule.funcs place own
   produced_later place own found =
       let here : 0 + place ≡ place = omega arith in
       subst (λ (n : ℕ). IsProduced pipeline schedule.funcs n own) here (numbered_at (IsProduced pipeline schedule.funcs) 0 schedule.standings accepted.consumers
       place own found)
 
-  computed_so : (place : ℕ) (func : Func) → slice_get pipeline.funcs place ≡ Some func → (own : Standing) → IsReached schedule.standings place own
+  computed_so : (place : ℕ) (func : Func) → slice_get pipeline.funcs place ≡ Some func → (own : FuncPlacement) → IsReached schedule.standings place own
       → flags pipeline schedule place ≡ false → IsComputed place own.place
   computed_so place func func_is own there plain = by_place own.place refl
     where
@@ -154,7 +154,7 @@ module _ (pipeline : Pipeline) (schedule : Schedule) (boxes : Boxes) (rules : Is
       somewhere : is_nowhere own.place ≡ false
       somewhere = (pair_at IsLegal schedule.funcs schedule.standings place plan.value own accepted.legal plan.is there.standing there.reached).somewhere
 
-      by_place : (p : Place) → own.place ≡ p → IsComputed place p
+      by_place : (p : ComputeLevel) → own.place ≡ p → IsComputed place p
       by_place places.Root e = tt
       by_place (places.At at) e = (produced_later place own there.standing at e).later
       by_place places.Inlined e =
@@ -168,13 +168,13 @@ module _ (pipeline : Pipeline) (schedule : Schedule) (boxes : Boxes) (rules : Is
     abbrev box : HasBox pipeline schedule boxes reader own
     box = has_box pipeline schedule boxes accepted is reader own own_is
 
-    abbrev Seen_so : Place → Type 0
+    abbrev Seen_so : ComputeLevel → Type 0
     Seen_so place = Sees pipeline schedule boxes reader own x y place
 
     -- what is known of points that the reader reads
     record AreRead (count : ℕ) (points : List Point) : Type 0 where
       inputs : (place : ℕ) → AreBoxed no_loops (sources.Input place) (slice_get boxes.inputs place) points
-      funcs : (place : ℕ) (sought : Standing) → place < reader → slice_get schedule.standings place ≡ Some sought → sought.is_reached ≡ true
+      funcs : (place : ℕ) (sought : FuncPlacement) → place < reader → slice_get schedule.standings place ≡ Some sought → sought.is_reached ≡ true
           → IsComputed place sought.place
           → (s : Seen_so sought.place) → AreBoxed (values_for s.consumer s.values) (sources.Func place) (slice_get boxes.funcs place) points
       own_points : reader < count → AreBoxed values (sources.Func reader) (Some (Some own)) points
@@ -220,7 +220,7 @@ module _ (pipeline : Pipeline) (schedule : Schedule) (boxes : Boxes) (rules : Is
     func_held place a b e = or_right (put pipeline schedule place) (is_boxed (slice_get boxes.funcs place) a b) e
 
     other_held : (place a b : ℕ) → flags pipeline schedule place ≡ false → ReadsThrough pipeline schedule.standings reader place
-        → ((sought : Standing) → place < reader → slice_get schedule.standings place ≡ Some sought → sought.is_reached ≡ true → IsComputed place sought.place
+        → ((sought : FuncPlacement) → place < reader → slice_get schedule.standings place ≡ Some sought → sought.is_reached ≡ true → IsComputed place sought.place
         → (s : Seen_so sought.place) → IsBoxed (values_for s.consumer s.values) (slice_get boxes.funcs place) a b)
         → test (point_at (sources.Func place) a b) ≡ true
     other_held place a b plain through boxed_so =
@@ -236,7 +236,7 @@ module _ (pipeline : Pipeline) (schedule : Schedule) (boxes : Boxes) (rules : Is
         let theirs = has_box pipeline schedule boxes accepted is place other e in
         let same_standing : theirs.standing ≡ w.own = let p = theirs.there.standing in let q = w.there.standing in cc in
         let lasts : other.lasts ≡ lasts_of s.consumer =
-        theirs.lasts ∙ ap (λ (t : Standing). lasts_of (consumer_in schedule boxes.funcs t.place)) same_standing ∙ ap lasts_of s.consumer_is in
+        theirs.lasts ∙ ap (λ (t : FuncPlacement). lasts_of (consumer_in schedule boxes.funcs t.place)) same_standing ∙ ap lasts_of s.consumer_is in
         subst (λ (l : List ℕ). Below (values_for s.consumer s.values) l) (sym lasts) s.below_consumer))
 
     point_held : (count : ℕ) (s : Source) (a b : ℕ) (points : List Point) → AreRead count (point_at s a b ∷ points)
@@ -353,7 +353,7 @@ module _ (pipeline : Pipeline) (schedule : Schedule) (boxes : Boxes) (rules : Is
         reached_here : reached pipeline schedule place ≡ true
         reached_here = ap reached_of box_at.there.standing ∙ box_at.there.reached
           where
-            reached_of : Option Standing → Bool
+            reached_of : Option FuncPlacement → Bool
             reached_of None = false
             reached_of (Some s) = s.is_reached
 
@@ -479,7 +479,7 @@ module _ (pipeline : Pipeline) (schedule : Schedule) (boxes : Boxes) (rules : Is
         right = λ at update update_is number x y inside passed hit. right_passes x y passed at update update_is number inside;
       }
 
-    -- ---- all reads in turn
+    -- ---- all reads, one by one
 
     closed : (place x y : ℕ) → passing (point_at (sources.Func place) x y) ≡ true → Hold passing (direct_trace pipeline.funcs inputs place x y)
     closed place x y passed = by_func (slice_get pipeline.funcs place) refl
@@ -540,11 +540,11 @@ module _ (pipeline : Pipeline) (schedule : Schedule) (boxes : Boxes) (rules : Is
       own_standing : IsSome (slice_get schedule.standings place)
       own_standing =
           let plan = pair_there IsPlan pipeline.funcs schedule.funcs place drawn.value accepted.plans drawn.is in
-          subst (λ (l : List Standing). IsSome (slice_get l place)) (sym all_standings) (standing_some pipeline schedule.funcs 0 schedule.funcs place plan.value
+          subst (λ (l : List FuncPlacement). IsSome (slice_get l place)) (sym all_standings) (standing_some pipeline schedule.funcs 0 schedule.funcs place plan.value
           plan.is)
 
       known : (own_standing.value.is_reached ≡ true) × (own_standing.value.place ≡ places.Root)
-      known = output_standing pipeline schedule.funcs own_standing.value (ap (λ (l : List Standing). slice_get l place) (sym all_standings) ∙ own_standing.is)
+      known = output_standing pipeline schedule.funcs own_standing.value (ap (λ (l : List FuncPlacement). slice_get l place) (sym all_standings) ∙ own_standing.is)
 
       entry_by : (answer : Option (Option SourceBox)) → slice_get boxes.funcs place ≡ answer → IsBoxed no_loops answer x y → IsSome answer
           → is_boxed answer x y ≡ true
@@ -553,8 +553,8 @@ module _ (pipeline : Pipeline) (schedule : Schedule) (boxes : Boxes) (rules : Is
           (λ own f.
           let theirs = has_box pipeline schedule boxes accepted is place own (e ∙ f) in
           let same_standing : theirs.standing ≡ own_standing.value = let p = theirs.there.standing in let q = own_standing.is in cc in
-          let lasts : own.lasts ≡ no_loops = theirs.lasts ∙ ap (λ (t : Standing). lasts_of (consumer_in schedule boxes.funcs t.place)) same_standing
-          ∙ ap (λ (p : Place). lasts_of (consumer_in schedule boxes.funcs p)) known.1 in
+          let lasts : own.lasts ≡ no_loops = theirs.lasts ∙ ap (λ (t : FuncPlacement). lasts_of (consumer_in schedule boxes.funcs t.place)) same_standing
+          ∙ ap (λ (p : ComputeLevel). lasts_of (consumer_in schedule boxes.funcs p)) known.1 in
           subst (λ (l : List ℕ). Below no_loops l) (sym lasts) no_below)
 
       output_held : test (point_at (sources.Func place) x y) ≡ true

@@ -16,7 +16,7 @@ use Rattle.schedule_lines.specs.Making.{total}
 use Rattle.schedule_loops.specs.declared.extents.Extents.{Extents}
 use Rattle.schedule_loops.specs.Visits.{Values, counts, strides, is_uneven, extent_of}
 use Rattle.schedule_loops.specs.Reach.{base, reach, has_uneven, IsReached, wholes}
-use Rattle.schedule_loops.specs.Runs.{AreTurns}
+use Rattle.schedule_loops.specs.Runs.{AreIterations}
 use Rattle.schedule_loops.specs.Stages.{IsStageOf, first_loops, has_variable}
 use Rattle.schedule_loops.proofs.Bounded.{within, reached}
 use Rattle.schedule_loops.proofs.Making.{Stays, by_making, total-append, total_parts, bare_total}
@@ -26,7 +26,7 @@ use Rattle.bounds_ranges.specs.Ranges.{no_base, zero_multiple, more_sum, less_su
 use Rattle.bounds_ranges.specs.Laws.{Below, Lies}
 use Rattle.bounds_ranges.proofs.Lying.{fit_lies, plain_lies}
 use Rattle.bounds.specs.Extents.{extent, extents_of}
-use Rattle.bounds_laws.specs.ConsumerLaws.{turn_of, turn_at, turns_from, gone, IsGone, IsTakenTo, ConsumerArgumentsLie}
+use Rattle.bounds_laws.specs.ConsumerLaws.{iteration_of, iteration_at, iterations_from, gone, IsGone, IsTakenTo, ConsumerArgumentsLie}
 use Rattle.bounds_laws.specs.Laws.{LiesIn}
 use Rattle.bounds.specs.Views.{last_of, last_at, lasts_in, consumer_loop, consumer_loop_in, consumer_view, consumer_view_in, multiple_of, multiple_at, base_in}
 use Rattle.bounds.specs.Views.{argument, inner_count}
@@ -47,38 +47,38 @@ above_at at n l = grind (arith, l)
 
 -- ---- sums over loops but the first so many
 
-module _ (splits : List Split) (variable : Variable) (turns : Values) where
+module _ (splits : List Split) (variable : Variable) (iterations : Values) where
   value : Loop → ℕ
-  value own = cond (same_variable own.variable variable) (strides splits own.id * turns own.id) 0
+  value own = cond (same_variable own.variable variable) (strides splits own.id * iterations own.id) 0
 
   masked : ℕ → ℕ → List Loop → ℕ
   masked n at [] = 0
   masked n at (own ∷ others) = cond (nat_lt at n) 0 (value own) + masked n (at + 1) others
 
-  behind : (n at : ℕ) (loops : List Loop) → n ≤ at → masked n at loops ≡ base splits variable turns loops
+  behind : (n at : ℕ) (loops : List Loop) → n ≤ at → masked n at loops ≡ base splits variable iterations loops
   unfolding value masked
   behind n at [] l = refl
   behind n at (own ∷ others) l = rw (above_at at n l, behind n (at + 1) others (omega (arith, l))) refl
 
-  masked_is : (n at : ℕ) (inside outside : List Loop) → n ≡ at + length inside → masked n at (inside ++ outside) ≡ base splits variable turns outside
+  masked_is : (n at : ℕ) (inside outside : List Loop) → n ≡ at + length inside → masked n at (inside ++ outside) ≡ base splits variable iterations outside
   unfolding value masked
   masked_is n at [] outside e = behind n at outside (omega (arith, e))
   masked_is n at (own ∷ inside) outside e =
       let l : nat_lt at n ≡ true = below_at at n (omega (arith, e)) in
       rw l (omega (arith, masked_is n (at + 1) inside outside (omega (arith, e))))
 
-  term_same : (same : Bool) (stride turn : ℕ) → (cond {A = Multiple} same (record { more = stride; less = 0 }) zero_multiple).more * turn
-      ≡ cond same (stride * turn) 0
-  term_same true stride turn = refl
-  term_same false stride turn = omega arith
+  term_same : (same : Bool) (stride iteration : ℕ) → (cond {A = Multiple} same (record { more = stride; less = 0 }) zero_multiple).more * iteration
+      ≡ cond same (stride * iteration) 0
+  term_same true stride iteration = refl
+  term_same false stride iteration = omega arith
 
-  term_at : (first : Bool) (own : Loop) → (cond first zero_multiple (multiple_of splits variable (Some own))).more * cond first 0 (turns own.id)
+  term_at : (first : Bool) (own : Loop) → (cond first zero_multiple (multiple_of splits variable (Some own))).more * cond first 0 (iterations own.id)
       ≡ cond first 0 (value own)
   unfolding value
   term_at true own = omega arith
-  term_at false own = term_same (same_variable own.variable variable) (strides splits own.id) (turns own.id)
+  term_at false own = term_same (same_variable own.variable variable) (strides splits own.id) (iterations own.id)
 
-  none_at : (first : Bool) → (cond first zero_multiple (multiple_of splits variable None)).more * cond first 0 (turn_of turns None) ≡ 0
+  none_at : (first : Bool) → (cond first zero_multiple (multiple_of splits variable None)).more * cond first 0 (iteration_of iterations None) ≡ 0
   none_at true = omega arith
   none_at false = omega arith
 
@@ -93,7 +93,7 @@ module _ (splits : List Split) (variable : Variable) (turns : Values) where
 
   -- the sum over all five places
   more_is : (n : ℕ) (loops : List Loop) → length loops ≤ 5
-      → more_sum (base_in splits loops variable n) (turns_from n turns loops) ≡ masked n 0 loops
+      → more_sum (base_in splits loops variable n) (iterations_from n iterations loops) ≡ masked n 0 loops
   unfolding masked
   more_is n [] few = omega (arith, none_at (nat_lt 0 n), none_at (nat_lt 1 n), none_at (nat_lt 2 n), none_at (nat_lt 3 n), none_at (nat_lt 4 n))
   more_is n (a ∷ []) few = omega (arith, term_at (nat_lt 0 n) a, none_at (nat_lt 1 n), none_at (nat_lt 2 n), none_at (nat_lt 3 n), none_at (nat_lt 4 n))
@@ -123,48 +123,48 @@ module _ (splits : List Split) (variable : Variable) (turns : Values) where
   times_zero : (a b : ℕ) → a ≡ 0 → a * b ≡ 0
   times_zero a b e = rw e (omega arith)
 
-  less_is : (n : ℕ) (loops : List Loop) → less_sum (base_in splits loops variable n) (turns_from n turns loops) ≡ 0
+  less_is : (n : ℕ) (loops : List Loop) → less_sum (base_in splits loops variable n) (iterations_from n iterations loops) ≡ 0
   less_is n loops =
-      let zero_at : (at : ℕ) → (multiple_at splits loops variable n at).less * turn_at n turns loops at ≡ 0 =
-      λ at. times_zero (multiple_at splits loops variable n at).less (turn_at n turns loops at) (less_at (nat_lt at n) (slice_get loops at)) in
+      let zero_at : (at : ℕ) → (multiple_at splits loops variable n at).less * iteration_at n iterations loops at ≡ 0 =
+      λ at. times_zero (multiple_at splits loops variable n at).less (iteration_at n iterations loops at) (less_at (nat_lt at n) (slice_get loops at)) in
       omega (arith, zero_at 0, zero_at 1, zero_at 2, zero_at 3, zero_at 4)
 
--- ---- turns are up to the greatest
+-- ---- iterations are up to the greatest
 
-module _ (extents : Extents) (splits : List Split) (turns : Values) where
-  few_first : (test : Bool) (turn count : ℕ) → (test ≡ false → turn < count) → cond test 0 turn ≤ count - 1
-  few_first true turn count l = omega arith
-  few_first false turn count l = let k : turn < count = l refl in omega (arith, k)
+module _ (extents : Extents) (splits : List Split) (iterations : Values) where
+  few_first : (test : Bool) (iteration count : ℕ) → (test ≡ false → iteration < count) → cond test 0 iteration ≤ count - 1
+  few_first true iteration count l = omega arith
+  few_first false iteration count l = let k : iteration < count = l refl in omega (arith, k)
 
-  few_none : (test : Bool) → cond test 0 (turn_of turns None) ≤ last_of extents splits None
+  few_none : (test : Bool) → cond test 0 (iteration_of iterations None) ≤ last_of extents splits None
   few_none true = omega arith
   few_none false = omega arith
 
-  turns_at : (inside outside : List Loop) → AreTurns (counts extents splits) outside turns
-      → (at : ℕ) → length inside ≤ at → (own : Loop) → slice_get (inside ++ outside) at ≡ Some own → turns own.id < counts extents splits own.id
-  turns_at [] [] are zero l own e = absurd cc
-  turns_at [] [] are (suc at) l own e = absurd cc
-  turns_at [] (first ∷ others) are zero l own e = subst (λ (o : Loop). turns o.id < counts extents splits o.id) (it first own e) are.0
+  iterations_at : (inside outside : List Loop) → AreIterations (counts extents splits) outside iterations
+      → (at : ℕ) → length inside ≤ at → (own : Loop) → slice_get (inside ++ outside) at ≡ Some own → iterations own.id < counts extents splits own.id
+  iterations_at [] [] are zero l own e = absurd cc
+  iterations_at [] [] are (suc at) l own e = absurd cc
+  iterations_at [] (first ∷ others) are zero l own e = subst (λ (o : Loop). iterations o.id < counts extents splits o.id) (it first own e) are.0
     where
       it : (a b : Loop) → Some a ≡ Some b → a ≡ b
       it a b e = cc
-  turns_at [] (first ∷ others) are (suc at) l own e = turns_at [] others are.1 at (omega arith) own e
-  turns_at (first ∷ inside) outside are zero l own e = absurd (omega (arith, l))
-  turns_at (first ∷ inside) outside are (suc at) l own e = turns_at inside outside are at (omega (arith, l)) own e
+  iterations_at [] (first ∷ others) are (suc at) l own e = iterations_at [] others are.1 at (omega arith) own e
+  iterations_at (first ∷ inside) outside are zero l own e = absurd (omega (arith, l))
+  iterations_at (first ∷ inside) outside are (suc at) l own e = iterations_at inside outside are at (omega (arith, l)) own e
 
-  turn_below : (n : ℕ) (loops : List Loop) → ((at : ℕ) → n ≤ at → (own : Loop) → slice_get loops at ≡ Some own → turns own.id < counts extents splits own.id)
+  iteration_below : (n : ℕ) (loops : List Loop) → ((at : ℕ) → n ≤ at → (own : Loop) → slice_get loops at ≡ Some own → iterations own.id < counts extents splits own.id)
       → (at : ℕ) (test : Bool) → nat_lt at n ≡ test → (found : Option Loop) → slice_get loops at ≡ found
-      → cond test 0 (turn_of turns found) ≤ last_of extents splits found
-  turn_below n loops are at test t None e = few_none test
-  turn_below n loops are at test t (Some own) e = few_first test (turns own.id) (counts extents splits own.id) (λ f. are at (ltb-false at n (t ∙ f)) own e)
+      → cond test 0 (iteration_of iterations found) ≤ last_of extents splits found
+  iteration_below n loops are at test t None e = few_none test
+  iteration_below n loops are at test t (Some own) e = few_first test (iterations own.id) (counts extents splits own.id) (λ f. are at (ltb-false at n (t ∙ f)) own e)
 
-  pub turns_below : (inside outside loops : List Loop) → loops ≡ inside ++ outside → AreTurns (counts extents splits) outside turns
-      → Below (turns_from (length inside) turns loops) (lasts_in extents splits loops)
-  turns_below inside outside loops is are =
-      let all : (at : ℕ) → length inside ≤ at → (own : Loop) → slice_get loops at ≡ Some own → turns own.id < counts extents splits own.id =
-      λ at l own e. turns_at inside outside are at l own (ap (λ (ls : List Loop). slice_get ls at) (sym is) ∙ e) in
-      let one : (at : ℕ) → turn_at (length inside) turns loops at ≤ last_at extents splits loops at =
-      λ at. turn_below (length inside) loops all at (nat_lt at (length inside)) refl (slice_get loops at) refl in
+  pub iterations_below : (inside outside loops : List Loop) → loops ≡ inside ++ outside → AreIterations (counts extents splits) outside iterations
+      → Below (iterations_from (length inside) iterations loops) (lasts_in extents splits loops)
+  iterations_below inside outside loops is are =
+      let all : (at : ℕ) → length inside ≤ at → (own : Loop) → slice_get loops at ≡ Some own → iterations own.id < counts extents splits own.id =
+      λ at l own e. iterations_at inside outside are at l own (ap (λ (ls : List Loop). slice_get ls at) (sym is) ∙ e) in
+      let one : (at : ℕ) → iteration_at (length inside) iterations loops at ≤ last_at extents splits loops at =
+      λ at. iteration_below (length inside) loops all at (nat_lt at (length inside)) refl (slice_get loops at) refl in
       (one 0, (one 1, (one 2, (one 3, (one 4, tt)))))
 
 -- ---- a variable that no loop is over
@@ -201,14 +201,14 @@ one_none : (test : Bool) (rest value more : ℕ) → cond test 1 0 + rest ≡ 0 
 one_none true rest value more e f = absurd (omega (arith, e))
 one_none false rest value more e f = omega (arith, f)
 
-base_none : (splits : List Split) (variable : Variable) (turns : Values) (loops : List Loop) → total (over variable) loops ≡ 0
-    → base splits variable turns loops ≡ 0
+base_none : (splits : List Split) (variable : Variable) (iterations : Values) (loops : List Loop) → total (over variable) loops ≡ 0
+    → base splits variable iterations loops ≡ 0
 unfolding over
-base_none splits variable turns [] none = refl
-base_none splits variable turns (own ∷ others) none =
-    one_none (same_variable own.variable variable) (total (over variable) others) (strides splits own.id * turns own.id) (base splits variable turns others)
+base_none splits variable iterations [] none = refl
+base_none splits variable iterations (own ∷ others) none =
+    one_none (same_variable own.variable variable) (total (over variable) others) (strides splits own.id * iterations own.id) (base splits variable iterations others)
     none
-    (base_none splits variable turns others (omega (arith, none)))
+    (base_none splits variable iterations others (omega (arith, none)))
 
 odd_none : (test odd more : Bool) (rest : ℕ) → cond test 1 0 + rest ≡ 0 → more ≡ false → ((test && odd) || more) ≡ false
 odd_none true odd more rest e f = absurd (omega (arith, e))
@@ -233,9 +233,9 @@ every P all (x ∷ xs) = (all x, every P all xs)
 
 -- ---- one argument
 
-module _ (func : Func) (stage : Stage) (extents : Extents) (inside outside : List Loop) (turns : Values) (is : IsStageOf func None stage)
+module _ (func : Func) (stage : Stage) (extents : Extents) (inside outside : List Loop) (iterations : Values) (is : IsStageOf func None stage)
     (loops_are : stage.loops ≡ inside ++ outside)
-    (are : AreTurns (counts extents stage.splits) outside turns) (lasts : List ℕ) (below : Below (turns_from (length inside) turns stage.loops) lasts)
+    (are : AreIterations (counts extents stage.splits) outside iterations) (lasts : List ℕ) (below : Below (iterations_from (length inside) iterations stage.loops) lasts)
     (variable : Variable) where
   abbrev Has : Bool
   Has = has_variable variable (first_loops func None)
@@ -246,10 +246,10 @@ module _ (func : Func) (stage : Stage) (extents : Extents) (inside outside : Lis
   -- what is known of a value
   record IsVisited (whole : Values) : Type 0 where
     pub bounded : Has ≡ true → whole (ids.Whole variable) < extent_of extents variable
-    pub between : Has ≡ true → Odd ≡ false → IsReached extents stage.splits variable inside outside turns whole
+    pub between : Has ≡ true → Odd ≡ false → IsReached extents stage.splits variable inside outside iterations whole
 
   abbrev visited : List Values
-  visited = wholes extents stage.splits inside turns
+  visited = wholes extents stage.splits inside iterations
 
   visits_by : (has odd : Bool) → Has ≡ has → Odd ≡ odd → AllByRecursion IsVisited visited
   visits_by false odd h o = every IsVisited (λ whole. record {
@@ -260,30 +260,30 @@ module _ (func : Func) (stage : Stage) (extents : Extents) (inside outside : Lis
   visits_by true true h o =
       each (λ (whole : Values). whole (ids.Whole variable) < extent_of extents variable) (λ (whole : Values). Unit {0}) IsVisited
       (λ whole l u. record { bounded = λ e. l; between = λ e none. absurd (false≢true (sym none ∙ o)) }) visited
-      (within func None extents stage inside outside variable turns is loops_are h are) (every (λ (whole : Values). Unit {0}) (λ whole. tt) visited)
+      (within func None extents stage inside outside variable iterations is loops_are h are) (every (λ (whole : Values). Unit {0}) (λ whole. tt) visited)
   visits_by true false h o =
-      each (λ (whole : Values). whole (ids.Whole variable) < extent_of extents variable) (IsReached extents stage.splits variable inside outside turns)
+      each (λ (whole : Values). whole (ids.Whole variable) < extent_of extents variable) (IsReached extents stage.splits variable inside outside iterations)
       IsVisited
       (λ whole l r. record { bounded = λ e. l; between = λ e none. r }) visited
-      (within func None extents stage inside outside variable turns is loops_are h are) (reached func None extents stage inside outside variable turns is
+      (within func None extents stage inside outside variable iterations is loops_are h are) (reached func None extents stage inside outside variable iterations is
       loops_are h are o)
 
   visits : AllByRecursion IsVisited visited
   visits = visits_by Has Odd refl refl
 
-  abbrev Turns : List ℕ
-  Turns = turns_from (length inside) turns stage.loops
+  abbrev Iterations : List ℕ
+  Iterations = iterations_from (length inside) iterations stage.loops
 
-  more : more_sum (base_in stage.splits stage.loops variable (length inside)) Turns ≡ base stage.splits variable turns outside
+  more : more_sum (base_in stage.splits stage.loops variable (length inside)) Iterations ≡ base stage.splits variable iterations outside
   more =
-      more_is stage.splits variable turns (length inside) stage.loops is.few
-      ∙ (ap (λ (l : List Loop). masked stage.splits variable turns (length inside) 0 l) loops_are
-      ∙ masked_is stage.splits variable turns (length inside) 0 inside outside (omega arith))
+      more_is stage.splits variable iterations (length inside) stage.loops is.few
+      ∙ (ap (λ (l : List Loop). masked stage.splits variable iterations (length inside) 0 l) loops_are
+      ∙ masked_is stage.splits variable iterations (length inside) 0 inside outside (omega arith))
 
-  less : less_sum (base_in stage.splits stage.loops variable (length inside)) Turns ≡ 0
-  less = less_is stage.splits variable turns (length inside) stage.loops
+  less : less_sum (base_in stage.splits stage.loops variable (length inside)) Iterations ≡ 0
+  less = less_is stage.splits variable iterations (length inside) stage.loops
 
-  -- the view, by whether an uneven loop keeps its turn
+  -- the view, by whether an uneven loop keeps its iteration
   abbrev Parted : Range → Bool → Range
   Parted range odd =
       cond odd (fit lasts no_base (ends_of range))
@@ -321,13 +321,13 @@ module _ (func : Func) (stage : Stage) (extents : Extents) (inside outside : Lis
 
   one_by : (has odd : Bool) → Has ≡ has → Odd ≡ odd → (range : Range) → extent_of extents variable ≡ extent range → (whole : Values) → IsVisited whole → (x : ℕ)
       → IsGone range (Far has whole) x
-      → Lies lasts Turns (Parted range odd) x
+      → Lies lasts Iterations (Parted range odd) x
   one_by true true h o range extent_is whole is_visited x at =
       let l = is_visited.bounded h in
-      plain_lies lasts Turns below (ends_of range) x at.word (λ least great. (omega (arith, at.is), omega (arith, at.is, l, extent_is)))
+      plain_lies lasts Iterations below (ends_of range) x at.word (λ least great. (omega (arith, at.is), omega (arith, at.is, l, extent_is)))
   one_by true false h o range extent_is whole is_visited x at =
       let r = is_visited.between h o in
-      fit_lies lasts Turns below (base_in stage.splits stage.loops variable (length inside)) (record {
+      fit_lies lasts Iterations below (base_in stage.splits stage.loops variable (length inside)) (record {
         low = range.low;
         high = range.low + reach extents
             stage.splits variable inside;
@@ -335,8 +335,8 @@ module _ (func : Func) (stage : Stage) (extents : Extents) (inside outside : Lis
       (λ least great. (omega (arith, at.is, more, less, r.low), omega (arith, at.is, more, less, r.high)))
   one_by false true h o range extent_is whole is_visited x at = absurd (false≢true (sym (uneven_none stage.splits variable outside (none_outside h)) ∙ o))
   one_by false false h o range extent_is whole is_visited x at =
-      let z = base_none stage.splits variable turns outside (none_outside h) in
-      fit_lies lasts Turns below (base_in stage.splits stage.loops variable (length inside)) (record {
+      let z = base_none stage.splits variable iterations outside (none_outside h) in
+      fit_lies lasts Iterations below (base_in stage.splits stage.loops variable (length inside)) (record {
         low = range.low;
         high = range.low + reach extents
             stage.splits variable inside;
@@ -345,33 +345,33 @@ module _ (func : Func) (stage : Stage) (extents : Extents) (inside outside : Lis
 
   one_lies : (range : Range) → extent_of extents variable ≡ extent range → (whole : Values) → IsVisited whole → (x : ℕ)
       → IsGone range (gone func variable whole) x
-      → Lies lasts Turns (argument lasts extents stage.splits stage.loops (length inside) variable range) x
+      → Lies lasts Iterations (argument lasts extents stage.splits stage.loops (length inside) variable range) x
   one_lies range extent_is whole is_visited x at =
-      subst (λ (r : Range). Lies lasts Turns r x) (sym (parted range)) (one_by Has Odd refl refl range extent_is whole is_visited x at)
+      subst (λ (r : Range). Lies lasts Iterations r x) (sym (parted range)) (one_by Has Odd refl refl range extent_is whole is_visited x at)
 
 -- ---- the point
 
 pub consumer_arguments_lie : ConsumerArgumentsLie
 unfolding consumer_loop_in consumer_view_in
-consumer_arguments_lie func plan own id inside outside turns is loops_are count_is are = (
+consumer_arguments_lie func plan own id inside outside iterations is loops_are count_is are = (
   below,
-  each (IsVisited func stage extents inside outside turns is loops_are are lasts below variables.FirstArgument) (IsVisited func stage extents inside outside
-      turns is loops_are are lasts below variables.SecondArgument)
+  each (IsVisited func stage extents inside outside iterations is loops_are are lasts below variables.FirstArgument) (IsVisited func stage extents inside outside
+      iterations is loops_are are lasts below variables.SecondArgument)
       (λ whole. (x y : ℕ) → IsTakenTo func own whole x y
-      → LiesIn (turns_from (length inside) turns stage.loops) (consumer_view stage own (consumer_loop plan own id)) x y)
+      → LiesIn (iterations_from (length inside) iterations stage.loops) (consumer_view stage own (consumer_loop plan own id)) x y)
       (λ whole first second x y at.
-      let at_count : (n : ℕ) → n ≡ length inside → LiesIn (turns_from (length inside) turns stage.loops) (consumer_view_in extents stage.splits stage.loops n
+      let at_count : (n : ℕ) → n ≡ length inside → LiesIn (iterations_from (length inside) iterations stage.loops) (consumer_view_in extents stage.splits stage.loops n
       own (consumer_loop plan own id)) x y =
-      λ n e. subst (λ (m : ℕ). LiesIn (turns_from (length inside) turns stage.loops) (consumer_view_in extents stage.splits stage.loops m own
+      λ n e. subst (λ (m : ℕ). LiesIn (iterations_from (length inside) iterations stage.loops) (consumer_view_in extents stage.splits stage.loops m own
       (consumer_loop plan own id)) x y) (sym e)
       (record {
-        first = one_lies func stage extents inside outside turns is loops_are are lasts below variables.FirstArgument own.x refl whole first x at.first;
-        second = one_lies func stage extents inside outside turns is loops_are are lasts below variables.SecondArgument own.y refl whole second y at.second;
+        first = one_lies func stage extents inside outside iterations is loops_are are lasts below variables.FirstArgument own.x refl whole first x at.first;
+        second = one_lies func stage extents inside outside iterations is loops_are are lasts below variables.SecondArgument own.y refl whole second y at.second;
       }) in
       at_count (inner_count id stage.loops) (sym count_is))
-      (wholes extents stage.splits inside turns)
-      (visits func stage extents inside outside turns is loops_are are lasts below variables.FirstArgument)
-      (visits func stage extents inside outside turns is loops_are are lasts below variables.SecondArgument),
+      (wholes extents stage.splits inside iterations)
+      (visits func stage extents inside outside iterations is loops_are are lasts below variables.FirstArgument)
+      (visits func stage extents inside outside iterations is loops_are are lasts below variables.SecondArgument),
 )
   where
     stage : Stage
@@ -383,5 +383,5 @@ consumer_arguments_lie func plan own id inside outside turns is loops_are count_
     lasts : List ℕ
     lasts = lasts_in extents stage.splits stage.loops
 
-    below : Below (turns_from (length inside) turns stage.loops) lasts
-    below = turns_below extents stage.splits turns inside outside stage.loops loops_are are
+    below : Below (iterations_from (length inside) iterations stage.loops) lasts
+    below = iterations_below extents stage.splits iterations inside outside stage.loops loops_are are

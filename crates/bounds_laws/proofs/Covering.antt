@@ -5,7 +5,7 @@ use Rattle.std.specs.List.{AllByRecursion}
 use Rattle.std.proofs.lemmas.Bool.{leb-true, le-leb}
 use Rattle.halide_pipeline.specs.declared.expressions.Source.{Source}
 use Rattle.halide_pipeline.specs.Points.{Point}
-use Rattle.bounds_ranges.specs.declared.expressions.Asked.{Asked}
+use Rattle.bounds_ranges.specs.declared.expressions.ReadRange.{ReadRange}
 use Rattle.bounds_ranges.specs.declared.ranges.Range.{Range}
 use Rattle.bounds_ranges.specs.Ranges.{no_base, every, ends_of, IsFit, widened}
 use Rattle.bounds_ranges.specs.Laws.{Below, Lies, LiesAt, AllLie}
@@ -39,20 +39,20 @@ joined_fits lasts false own range fits other = fits
 joined_fits lasts true None range fits other = other
 joined_fits lasts true (Some own) range fits other = hull_fits lasts own range fits other
 
-pub read_fits : (consumer : Option ConsumerLoop) (lasts : List ℕ) (first second : Bool) (spread : Spread) (read : Asked) → IsSpread (lasts_of consumer) spread
+pub read_fits : (consumer : Option ConsumerLoop) (lasts : List ℕ) (first second : Bool) (spread : Spread) (read : ReadRange) → IsSpread (lasts_of consumer) spread
     → IsSpread (lasts_of consumer) (with_read consumer lasts first second spread read)
 read_fits consumer lasts first second spread read fits = record {
   x = joined_fits (lasts_of consumer) first spread.x (taken consumer lasts read.x) fits.x (taken_fits consumer lasts read.x);
   y = joined_fits (lasts_of consumer) second spread.y (taken consumer lasts read.y) fits.y (taken_fits consumer lasts read.y);
 }
 
-pub next_fits : (consumer : Option ConsumerLoop) (lasts : List ℕ) (first second test : Bool) (spread : Spread) (read : Asked)
+pub next_fits : (consumer : Option ConsumerLoop) (lasts : List ℕ) (first second test : Bool) (spread : Spread) (read : ReadRange)
     → IsSpread (lasts_of consumer) spread
     → IsSpread (lasts_of consumer) (if test then with_read consumer lasts first second spread read else spread)
 next_fits consumer lasts first second true spread read fits = read_fits consumer lasts first second spread read fits
 next_fits consumer lasts first second false spread read fits = fits
 
-pub gathered_fits : (consumer : Option ConsumerLoop) (lasts : List ℕ) (source : Source) (first second : Bool) (spread : Spread) (asked : List Asked)
+pub gathered_fits : (consumer : Option ConsumerLoop) (lasts : List ℕ) (source : Source) (first second : Bool) (spread : Spread) (asked : List ReadRange)
     → IsSpread (lasts_of consumer) spread
     → IsSpread (lasts_of consumer) (gathered consumer lasts source first second spread asked)
 gathered_fits consumer lasts source first second spread [] fits = fits
@@ -98,7 +98,7 @@ holds_more lasts values source spread other keeps (point ∷ points) all = (
 )
 
 module _ (consumer : Option ConsumerLoop) (lasts values : List ℕ) (below : Below (values_for consumer values) (lasts_of consumer)) where
-  next_keeps : (first second test : Bool) (spread : Spread) (read : Asked) (x y : ℕ) → InSpread (lasts_of consumer) (values_for consumer values) spread x y
+  next_keeps : (first second test : Bool) (spread : Spread) (read : ReadRange) (x y : ℕ) → InSpread (lasts_of consumer) (values_for consumer values) spread x y
       → InSpread (lasts_of consumer) (values_for consumer values) (if test then with_read consumer lasts first second spread read else spread) x y
   next_keeps first second true spread read x y lies = record {
     first = joined_keeps (lasts_of consumer) (values_for consumer values) below first spread.x (taken consumer lasts read.x) x lies.first;
@@ -106,7 +106,7 @@ module _ (consumer : Option ConsumerLoop) (lasts values : List ℕ) (below : Bel
   }
   next_keeps first second false spread read x y lies = lies
 
-  pub gathered_keeps : (source : Source) (first second : Bool) (spread : Spread) (asked : List Asked) (x y : ℕ)
+  pub gathered_keeps : (source : Source) (first second : Bool) (spread : Spread) (asked : List ReadRange) (x y : ℕ)
       → InSpread (lasts_of consumer) (values_for consumer values) spread x y
       → InSpread (lasts_of consumer) (values_for consumer values) (gathered consumer lasts source first second spread asked) x y
   gathered_keeps source first second spread [] x y lies = lies
@@ -114,7 +114,7 @@ module _ (consumer : Option ConsumerLoop) (lasts values : List ℕ) (below : Bel
       gathered_keeps source first second (if same_source read.source source then with_read consumer lasts first second spread read else spread) others x y
       (next_keeps first second (same_source read.source source) spread read x y lies)
 
-pub gathered_both : (consumer : Option ConsumerLoop) (lasts : List ℕ) (source : Source) (first second : Bool) (spread : Spread) (some more : List Asked)
+pub gathered_both : (consumer : Option ConsumerLoop) (lasts : List ℕ) (source : Source) (first second : Bool) (spread : Spread) (some more : List ReadRange)
     → gathered consumer lasts source first second spread (some ++ more) ≡ gathered consumer lasts source first second (gathered consumer lasts source first
     second spread some) more
 gathered_both consumer lasts source first second spread [] more = refl
@@ -142,7 +142,7 @@ taken_lies consumer lasts values own below range x lies =
     (lies_over consumer lasts values own below range x lies)
 
 read_takes : (consumer : Option ConsumerLoop) (lasts values : List ℕ) → Below values lasts → Below (values_for consumer values) (lasts_of consumer)
-    → (spread : Spread) (read : Asked) (point : Point)
+    → (spread : Spread) (read : ReadRange) (point : Point)
     → IsSpread (lasts_of consumer) spread → LiesAt lasts values read point
     → InSpread (lasts_of consumer) (values_for consumer values) (with_read consumer lasts true true spread read) point.x point.y
 read_takes consumer lasts values own below spread read point fits lies = record {
@@ -153,7 +153,7 @@ read_takes consumer lasts values own below spread read point fits lies = record 
 }
 
 pub gathered_takes : (consumer : Option ConsumerLoop) (lasts values : List ℕ) → Below values lasts → Below (values_for consumer values) (lasts_of consumer)
-    → (source : Source) (spread : Spread) (asked : List Asked) (points : List Point)
+    → (source : Source) (spread : Spread) (asked : List ReadRange) (points : List Point)
     → IsSpread (lasts_of consumer) spread → AllLie lasts values asked points
     → HoldsAll (lasts_of consumer) (values_for consumer values) source (gathered consumer lasts source true true spread asked) points
 gathered_takes consumer lasts values own below source spread [] [] fits all = tt

@@ -23,7 +23,7 @@ use Rattle.bounds_inlining.specs.Inlining.{none, second_of, arguments, answer, a
 use Rattle.bounds_inlining.proofs.Kept.{inside_computed}
 use Rattle.bounds_inlining.proofs.KeptFolds.{KeptLevels, kept_folds_related}
 use Rattle.bounds_inlining.proofs.Steps.{inside_before}
-use Rattle.bounds_ranges.specs.declared.expressions.Asked.{Asked}
+use Rattle.bounds_ranges.specs.declared.expressions.ReadRange.{ReadRange}
 use Rattle.bounds_ranges.specs.declared.expressions.OwnCalls.{OwnCalls}
 use Rattle.bounds_ranges.specs.declared.ranges.Range.{Range}
 use Rattle.bounds_ranges.specs.Ranges.{no_base, more_sum, less_sum, every, fit, literal, together, hull}
@@ -93,13 +93,13 @@ module _ (pipeline : Pipeline) where
       (is_func_of (slice_get pipeline.funcs place) 2) e).1
 
   -- what is asked of such a source is asked of its row
-  abbrev pub IsFlat : Asked → Type 0
+  abbrev pub IsFlat : ReadRange → Type 0
   IsFlat read = is_one read.source ≡ true → read.y ≡ flat
 
-  abbrev pub AreFlat : List Asked → Type 0
+  abbrev pub AreFlat : List ReadRange → Type 0
   AreFlat asked = AllByRecursion IsFlat asked
 
-  pub both_flat : (a b : List Asked) → AreFlat a → AreFlat b → AreFlat (a ++ b)
+  pub both_flat : (a b : List ReadRange) → AreFlat a → AreFlat b → AreFlat (a ++ b)
   both_flat a b f g = all_both IsFlat a b f g
 
   module _ (rules : IsWellFormed pipeline) (flags : List Bool) (lasts : List ℕ) where
@@ -306,7 +306,7 @@ module _ (pipeline : Pipeline) where
     joined_flat true own range flat_own is = with_flat own range flat_own is
     joined_flat false own range flat_own is = flat_own
 
-    one_more : (lasts : List ℕ) (first second : Bool) (spread : Spread) (read : Asked) → IsFlat read → IsFlatOrNone spread.y → (test : Bool)
+    one_more : (lasts : List ℕ) (first second : Bool) (spread : Spread) (read : ReadRange) → IsFlat read → IsFlatOrNone spread.y → (test : Bool)
         → same_source read.source source ≡ test
         → IsFlatOrNone (cond test (with_read consumer lasts first second spread read) spread).y
     one_more lasts first second spread read is begun true e =
@@ -314,7 +314,7 @@ module _ (pipeline : Pipeline) where
         joined_flat second spread.y (taken consumer lasts read.y) begun (ap (λ (r : Range). taken consumer lasts r) flat_read ∙ taken_flat consumer lasts)
     one_more lasts first second spread read is begun false e = begun
 
-    gathered_flat : (lasts : List ℕ) (first second : Bool) (spread : Spread) (asked : List Asked) → AreFlat asked → IsFlatOrNone spread.y
+    gathered_flat : (lasts : List ℕ) (first second : Bool) (spread : Spread) (asked : List ReadRange) → AreFlat asked → IsFlatOrNone spread.y
         → IsFlatOrNone (gathered consumer lasts source first second spread asked).y
     gathered_flat lasts first second spread [] all begun = begun
     gathered_flat lasts first second spread (read ∷ others) all begun =

@@ -1,4 +1,4 @@
--- The boxes of Funcs are those of what is gathered of the Funcs behind them.
+-- The boxes of Funcs are those of what is gathered of the Funcs after them.
 use Rattle.std.proofs.Common.{◌≡◌, ℕ, zero, suc, ◌+◌, ◌-◌, ◌<◌, Bool, true, false, cond, List, [], ◌∷◌, Option, Some, None, refl, sym, ap, ◌∙◌, subst, arith}
 use Rattle.std.specs.Prelude.{◌==◌, not, slice_get, Ok}
 use Rattle.std.proofs.lemmas.Bool.{ne_eqb, eq-eqb}
@@ -11,9 +11,9 @@ use Rattle.halide_pipeline.specs.WellFormed.{is_first_in_place, is_second_in_pla
 use Rattle.halide_pipeline.specs.Pipelines.{Pipeline}
 use Rattle.halide_pipeline.specs.Points.{Point}
 use Rattle.schedule.specs.declared.schedules.Schedule.{Schedule}
-use Rattle.schedule.specs.declared.standings.Place.{Place}
-use Rattle.schedule.specs.declared.standings.Place.TheVariants as places
-use Rattle.schedule.specs.declared.standings.Standing.{Standing}
+use Rattle.schedule.specs.declared.placements.ComputeLevel.{ComputeLevel}
+use Rattle.schedule.specs.declared.placements.ComputeLevel.TheVariants as places
+use Rattle.schedule.specs.declared.placements.FuncPlacement.{FuncPlacement}
 use Rattle.bounds_ranges.specs.Ranges.{no_base, IsFit}
 use Rattle.bounds_ranges.specs.Laws.{Below}
 use Rattle.bounds_ranges.specs.Numbers.{origin}
@@ -61,7 +61,7 @@ updates_fit pipeline flags at consumer spread (update ∷ others) fits =
     (gathered_fits consumer no_loops (sources.Func at) (not (is_first_in_place update)) (not (is_second_in_place update)) spread (update_asked pipeline.inputs
     pipeline.funcs flags at unplaced update) fits)
 
--- ---- the box at a place is that of the Funcs behind it
+-- ---- the box at a place is that of the Funcs after it
 
 module _ (pipeline : Pipeline) (schedule : Schedule) (flags : List Bool) where
   pub record IsAt (at before : ℕ) (funcs : List Func) (found : List (Option SourceBox)) (own : Option SourceBox) : Type 0 where
@@ -148,7 +148,7 @@ boxed_for consumer values source spread (point ∷ points) all own is = (
 -- ---- the Func that is sought
 
 module _ (pipeline : Pipeline) (schedule : Schedule) (flags : List Bool) (boxes : List (Option SourceBox)) where
-  placed_is : (place : ℕ) (func : Func) (behind : List (Option SourceBox)) → ((n : ℕ) → slice_get behind n ≡ slice_get boxes (place + 1 + n)) → (where_ : Place)
+  placed_is : (place : ℕ) (func : Func) (behind : List (Option SourceBox)) → ((n : ℕ) → slice_get behind n ≡ slice_get boxes (place + 1 + n)) → (where_ : ComputeLevel)
       → IsComputed place where_
       → placed_box pipeline schedule flags place func behind where_ ≡ computed_box pipeline schedule flags place func behind (consumer_in schedule boxes where_)
   placed_is place func behind later places.Root computed = refl
@@ -160,18 +160,18 @@ module _ (pipeline : Pipeline) (schedule : Schedule) (flags : List Bool) (boxes 
       ∙ ap box_in (later (at.func - (place + 1)) ∙ ap (λ (n : ℕ). slice_get boxes n) (omega (arith, computed))))
 
   pub sought_is : (place : ℕ) (func : Func) (behind : List (Option SourceBox)) → ((n : ℕ) → slice_get behind n ≡ slice_get boxes (place + 1 + n))
-      → (sought : Standing) → slice_get schedule.standings place ≡ Some sought → sought.is_reached ≡ true → IsComputed place sought.place
+      → (sought : FuncPlacement) → slice_get schedule.standings place ≡ Some sought → sought.is_reached ≡ true → IsComputed place sought.place
       → func_box pipeline schedule flags place func behind (slice_get schedule.standings place) ≡ computed_box pipeline schedule flags place func behind
       (consumer_in schedule boxes sought.place)
   sought_is place func behind later sought there reached computed =
-      ap (λ (s : Option Standing). func_box pipeline schedule flags place func behind s) there
+      ap (λ (s : Option FuncPlacement). func_box pipeline schedule flags place func behind s) there
       ∙ ap (λ (test : Bool). cond test (placed_box pipeline schedule flags place func behind sought.place) None) reached
       ∙ placed_is place func behind later sought.place computed
 
 -- whatever what is read of a Func holds lies in its box
 pub funcs_lie : (pipeline : Pipeline) (schedule : Schedule) (boxes : Boxes) → inferred pipeline schedule ≡ Ok boxes
     → (reader : ℕ) (func : Func) (own : SourceBox) → slice_get pipeline.funcs reader ≡ Some func → slice_get boxes.funcs reader ≡ Some (Some own)
-    → (place : ℕ) (sought : Standing) → place < reader → slice_get schedule.standings place ≡ Some sought → sought.is_reached ≡ true
+    → (place : ℕ) (sought : FuncPlacement) → place < reader → slice_get schedule.standings place ≡ Some sought → sought.is_reached ≡ true
     → IsComputed place sought.place
     → (consumer : Option ConsumerLoop) → consumer_in schedule boxes.funcs sought.place ≡ consumer
     → (view : SourceBox) → view_of (slice_get schedule.funcs reader) (slice_get schedule.standings reader) own consumer ≡ view

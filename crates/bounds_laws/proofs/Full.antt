@@ -10,7 +10,7 @@ use Rattle.halide_pipeline.specs.declared.expressions.Source.TheVariants as sour
 use Rattle.halide_pipeline.specs.WellFormed.{is_first_in_place, is_second_in_place}
 use Rattle.halide_pipeline.specs.Pipelines.{Pipeline}
 use Rattle.schedule.specs.declared.schedules.Schedule.{Schedule}
-use Rattle.bounds_ranges.specs.declared.expressions.Asked.{Asked}
+use Rattle.bounds_ranges.specs.declared.expressions.ReadRange.{ReadRange}
 use Rattle.bounds_ranges.specs.declared.ranges.Range.{Range}
 use Rattle.bounds.specs.declared.boxes.ConsumerLoop.{ConsumerLoop}
 use Rattle.bounds.specs.declared.boxes.SourceBox.{SourceBox}
@@ -40,7 +40,7 @@ wanted_full output consumer true e = (refl, refl)
 wanted_full output consumer false e = absurd cc
 
 module _ (consumer : Option ConsumerLoop) where
-  next_full : (lasts : List ℕ) (first second test : Bool) (spread : Spread) (read : Asked) → IsFull spread
+  next_full : (lasts : List ℕ) (first second test : Bool) (spread : Spread) (read : ReadRange) → IsFull spread
       → IsFull (if test then with_read consumer lasts first second spread read else spread)
   next_full lasts first second true spread read full = (
     joined_some (lasts_of consumer) first spread.x _ full.0,
@@ -49,14 +49,14 @@ module _ (consumer : Option ConsumerLoop) where
   )
   next_full lasts first second false spread read full = full
 
-  gathered_full : (lasts : List ℕ) (source : Source) (first second : Bool) (spread : Spread) (asked : List Asked) → IsFull spread
+  gathered_full : (lasts : List ℕ) (source : Source) (first second : Bool) (spread : Spread) (asked : List ReadRange) → IsFull spread
       → IsFull (gathered consumer lasts source first second spread asked)
   gathered_full lasts source first second spread [] full = full
   gathered_full lasts source first second spread (read ∷ others) full =
       gathered_full lasts source first second (if same_source read.source source then with_read consumer lasts first second spread read else spread) others
       (next_full lasts first second (same_source read.source source) spread read full)
 
-  gathered_asked : (lasts : List ℕ) (sought : ℕ) (spread : Spread) (asked : List Asked) → asks sought asked ≡ true
+  gathered_asked : (lasts : List ℕ) (sought : ℕ) (spread : Spread) (asked : List ReadRange) → asks sought asked ≡ true
       → IsFull (gathered consumer lasts (sources.Func sought) true true spread asked)
   gathered_asked lasts sought spread [] e = absurd cc
   gathered_asked lasts sought spread (read ∷ others) e = elim (or_cases (same_source read.source (sources.Func sought)) (asks sought others) e) [

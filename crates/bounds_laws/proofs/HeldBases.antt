@@ -25,7 +25,7 @@ use Rattle.bounds_inlining.specs.Laws.{AreFuncs, RelatesLevels, RelatesArguments
 use Rattle.bounds_inlining.proofs.Kept.{levels_related, kept_related}
 use Rattle.bounds_inlining.proofs.KeptFolds.{KeptLevels, kept_folds_related}
 use Rattle.bounds_ranges.specs.declared.bases.Multiple.{Multiple}
-use Rattle.bounds_ranges.specs.declared.expressions.Asked.{Asked}
+use Rattle.bounds_ranges.specs.declared.expressions.ReadRange.{ReadRange}
 use Rattle.bounds_ranges.specs.declared.expressions.OwnCalls.{OwnCalls}
 use Rattle.bounds_ranges.specs.declared.ranges.CommonBase.{CommonBase}
 use Rattle.bounds_ranges.specs.declared.ranges.Ends.{Ends}
@@ -47,8 +47,8 @@ pub record IsClosed (Holds : List Multiple → Type 0) : Type 0 where
   pub opposite : (a : List Multiple) → Holds a → Holds (negated a)
   pub times : (n : ℕ) (a : List Multiple) → Holds a → Holds (times_base n a)
 
-abbrev pub AreHeld : (List Multiple → Type 0) → List Asked → Type 0
-AreHeld Holds asked = AllByRecursion (λ (read : Asked). Holds read.x.base × Holds read.y.base) asked
+abbrev pub AreHeld : (List Multiple → Type 0) → List ReadRange → Type 0
+AreHeld Holds asked = AllByRecursion (λ (read : ReadRange). Holds read.x.base × Holds read.y.base) asked
 
 -- ---- operations
 
@@ -138,10 +138,10 @@ module _ (Holds : List Multiple → Type 0) (closed : IsClosed Holds) (lasts : L
   abbrev nothing : Algebra (Unit {0})
   nothing = record { level = λ level. tt; argument = λ x. tt; call = λ func v x y. tt }
 
-  abbrev Reads : Asked → Type 0
+  abbrev Reads : ReadRange → Type 0
   Reads read = Holds read.x.base × Holds read.y.base
 
-  both_held : (a b : List Asked) → AreHeld Holds a → AreHeld Holds b → AreHeld Holds (a ++ b)
+  both_held : (a b : List ReadRange) → AreHeld Holds a → AreHeld Holds b → AreHeld Holds (a ++ b)
   both_held a b pa pb = all_both Reads a b pa pb
 
   module _ (inputs : List Input) (is_inlined : ℕ → Bool) where
@@ -250,7 +250,7 @@ module _ (Holds : List Multiple → Type 0) (closed : IsClosed Holds) (lasts : L
 module _ (Holds : List Multiple → Type 0) (closed : IsClosed Holds) (pipeline : Pipeline) (flags : List Bool) (rules : IsWellFormed pipeline) (place : ℕ)
     (func : Func)
     (func_is : slice_get pipeline.funcs place ≡ Some func) (view : SourceBox) (first : Holds view.x.base) (second : Holds view.y.base) where
-  abbrev IsHeld : Asked → Type 0
+  abbrev IsHeld : ReadRange → Type 0
   IsHeld read = Holds read.x.base × Holds read.y.base
 
   module _ (at : ℕ) (update : Update) (update_is : slice_get func.updates at ≡ Some update) where

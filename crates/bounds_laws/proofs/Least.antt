@@ -11,10 +11,10 @@ use Rattle.halide_pipeline.specs.Pipelines.{Pipeline}
 use Rattle.halide_pipeline.specs.WellFormed.{IsWellFormed}
 use Rattle.halide_pipeline.proofs.Seeing.{all_both}
 use Rattle.schedule.specs.declared.schedules.Schedule.{Schedule}
-use Rattle.schedule.specs.declared.standings.Place.{Place}
-use Rattle.schedule.specs.declared.standings.Place.TheVariants as places
-use Rattle.schedule.specs.declared.standings.Standing.{Standing}
-use Rattle.bounds_ranges.specs.declared.expressions.Asked.{Asked}
+use Rattle.schedule.specs.declared.placements.ComputeLevel.{ComputeLevel}
+use Rattle.schedule.specs.declared.placements.ComputeLevel.TheVariants as places
+use Rattle.schedule.specs.declared.placements.FuncPlacement.{FuncPlacement}
+use Rattle.bounds_ranges.specs.declared.expressions.ReadRange.{ReadRange}
 use Rattle.bounds_ranges.specs.declared.ranges.Range.{Range}
 use Rattle.bounds_ranges.specs.Ranges.{no_base, every, ends_of, widened}
 use Rattle.bounds_ranges.specs.Numbers.{origin}
@@ -56,7 +56,7 @@ taken_by consumer lasts range normal true = over_normal consumer lasts range nor
 taken_by consumer lasts range normal false = none_normal
 
 module _ (side : Side) (consumer : Option ConsumerLoop) where
-  one_kept : (lasts : List ℕ) (one : Asked) (rest : List Range) → IsNormal one.x.base × IsNormal one.y.base → AreKept (lasts_of consumer) rest → (test : Bool)
+  one_kept : (lasts : List ℕ) (one : ReadRange) (rest : List Range) → IsNormal one.x.base × IsNormal one.y.base → AreKept (lasts_of consumer) rest → (test : Bool)
       → AreKept (lasts_of consumer) (cond test (taken consumer lasts (side.of one) ∷ rest) rest)
   one_kept lasts one rest normal kept true = (
     record {
@@ -68,7 +68,7 @@ module _ (side : Side) (consumer : Option ConsumerLoop) where
   )
   one_kept lasts one rest normal kept false = kept
 
-  of_kept : (lasts : List ℕ) (source : Source) (asked : List Asked) → AreHeld IsNormal asked
+  of_kept : (lasts : List ℕ) (source : Source) (asked : List ReadRange) → AreHeld IsNormal asked
       → AreKept (lasts_of consumer) (asked_of side.of consumer lasts source asked)
   of_kept lasts source [] normal = tt
   of_kept lasts source (one ∷ others) normal =
@@ -192,7 +192,7 @@ module _ (pipeline : Pipeline) (schedule : Schedule) (rules : IsWellFormed pipel
     computed_normal consumer None e = tt
     computed_normal consumer (Some own) e = (func_least place func func_is behind normal consumer own e).normal
 
-    placed_normal : (where_ : Place) → IsNormalBox (placed_box pipeline schedule flags_here place func behind where_)
+    placed_normal : (where_ : ComputeLevel) → IsNormalBox (placed_box pipeline schedule flags_here place func behind where_)
     placed_normal places.Root = computed_normal None _ refl
     placed_normal (places.At at) = computed_normal (consumer_of at (slice_get schedule.funcs at.func) (box_at at.func (place + 1) behind)) _ refl
     placed_normal places.Inlined = tt
@@ -202,7 +202,7 @@ module _ (pipeline : Pipeline) (schedule : Schedule) (rules : IsWellFormed pipel
     reached_normal true own is = is
     reached_normal false own is = tt
 
-    func_normal : (standing : Option Standing) → IsNormalBox (func_box pipeline schedule flags_here place func behind standing)
+    func_normal : (standing : Option FuncPlacement) → IsNormalBox (func_box pipeline schedule flags_here place func behind standing)
     func_normal None = tt
     func_normal (Some standing) = reached_normal standing.is_reached _ (placed_normal standing.place)
 
@@ -229,7 +229,7 @@ module _ (pipeline : Pipeline) (schedule : Schedule) (rules : IsWellFormed pipel
       let here : (k : ℕ) → 0 + k ≡ k = λ k. omega arith in
       from_normal 0 pipeline.funcs (λ k. ap (λ (n : ℕ). slice_get pipeline.funcs n) (here k)) boxes.funcs (are_found pipeline schedule boxes is).funcs
 
--- ---- the boxes behind a Func
+-- ---- the boxes after a Func
 
 same_lists : {A : Type 0} (xs ys : List A) → ((n : ℕ) → slice_get xs n ≡ slice_get ys n) → xs ≡ ys
 same_lists [] [] same = refl
@@ -268,8 +268,8 @@ func_boxes_are_least pipeline schedule boxes rules accepted is place func standi
     let behind = drop (place + 1) boxes.funcs in
     let box = has_box pipeline schedule boxes accepted is place own own_is in
     let same = got box.standing standing (sym box.there.standing ∙ standing_is) in
-    let found = gathered_at pipeline schedule boxes is place standing standing_is (ap (λ (s : Standing). s.is_reached) (sym same) ∙ box.there.reached)
-    (subst (λ (s : Standing). IsComputed place s.place) same box.computed) consumer refl (Some own) own_is in
+    let found = gathered_at pipeline schedule boxes is place standing standing_is (ap (λ (s : FuncPlacement). s.is_reached) (sym same) ∙ box.there.reached)
+    (subst (λ (s : FuncPlacement). IsComputed place s.place) same box.computed) consumer refl (Some own) own_is in
     let computed : Some own ≡ computed_box pipeline schedule flags place func behind consumer =
     ◌∙◌ {b = computed_box pipeline schedule flags place found.func found.behind consumer} found.box_is
     (same_computed pipeline schedule flags place consumer found.func func found.behind behind (got found.func func (sym found.func_is ∙ func_is))
@@ -306,7 +306,7 @@ none_of lasts (column ∷ columns) (row ∷ rows) many e =
     absurd cc
 
 module _ (pipeline : Pipeline) (schedule : Schedule) (consumer : Option ConsumerLoop) (source : Source) where
-  as_many_of : (lasts : List ℕ) (asked : List Asked) → length (asked_of (λ read. read.x) consumer lasts source asked)
+  as_many_of : (lasts : List ℕ) (asked : List ReadRange) → length (asked_of (λ read. read.x) consumer lasts source asked)
       ≡ length (asked_of (λ read. read.y) consumer lasts source asked)
   as_many_of lasts [] = refl
   as_many_of lasts (read ∷ others) = by_test (same_source read.source source) (as_many_of lasts others)

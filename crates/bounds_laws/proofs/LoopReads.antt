@@ -11,10 +11,10 @@ use Rattle.halide_pipeline.specs.Points.{Point}
 use Rattle.schedule_lines.specs.declared.stages.LoopId.{LoopId}
 use Rattle.schedule.specs.declared.plans.FuncPlan.{FuncPlan}
 use Rattle.schedule.specs.declared.schedules.Schedule.{Schedule}
-use Rattle.schedule.specs.declared.standings.LoopPlace.{LoopPlace}
-use Rattle.schedule.specs.declared.standings.Place.{Place}
-use Rattle.schedule.specs.declared.standings.Place.TheVariants as places
-use Rattle.schedule.specs.declared.standings.Standing.{Standing}
+use Rattle.schedule.specs.declared.placements.LoopPlace.{LoopPlace}
+use Rattle.schedule.specs.declared.placements.ComputeLevel.{ComputeLevel}
+use Rattle.schedule.specs.declared.placements.ComputeLevel.TheVariants as places
+use Rattle.schedule.specs.declared.placements.FuncPlacement.{FuncPlacement}
 use Rattle.schedule.specs.Accepted.{IsProduced as HasConsumer, IsAccepted}
 use Rattle.schedule.specs.Legal.{is_inlined}
 use Rattle.schedule.specs.Uses.{IsReached, StandsWithin, Consumer, Computed}
@@ -46,21 +46,21 @@ given values source own Within (point ∷ points) within boxed = (
 )
 
 -- a reader at root, or at a loop of a later Func
-computed_place : (pipeline : Pipeline) (schedule : Schedule) → IsAccepted pipeline schedule → (reader : ℕ) (its : Standing)
+computed_place : (pipeline : Pipeline) (schedule : Schedule) → IsAccepted pipeline schedule → (reader : ℕ) (its : FuncPlacement)
     → slice_get schedule.standings reader ≡ Some its
-    → (func : Func) (plan : FuncPlan) (consuming : SourceBox) (id : LoopId) (turns : Values) (place : Place) (own : SourceBox) (x y : ℕ) → its.place ≡ place
-    → MayBeArguments func plan consuming id turns place own x y → IsComputed reader place × (is_inlined place ≡ false)
-computed_place pipeline schedule accepted reader its there func plan consuming id turns places.Root own x y placed may_be = (tt, refl)
-computed_place pipeline schedule accepted reader its there func plan consuming id turns (places.At at) own x y placed may_be =
+    → (func : Func) (plan : FuncPlan) (consuming : SourceBox) (id : LoopId) (iterations : Values) (place : ComputeLevel) (own : SourceBox) (x y : ℕ) → its.place ≡ place
+    → MayBeArguments func plan consuming id iterations place own x y → IsComputed reader place × (is_inlined place ≡ false)
+computed_place pipeline schedule accepted reader its there func plan consuming id iterations places.Root own x y placed may_be = (tt, refl)
+computed_place pipeline schedule accepted reader its there func plan consuming id iterations (places.At at) own x y placed may_be =
     (omega (arith, (numbered_at (HasConsumer pipeline schedule.funcs) 0 schedule.standings accepted.consumers reader its there at placed).later), refl)
-computed_place pipeline schedule accepted reader its there func plan consuming id turns places.Inlined own x y placed may_be = absurd may_be
-computed_place pipeline schedule accepted reader its there func plan consuming id turns places.Nowhere own x y placed may_be = absurd may_be
+computed_place pipeline schedule accepted reader its there func plan consuming id iterations places.Inlined own x y placed may_be = absurd may_be
+computed_place pipeline schedule accepted reader its there func plan consuming id iterations places.Nowhere own x y placed may_be = absurd may_be
 
 -- ---- each point of the Func at a loop is read within that loop
 
-module _ (pipeline : Pipeline) (schedule : Schedule) (accepted : IsAccepted pipeline schedule) (place : ℕ) (sought : Standing)
+module _ (pipeline : Pipeline) (schedule : Schedule) (accepted : IsAccepted pipeline schedule) (place : ℕ) (sought : FuncPlacement)
     (there : slice_get schedule.standings place ≡ Some sought)
-    (at : LoopPlace) (placed : sought.place ≡ places.At at) (reader : ℕ) (its : Standing) (its_there : IsReached schedule.standings reader its)
+    (at : LoopPlace) (placed : sought.place ≡ places.At at) (reader : ℕ) (its : FuncPlacement) (its_there : IsReached schedule.standings reader its)
     (computed : IsComputed reader its.place) (before : place < reader) where
   abbrev Within : Type 0
   Within = StandsWithin pipeline schedule.funcs schedule.standings at reader
@@ -73,7 +73,7 @@ module _ (pipeline : Pipeline) (schedule : Schedule) (accepted : IsAccepted pipe
   by_read func is through =
       let found = readers_stand_within pipeline schedule accepted reader its its_there computed func through in
       let own_is : found.own ≡ sought = same found.own sought (sym found.there.standing ∙ ap (λ (n : ℕ). slice_get schedule.standings n) is ∙ there) in
-      stands_so (found.within at (ap (λ (s : Standing). s.place) own_is ∙ placed))
+      stands_so (found.within at (ap (λ (s : FuncPlacement). s.place) own_is ∙ placed))
 
   one_within : (count : ℕ) (s : Source) → IsReadThrough pipeline schedule.standings reader count s → same_source s (sources.Func place) ≡ true → Within
   one_within count (sources.Input input) read e = absurd cc
@@ -91,16 +91,16 @@ module _ (pipeline : Pipeline) (schedule : Schedule) (accepted : IsAccepted pipe
 
 pub pure_reads_in_loops_lie : PureReadsInLoopsLie
 pure_reads_in_loops_lie pipeline schedule boxes rules accepted is place sought at there reached placed func plan consuming func_is plan_is consuming_is reader
-    reading its own before reading_is its_there its_reached own_is reads words turns x y may_be =
-    given (values_in plan at.inside turns) (sources.Func place) (slice_get boxes.funcs place) (StandsWithin pipeline schedule.funcs schedule.standings at
+    reading its own before reading_is its_there its_reached own_is reads words iterations x y may_be =
+    given (values_in plan at.inside iterations) (sources.Func place) (slice_get boxes.funcs place) (StandsWithin pipeline schedule.funcs schedule.standings at
     reader) (pure_points pipeline schedule reads reader reading x y)
     (all_within pipeline schedule accepted place sought there at placed reader its (record { standing = its_there; reached = its_reached })
-    (computed_place pipeline schedule accepted reader its its_there func plan consuming at.inside turns its.place own x y refl may_be).0 before reader
+    (computed_place pipeline schedule accepted reader its its_there func plan consuming at.inside iterations its.place own x y refl may_be).0 before reader
     (pure_points pipeline schedule reads reader reading x y)
     (pure_points_are_read_through pipeline schedule rules reader reading reading_is reads x y))
     (λ within.
     let seen = arguments_lie_in_views pipeline schedule boxes accepted is place sought at there reached placed func plan consuming func_is plan_is consuming_is
-    reader its own its_there its_reached own_is within turns x y may_be in
+    reader its own its_there its_reached own_is within iterations x y may_be in
     let produced : consumer_in schedule boxes.funcs sought.place ≡ Some (consumer_loop plan consuming at.inside) = consumer_is schedule boxes.funcs sought.place
     at at.func plan consuming placed refl plan_is consuming_is in
     let later : place < at.func = omega (
@@ -109,34 +109,34 @@ pure_reads_in_loops_lie pipeline schedule boxes rules accepted is place sought a
           placed).later,
     ) in
     let by_consumer : (consumer : Option ConsumerLoop) → consumer_in schedule boxes.funcs sought.place ≡ consumer
-    → values_for consumer (values_in plan at.inside turns) ≡ values_in plan at.inside turns
-    → IsSeenIn (values_in plan at.inside turns) consumer (view_of (slice_get schedule.funcs reader) (slice_get schedule.standings reader) own consumer) x y
-    → AreBoxed (values_in plan at.inside turns) (sources.Func place) (slice_get boxes.funcs place) (pure_points pipeline schedule reads reader reading x y) =
+    → values_for consumer (values_in plan at.inside iterations) ≡ values_in plan at.inside iterations
+    → IsSeenIn (values_in plan at.inside iterations) consumer (view_of (slice_get schedule.funcs reader) (slice_get schedule.standings reader) own consumer) x y
+    → AreBoxed (values_in plan at.inside iterations) (sources.Func place) (slice_get boxes.funcs place) (pure_points pipeline schedule reads reader reading x y) =
     λ consumer h v s.
     subst (λ (l : List ℕ). AreBoxed l (sources.Func place) (slice_get boxes.funcs place) (pure_points pipeline schedule reads reader reading x y)) v
     (pure_reads_of_funcs_lie pipeline schedule boxes rules is reader reading own reading_is own_is place sought before there reached
-    (subst (λ (p : Place). IsComputed place p) (sym placed) later) consumer h
-    (view_of (slice_get schedule.funcs reader) (slice_get schedule.standings reader) own consumer) refl reads words (values_in plan at.inside turns) s.below
+    (subst (λ (p : ComputeLevel). IsComputed place p) (sym placed) later) consumer h
+    (view_of (slice_get schedule.funcs reader) (slice_get schedule.standings reader) own consumer) refl reads words (values_in plan at.inside iterations) s.below
     (subst (λ (l : List ℕ). Below l (lasts_of consumer)) (sym v) s.produced) x y s.lies) in
     by_consumer (Some (consumer_loop plan consuming at.inside)) produced refl
-    (subst (λ (h : Option ConsumerLoop). IsSeenIn (values_in plan at.inside turns) h (view_of (slice_get schedule.funcs reader) (slice_get schedule.standings
+    (subst (λ (h : Option ConsumerLoop). IsSeenIn (values_in plan at.inside iterations) h (view_of (slice_get schedule.funcs reader) (slice_get schedule.standings
     reader) own h) x y) produced seen))
 
 pub update_reads_in_loops_lie : UpdateReadsInLoopsLie
 update_reads_in_loops_lie pipeline schedule boxes rules accepted is place sought at there reached placed func plan consuming func_is plan_is consuming_is reader
-    reading its own before reading_is its_there its_reached own_is number_at update update_is reads words turns x y may_be near_x near_y number few =
-    given (values_in plan at.inside turns) (sources.Func place) (slice_get boxes.funcs place) (StandsWithin pipeline schedule.funcs schedule.standings at
+    reading its own before reading_is its_there its_reached own_is number_at update update_is reads words iterations x y may_be near_x near_y number few =
+    given (values_in plan at.inside iterations) (sources.Func place) (slice_get boxes.funcs place) (StandsWithin pipeline schedule.funcs schedule.standings at
     reader) (update_points pipeline schedule reads reader update number x y)
     (all_within pipeline schedule accepted place sought there at placed reader its (record { standing = its_there; reached = its_reached })
-    (computed_place pipeline schedule accepted reader its its_there func plan consuming at.inside turns its.place own x y refl may_be).0 before (suc reader)
+    (computed_place pipeline schedule accepted reader its its_there func plan consuming at.inside iterations its.place own x y refl may_be).0 before (suc reader)
     (update_points pipeline schedule reads reader update number x y)
     (update_points_are_read_through pipeline schedule rules reader reading reading_is
-    (flag_is schedule.standings reader its its_there ∙ (computed_place pipeline schedule accepted reader its its_there func plan consuming at.inside turns
+    (flag_is schedule.standings reader its its_there ∙ (computed_place pipeline schedule accepted reader its its_there func plan consuming at.inside iterations
     its.place own x y refl may_be).1)
     number_at update update_is reads number x y))
     (λ within.
     let seen = arguments_lie_in_views pipeline schedule boxes accepted is place sought at there reached placed func plan consuming func_is plan_is consuming_is
-    reader its own its_there its_reached own_is within turns x y may_be in
+    reader its own its_there its_reached own_is within iterations x y may_be in
     let produced : consumer_in schedule boxes.funcs sought.place ≡ Some (consumer_loop plan consuming at.inside) = consumer_is schedule boxes.funcs sought.place
     at at.func plan consuming placed refl plan_is consuming_is in
     let later : place < at.func = omega (
@@ -145,16 +145,16 @@ update_reads_in_loops_lie pipeline schedule boxes rules accepted is place sought
           placed).later,
     ) in
     let by_consumer : (consumer : Option ConsumerLoop) → consumer_in schedule boxes.funcs sought.place ≡ consumer
-    → values_for consumer (values_in plan at.inside turns) ≡ values_in plan at.inside turns
-    → IsSeenIn (values_in plan at.inside turns) consumer (view_of (slice_get schedule.funcs reader) (slice_get schedule.standings reader) own consumer) x y
-    → AreBoxed (values_in plan at.inside turns) (sources.Func place) (slice_get boxes.funcs place) (update_points pipeline schedule reads reader update number x
+    → values_for consumer (values_in plan at.inside iterations) ≡ values_in plan at.inside iterations
+    → IsSeenIn (values_in plan at.inside iterations) consumer (view_of (slice_get schedule.funcs reader) (slice_get schedule.standings reader) own consumer) x y
+    → AreBoxed (values_in plan at.inside iterations) (sources.Func place) (slice_get boxes.funcs place) (update_points pipeline schedule reads reader update number x
     y) =
     λ consumer h v s.
     subst (λ (l : List ℕ). AreBoxed l (sources.Func place) (slice_get boxes.funcs place) (update_points pipeline schedule reads reader update number x y)) v
     (update_reads_of_funcs_lie pipeline schedule boxes rules is reader reading own reading_is own_is number_at update update_is place sought before there
-    reached (subst (λ (p : Place). IsComputed place p) (sym placed) later) consumer h
-    (view_of (slice_get schedule.funcs reader) (slice_get schedule.standings reader) own consumer) refl reads words (values_in plan at.inside turns) s.below
+    reached (subst (λ (p : ComputeLevel). IsComputed place p) (sym placed) later) consumer h
+    (view_of (slice_get schedule.funcs reader) (slice_get schedule.standings reader) own consumer) refl reads words (values_in plan at.inside iterations) s.below
     (subst (λ (l : List ℕ). Below l (lasts_of consumer)) (sym v) s.produced) x y s.lies near_x near_y number few) in
     by_consumer (Some (consumer_loop plan consuming at.inside)) produced refl
-    (subst (λ (h : Option ConsumerLoop). IsSeenIn (values_in plan at.inside turns) h (view_of (slice_get schedule.funcs reader) (slice_get schedule.standings
+    (subst (λ (h : Option ConsumerLoop). IsSeenIn (values_in plan at.inside iterations) h (view_of (slice_get schedule.funcs reader) (slice_get schedule.standings
     reader) own h) x y) produced seen))

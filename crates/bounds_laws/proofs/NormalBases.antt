@@ -11,7 +11,7 @@ use Rattle.schedule_loops.specs.declared.extents.Extents.{Extents}
 use Rattle.schedule_loops.specs.Visits.{strides}
 use Rattle.schedule_loops.specs.Reach.{reach, has_uneven}
 use Rattle.schedule.specs.declared.plans.FuncPlan.{FuncPlan}
-use Rattle.schedule.specs.declared.standings.Standing.{Standing}
+use Rattle.schedule.specs.declared.placements.FuncPlacement.{FuncPlacement}
 use Rattle.bounds_ranges.specs.declared.bases.Multiple.{Multiple}
 use Rattle.bounds_ranges.specs.declared.ranges.Range.{Range}
 use Rattle.bounds_ranges.specs.Ranges.{cut, zero_multiple, no_base, add_base, negated, times_base, ends_of, fit}
@@ -108,7 +108,7 @@ view_by plan own consumer normal true = root_normal plan own consumer normal
 view_by plan own consumer normal false =
     (chosen_normal (λ at. not (nat_lt at consumer.inner)) 0 own.x.base normal.0, chosen_normal (λ at. not (nat_lt at consumer.inner)) 0 own.y.base normal.1)
 
-pub view_normal : (plan : Option FuncPlan) (standing : Option Standing) (own : SourceBox) (consumer : Option ConsumerLoop) → IsNormalBox (Some own)
+pub view_normal : (plan : Option FuncPlan) (standing : Option FuncPlacement) (own : SourceBox) (consumer : Option ConsumerLoop) → IsNormalBox (Some own)
     → IsNormalBox (Some (view_of plan standing own consumer))
 view_normal plan standing own None normal = normal
 view_normal plan standing own (Some consumer) normal = view_by plan own consumer normal (is_root_at standing)

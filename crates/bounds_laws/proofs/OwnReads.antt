@@ -13,8 +13,8 @@ use Rattle.halide_pipeline.specs.WellFormed.{is_first_in_place, is_second_in_pla
 use Rattle.halide_pipeline.specs.Pipelines.{Pipeline}
 use Rattle.halide_pipeline.specs.Points.{Point}
 use Rattle.schedule.specs.declared.schedules.Schedule.{Schedule}
-use Rattle.schedule.specs.declared.standings.Place.{Place}
-use Rattle.schedule.specs.declared.standings.Standing.{Standing}
+use Rattle.schedule.specs.declared.placements.ComputeLevel.{ComputeLevel}
+use Rattle.schedule.specs.declared.placements.FuncPlacement.{FuncPlacement}
 use Rattle.bounds_ranges.specs.declared.ranges.Range.{Range}
 use Rattle.bounds_ranges.specs.Laws.{Below, Lies, AllLie}
 use Rattle.bounds_ranges.specs.Numbers.{origin}
@@ -36,7 +36,7 @@ use Rattle.bounds_laws.proofs.UpdateReads.{update_lies}
 
 -- ---- the box of the Func at a place is what is gathered for it
 
-module _ (pipeline : Pipeline) (schedule : Schedule) (boxes : Boxes) (is : inferred pipeline schedule ≡ Ok boxes) (place : ℕ) (sought : Standing)
+module _ (pipeline : Pipeline) (schedule : Schedule) (boxes : Boxes) (is : inferred pipeline schedule ≡ Ok boxes) (place : ℕ) (sought : FuncPlacement)
     (there : slice_get schedule.standings place ≡ Some sought)
     (reached : sought.is_reached ≡ true) (computed : IsComputed place sought.place) (consumer : Option ConsumerLoop) (consumer_is : consumer_in schedule
     boxes.funcs sought.place ≡ consumer) where
@@ -93,10 +93,10 @@ output_lies pipeline schedule boxes rules is sought there reached root x y insid
     flags_here = flags_of schedule.standings
 
     computed : IsComputed place sought.place
-    computed = subst (λ (p : Place). IsComputed place p) (sym root) tt
+    computed = subst (λ (p : ComputeLevel). IsComputed place p) (sym root) tt
 
     consumer_is : consumer_in schedule boxes.funcs sought.place ≡ None
-    consumer_is = ap (λ (p : Place). consumer_in schedule boxes.funcs p) root
+    consumer_is = ap (λ (p : ComputeLevel). consumer_in schedule boxes.funcs p) root
 
     extents : (is_width pipeline.output.width ≡ true) × (is_height pipeline.output.width pipeline.output.height ≡ true)
     extents = and_parts (is_width pipeline.output.width) (is_height pipeline.output.width pipeline.output.height) rules.output
@@ -203,10 +203,10 @@ own_reads_lie pipeline schedule boxes rules is reader func sought func_is there 
     second = not (is_second_in_place update)
 
     computed : IsComputed reader sought.place
-    computed = subst (λ (p : Place). IsComputed reader p) (sym root) tt
+    computed = subst (λ (p : ComputeLevel). IsComputed reader p) (sym root) tt
 
     consumer_is : consumer_in schedule boxes.funcs sought.place ≡ None
-    consumer_is = ap (λ (p : Place). consumer_in schedule boxes.funcs p) root
+    consumer_is = ap (λ (p : ComputeLevel). consumer_in schedule boxes.funcs p) root
 
     anywhere_lies : (z : ℕ) → z < 2 ^ 32 → IsNear z → Lies no_loops no_loops unplaced.x z
     anywhere_lies z word near = plain_lies no_loops no_loops no_below (record { low = origin - 2 ^ 24; high = origin + 2 ^ 24 }) z word

@@ -10,7 +10,7 @@ use Rattle.halide_pipeline.specs.WellFormed.{is_first_in_place, is_second_in_pla
 use Rattle.halide_pipeline.specs.Pipelines.{Pipeline}
 use Rattle.halide_pipeline.specs.Points.{Point}
 use Rattle.schedule.specs.declared.schedules.Schedule.{Schedule}
-use Rattle.bounds_ranges.specs.declared.expressions.Asked.{Asked}
+use Rattle.bounds_ranges.specs.declared.expressions.ReadRange.{ReadRange}
 use Rattle.bounds_ranges.specs.declared.ranges.Range.{Range}
 use Rattle.bounds_ranges.specs.Laws.{Below, Lies, LiesAt, AllLie}
 use Rattle.bounds.specs.declared.boxes.ConsumerLoop.{ConsumerLoop}
@@ -48,7 +48,7 @@ module _ (consumer : Option ConsumerLoop) (values : List ℕ) (below : Below (va
     abbrev Part : Spread → ℕ → ℕ → Type 0
     Part spread x y = InPart (lasts_of consumer) (values_for consumer values) counts_first counts_second spread x y
 
-    next_keeps : (lasts : List ℕ) (first second test : Bool) (spread : Spread) (read : Asked) (x y : ℕ) → Part spread x y
+    next_keeps : (lasts : List ℕ) (first second test : Bool) (spread : Spread) (read : ReadRange) (x y : ℕ) → Part spread x y
         → Part (if test then with_read consumer lasts first second spread read else spread) x y
     next_keeps lasts first second true spread read x y lies = record {
       first = λ e. joined_keeps (lasts_of consumer) (values_for consumer values) below first spread.x (taken consumer lasts read.x) x (lies.first e);
@@ -56,7 +56,7 @@ module _ (consumer : Option ConsumerLoop) (values : List ℕ) (below : Below (va
     }
     next_keeps lasts first second false spread read x y lies = lies
 
-    gathered_keep : (lasts : List ℕ) (source : Source) (first second : Bool) (spread : Spread) (asked : List Asked) (x y : ℕ) → Part spread x y
+    gathered_keep : (lasts : List ℕ) (source : Source) (first second : Bool) (spread : Spread) (asked : List ReadRange) (x y : ℕ) → Part spread x y
         → Part (gathered consumer lasts source first second spread asked) x y
     gathered_keep lasts source first second spread [] x y lies = lies
     gathered_keep lasts source first second spread (read ∷ others) x y lies =
@@ -101,7 +101,7 @@ module _ (consumer : Option ConsumerLoop) (values : List ℕ) (below : Below (va
 
     -- ---- what is asked, in the dimensions that are gathered
 
-    part_takes : (lasts : List ℕ) → Below values lasts → (spread : Spread) (read : Asked) (point : Point) → IsSpread (lasts_of consumer) spread
+    part_takes : (lasts : List ℕ) → Below values lasts → (spread : Spread) (read : ReadRange) (point : Point) → IsSpread (lasts_of consumer) spread
         → LiesAt lasts values read point → Part (with_read consumer lasts counts_first counts_second spread read) point.x point.y
     part_takes lasts own spread read point fits lies = record {
       first = λ e. joined_part (lasts_of consumer) (values_for consumer values) below counts_first spread.x (taken consumer lasts read.x) point.x e fits.x
@@ -110,7 +110,7 @@ module _ (consumer : Option ConsumerLoop) (values : List ℕ) (below : Below (va
           (taken_lies consumer lasts values own below read.y point.y lies.y);
     }
 
-    pub gathered_part : (lasts : List ℕ) → Below values lasts → (source : Source) (spread : Spread) (asked : List Asked) (points : List Point)
+    pub gathered_part : (lasts : List ℕ) → Below values lasts → (source : Source) (spread : Spread) (asked : List ReadRange) (points : List Point)
         → IsSpread (lasts_of consumer) spread → AllLie lasts values asked points
         → HoldsPart (lasts_of consumer) (values_for consumer values) counts_first counts_second source (gathered consumer lasts source counts_first
         counts_second

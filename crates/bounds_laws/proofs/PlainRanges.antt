@@ -2,7 +2,7 @@
 use Rattle.std.proofs.Common.{◌≡◌, ℕ, ◌*◌, List, [], ◌∷◌, refl, ap, ◌∙◌, arith}
 use Rattle.halide_pipeline.specs.Points.{Point}
 use Rattle.bounds_ranges.specs.declared.bases.Multiple.{Multiple}
-use Rattle.bounds_ranges.specs.declared.expressions.Asked.{Asked}
+use Rattle.bounds_ranges.specs.declared.expressions.ReadRange.{ReadRange}
 use Rattle.bounds_ranges.specs.declared.ranges.Range.{Range}
 use Rattle.bounds_ranges.specs.Ranges.{cut, zero_multiple, times_multiple, no_base, add_base, negated, times_base, more_sum, less_sum}
 use Rattle.bounds_ranges.specs.Laws.{Lies, AllLie}
@@ -40,7 +40,7 @@ lies_under lasts values range x plain lies =
       fits_high = omega (arith, lies.fits_high, more lasts);
     }
 
-pub all_under : (lasts values : List ℕ) (asked : List Asked) (points : List Point) → AreHeld IsNone asked → AllLie no_loops no_loops asked points
+pub all_under : (lasts values : List ℕ) (asked : List ReadRange) (points : List Point) → AreHeld IsNone asked → AllLie no_loops no_loops asked points
     → AllLie lasts values asked points
 all_under lasts values [] [] plain all = tt
 all_under lasts values [] (point ∷ points) plain all = absurd all

@@ -9,7 +9,7 @@ use Rattle.halide_pipeline.specs.declared.expressions.Source.TheVariants as sour
 use Rattle.halide_pipeline.specs.WellFormed.{is_first_in_place, is_second_in_place}
 use Rattle.halide_pipeline.specs.Pipelines.{Pipeline}
 use Rattle.halide_pipeline.specs.Points.{Point}
-use Rattle.bounds_ranges.specs.declared.expressions.Asked.{Asked}
+use Rattle.bounds_ranges.specs.declared.expressions.ReadRange.{ReadRange}
 use Rattle.bounds_ranges.specs.Laws.{Below, Lies, AllLie}
 use Rattle.bounds_ranges.specs.Numbers.{origin}
 use Rattle.bounds_ranges.proofs.Lying.{plain_lies}
@@ -31,7 +31,7 @@ use Rattle.bounds_laws.proofs.UpdateReads.{update_lies}
 
 -- ---- a Func at a loop gathers the same whatever loops its reader has
 
-gathered_any : (consumer : ConsumerLoop) (lasts other : List ℕ) (source : Source) (first second : Bool) (spread : Spread) (asked : List Asked)
+gathered_any : (consumer : ConsumerLoop) (lasts other : List ℕ) (source : Source) (first second : Bool) (spread : Spread) (asked : List ReadRange)
     → gathered (Some consumer) lasts source first second spread asked ≡ gathered (Some consumer) other source first second spread asked
 gathered_any consumer lasts other source first second spread [] = refl
 gathered_any consumer lasts other source first second spread (read ∷ others) =

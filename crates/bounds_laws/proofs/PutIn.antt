@@ -15,9 +15,9 @@ use Rattle.halide_pipeline.specs.declared.environments.Environment.{Environment}
 use Rattle.halide_pipeline.specs.Pixel.{Reads}
 use Rattle.halide_pipeline.specs.Points.{Seen}
 use Rattle.schedule.specs.declared.schedules.Schedule.{Schedule}
-use Rattle.schedule.specs.declared.standings.Standing.{Standing}
+use Rattle.schedule.specs.declared.placements.FuncPlacement.{FuncPlacement}
 use Rattle.schedule.specs.Accepted.{IsAccepted, Pairwise, IsPlan, IsLegal}
-use Rattle.schedule.specs.Standing.{is_func, calls, updates_call, func_calls, place_calls, place_calls_of}
+use Rattle.schedule.specs.Placements.{is_func, calls, updates_call, func_calls, place_calls, place_calls_of}
 use Rattle.schedule.specs.Legal.{is_inlined}
 use Rattle.schedule.specs.Uses.{IsReached}
 use Rattle.schedule.proofs.Uses.{IsSome}
@@ -50,7 +50,7 @@ pair_length P (a ∷ xs) (b ∷ ys) all = ap suc (pair_length P xs ys all.1)
 
 -- ---- which Funcs are reached
 
-abbrev pub is_reached : Option Standing → Bool
+abbrev pub is_reached : Option FuncPlacement → Bool
 is_reached None = false
 is_reached (Some own) = own.is_reached
 
@@ -64,19 +64,19 @@ module _ (pipeline : Pipeline) (schedule : Schedule) where
   abbrev pub flags : ℕ → Bool
   flags = flagged (flags_of schedule.standings)
 
-  agree_by : (place : ℕ) (own : Option Standing) → slice_get schedule.standings place ≡ own → is_reached own ≡ true → flags place ≡ is_put_in own
+  agree_by : (place : ℕ) (own : Option FuncPlacement) → slice_get schedule.standings place ≡ own → is_reached own ≡ true → flags place ≡ is_put_in own
   agree_by place None is r = absurd cc
   agree_by place (Some own) is r = flag_is schedule.standings place own is ∙ sym (ap (λ (b : Bool). b && is_inlined own.place) r)
 
   pub agree : (place : ℕ) → reached place ≡ true → flags place ≡ put place
   agree place r = agree_by place (slice_get schedule.standings place) refl r
 
-  pub there_by : (place : ℕ) (own : Option Standing) → slice_get schedule.standings place ≡ own → is_reached own ≡ true → IsSome own × ((its : Standing)
+  pub there_by : (place : ℕ) (own : Option FuncPlacement) → slice_get schedule.standings place ≡ own → is_reached own ≡ true → IsSome own × ((its : FuncPlacement)
       → own ≡ Some its → IsReached schedule.standings place its)
   there_by place None is r = absurd cc
   there_by place (Some own) is r = (
     record { value = own; is = refl },
-    λ its e. record { standing = is ∙ e; reached = let same : own ≡ its = cc in ap (λ (s : Standing). s.is_reached) (sym same) ∙ r },
+    λ its e. record { standing = is ∙ e; reached = let same : own ≡ its = cc in ap (λ (s : FuncPlacement). s.is_reached) (sym same) ∙ r },
   )
 
   -- ---- an expression whose Funcs are reached
@@ -234,7 +234,7 @@ module _ (pipeline : Pipeline) (schedule : Schedule) where
   pub put_simple : IsAccepted pipeline schedule → AreSimple put pipeline.funcs
   put_simple accepted place func is flag = by_standing (slice_get schedule.standings place) refl flag
     where
-      by_standing : (own : Option Standing) → slice_get schedule.standings place ≡ own → is_put_in own ≡ true → length func.updates ≡ 0
+      by_standing : (own : Option FuncPlacement) → slice_get schedule.standings place ≡ own → is_put_in own ≡ true → length func.updates ≡ 0
       by_standing None found e = absurd cc
       by_standing (Some own) found e =
           let k = and_parts own.is_reached (is_inlined own.place) e in

@@ -10,13 +10,13 @@ use Rattle.halide_pipeline.specs.declared.expressions.Source.TheVariants as sour
 use Rattle.halide_pipeline.specs.Pipelines.{Pipeline}
 use Rattle.schedule.specs.declared.plans.FuncPlan.{FuncPlan}
 use Rattle.schedule.specs.declared.schedules.Schedule.{Schedule}
-use Rattle.schedule.specs.declared.standings.Place.{Place}
-use Rattle.schedule.specs.declared.standings.Place.TheVariants as places
-use Rattle.schedule.specs.declared.standings.Standing.{Standing}
+use Rattle.schedule.specs.declared.placements.ComputeLevel.{ComputeLevel}
+use Rattle.schedule.specs.declared.placements.ComputeLevel.TheVariants as places
+use Rattle.schedule.specs.declared.placements.FuncPlacement.{FuncPlacement}
 use Rattle.schedule.specs.Accepted.{IsAccepted, IsProduced, IsLegal, IsPlan, IsComputed as Legal}
-use Rattle.schedule.specs.Standing.{calls, updates_call, func_calls, place_calls, place_calls_of, is_read, standings_from}
+use Rattle.schedule.specs.Placements.{calls, updates_call, func_calls, place_calls, place_calls_of, is_read, standings_from}
 use Rattle.schedule.specs.Legal.{is_root, is_inlined, is_nowhere}
-use Rattle.schedule.specs.Standing as standing
+use Rattle.schedule.specs.Placements as standing
 use Rattle.schedule.specs.Uses.{IsReached}
 use Rattle.schedule.proofs.Uses.{IsSome, numbered_at, output_standing}
 use Rattle.schedule_loops.proofs.AcceptedStages.{pair_at}
@@ -67,15 +67,15 @@ module _ (pipeline : Pipeline) (schedule : Schedule) (flags : List Bool) where
 
 -- ---- a reached Func that isn't the output is called by a later one that is reached
 
-record IsCalledIn (pipeline : Pipeline) (func at : ℕ) (rest : List Standing) : Type 0 where
+record IsCalledIn (pipeline : Pipeline) (func at : ℕ) (rest : List FuncPlacement) : Type 0 where
   place : ℕ
-  its : Standing
+  its : FuncPlacement
   found : slice_get rest place ≡ Some its
   reached : its.is_reached ≡ true
   called : place_calls pipeline (at + place) func ≡ true
 
 module _ (pipeline : Pipeline) where
-  abbrev next_called : (func at : ℕ) (first : Standing) (others : List Standing) → IsCalledIn pipeline func (at + 1) others
+  abbrev next_called : (func at : ℕ) (first : FuncPlacement) (others : List FuncPlacement) → IsCalledIn pipeline func (at + 1) others
       → IsCalledIn pipeline func at (first ∷ others)
   next_called func at first others c = record {
     place = suc c.place;
@@ -85,7 +85,7 @@ module _ (pipeline : Pipeline) where
     called = subst (λ (n : ℕ). place_calls pipeline n func ≡ true) (omega arith) c.called;
   }
 
-  called_in : (func at : ℕ) (rest : List Standing) → is_read pipeline func at rest ≡ true → IsCalledIn pipeline func at rest
+  called_in : (func at : ℕ) (rest : List FuncPlacement) → is_read pipeline func at rest ≡ true → IsCalledIn pipeline func at rest
   called_in func at [] e = absurd cc
   called_in func at (first ∷ others) e = elim (or_cases (first.is_reached && place_calls pipeline at func) (is_read pipeline func (at + 1) others) e) [
     | inl l ↦
@@ -94,7 +94,7 @@ module _ (pipeline : Pipeline) where
     | inr r ↦ next_called func at first others (called_in func (at + 1) others r)
   ]
 
-  called_later : (plans : List FuncPlan) (at : ℕ) (rest : List FuncPlan) (k func : ℕ) → at + k ≡ func → (own : Standing)
+  called_later : (plans : List FuncPlan) (at : ℕ) (rest : List FuncPlan) (k func : ℕ) → at + k ≡ func → (own : FuncPlacement)
       → slice_get (standings_from pipeline plans at rest) k ≡ Some own
       → own.is_reached ≡ true → (func ≡ pipeline.output.func → ⊥) → (c : IsCalledIn pipeline func at (standings_from pipeline plans at rest)) × (k < c.place)
   called_later plans at [] k func place own found reached other = absurd cc
@@ -103,7 +103,7 @@ module _ (pipeline : Pipeline) where
       (next_called func at _ (standings_from pipeline plans (at + 1) others) c.0, omega (arith, c.1))
   called_later plans at (first ∷ others) zero func place own found reached other =
       let behind = standings_from pipeline plans (at + 1) others in
-      let raised : standing.is_reached pipeline at behind ≡ true = ap (λ (s : Standing). s.is_reached) (got (standing.standing pipeline plans at first behind)
+      let raised : standing.is_reached pipeline at behind ≡ true = ap (λ (s : FuncPlacement). s.is_reached) (got (standing.standing pipeline plans at first behind)
       own found) ∙ reached in
       elim (or_cases (at == pipeline.output.func) (is_read pipeline at (at + 1) behind) raised) [
         | inl l ↦ absurd (other (omega (arith, place, eqb-true at pipeline.output.func l)))
@@ -131,7 +131,7 @@ module _ (pipeline : Pipeline) (schedule : Schedule) (boxes : Boxes) (accepted :
     funcs_are_many : length pipeline.funcs ≡ length schedule.standings
     funcs_are_many = pair_length IsPlan pipeline.funcs schedule.funcs accepted.plans ∙ pair_length IsLegal schedule.funcs schedule.standings accepted.legal
 
-    placed_so : (place : ℕ) (own : Standing) → IsReached schedule.standings place own → is_inlined own.place ≡ false → IsComputed place own.place
+    placed_so : (place : ℕ) (own : FuncPlacement) → IsReached schedule.standings place own → is_inlined own.place ≡ false → IsComputed place own.place
     placed_so place own there plain = by_place own.place refl plain legal.somewhere
       where
         plan : IsSome (slice_get schedule.funcs place)
@@ -145,7 +145,7 @@ module _ (pipeline : Pipeline) (schedule : Schedule) (boxes : Boxes) (accepted :
         produced = subst (λ (n : ℕ). IsProduced pipeline schedule.funcs n own) (omega arith) (numbered_at (IsProduced pipeline schedule.funcs) 0
             schedule.standings accepted.consumers place own there.standing)
 
-        by_place : (p : Place) → own.place ≡ p → is_inlined p ≡ false → is_nowhere p ≡ false → IsComputed place p
+        by_place : (p : ComputeLevel) → own.place ≡ p → is_inlined p ≡ false → is_nowhere p ≡ false → IsComputed place p
         by_place places.Root e not_inlined somewhere = tt
         by_place (places.At consumer) e not_inlined somewhere = (produced consumer e).later
         by_place places.Inlined e not_inlined somewhere = absurd cc
@@ -155,19 +155,19 @@ module _ (pipeline : Pipeline) (schedule : Schedule) (boxes : Boxes) (accepted :
     record HasCaller (func : ℕ) : Type 0 where
       reader : ℕ
       later : func < reader
-      its : Standing
+      its : FuncPlacement
       there : IsReached schedule.standings reader its
       own : Func
       own_is : slice_get pipeline.funcs reader ≡ Some own
       calls : func_calls func own ≡ true
 
-    has_caller : (func : ℕ) (own : Standing) → IsReached schedule.standings func own → (func ≡ pipeline.output.func → ⊥) → HasCaller func
+    has_caller : (func : ℕ) (own : FuncPlacement) → IsReached schedule.standings func own → (func ≡ pipeline.output.func → ⊥) → HasCaller func
     unfolding place_calls
     has_caller func own there other =
-        let standing_is = sym (ap (λ (l : List Standing). slice_get l func) standings_are) ∙ there.standing in
+        let standing_is = sym (ap (λ (l : List FuncPlacement). slice_get l func) standings_are) ∙ there.standing in
         let called = called_later pipeline schedule.funcs 0 schedule.funcs func func (omega arith) own standing_is there.reached other in
         let c = called.0 in
-        let found : slice_get schedule.standings c.place ≡ Some c.its = ap (λ (l : List Standing). slice_get l c.place) standings_are ∙ c.found in
+        let found : slice_get schedule.standings c.place ≡ Some c.its = ap (λ (l : List FuncPlacement). slice_get l c.place) standings_are ∙ c.found in
         let f = same_length schedule.standings pipeline.funcs c.place c.its (sym funcs_are_many) found in
         let here : 0 + c.place ≡ c.place = omega arith in
         record {
@@ -184,7 +184,7 @@ module _ (pipeline : Pipeline) (schedule : Schedule) (boxes : Boxes) (accepted :
     record IsAsked (sought : ℕ) : Type 0 where
       reader : ℕ
       later : sought < reader
-      its : Standing
+      its : FuncPlacement
       there : IsReached schedule.standings reader its
       plain : is_inlined its.place ≡ false
       own : Func
@@ -218,13 +218,13 @@ module _ (pipeline : Pipeline) (schedule : Schedule) (boxes : Boxes) (accepted :
           ]
           pure (update ∷ others) e called = absurd (omega (arith, e))
 
-      not_output : (reader : ℕ) (its : Standing) → IsReached schedule.standings reader its → is_inlined its.place ≡ true → reader ≡ pipeline.output.func → ⊥
+      not_output : (reader : ℕ) (its : FuncPlacement) → IsReached schedule.standings reader its → is_inlined its.place ≡ true → reader ≡ pipeline.output.func → ⊥
       not_output reader its there flag e =
           let root = output_standing pipeline schedule.funcs its (sym (ap (λ (n : ℕ). slice_get (standings_from pipeline schedule.funcs 0 schedule.funcs) n) e)
-          ∙ sym (ap (λ (l : List Standing). slice_get l reader) standings_are) ∙ there.standing) in
+          ∙ sym (ap (λ (l : List FuncPlacement). slice_get l reader) standings_are) ∙ there.standing) in
           true≢false (sym flag ∙ ap is_inlined root.1)
 
-      is_asked : (fuel func : ℕ) → length schedule.standings ≤ func + fuel → sought ≤ func → (own : Standing) → IsReached schedule.standings func own
+      is_asked : (fuel func : ℕ) → length schedule.standings ≤ func + fuel → sought ≤ func → (own : FuncPlacement) → IsReached schedule.standings func own
           → (func ≡ pipeline.output.func → ⊥)
           → LeadsThere func → IsAsked sought
       is_asked zero func le after own there other leads = absurd (omega (arith, le, slice_get_within schedule.standings func own there.standing))
@@ -249,8 +249,8 @@ module _ (pipeline : Pipeline) (schedule : Schedule) (boxes : Boxes) (accepted :
     abbrev IsBoxed : ℕ → Type 0
     IsBoxed place = (own : SourceBox) × (slice_get boxes.funcs place ≡ Some (Some own))
 
-    module _ (place : ℕ) (own : Standing) (there : IsReached schedule.standings place own) (plain : is_inlined own.place ≡ false)
-        (behind : (reader : ℕ) (its : Standing) → place < reader → IsReached schedule.standings reader its → is_inlined its.place ≡ false
+    module _ (place : ℕ) (own : FuncPlacement) (there : IsReached schedule.standings place own) (plain : is_inlined own.place ≡ false)
+        (behind : (reader : ℕ) (its : FuncPlacement) → place < reader → IsReached schedule.standings reader its → is_inlined its.place ≡ false
         → IsBoxed reader) where
       consumer : Option ConsumerLoop
       consumer = consumer_in schedule boxes.funcs own.place
@@ -293,7 +293,7 @@ module _ (pipeline : Pipeline) (schedule : Schedule) (boxes : Boxes) (accepted :
           by_box None e some = absurd cc
           by_box (Some other) e some = (other, e)
 
-    boxed : (fuel place : ℕ) → length schedule.standings ≤ place + fuel → (own : Standing) → IsReached schedule.standings place own
+    boxed : (fuel place : ℕ) → length schedule.standings ≤ place + fuel → (own : FuncPlacement) → IsReached schedule.standings place own
         → is_inlined own.place ≡ false
         → IsBoxed place
     boxed zero place le own there plain = absurd (omega (arith, le, slice_get_within schedule.standings place own there.standing))
@@ -312,7 +312,7 @@ boxes_are_of_reached_funcs pipeline schedule boxes accepted is place =
     same_tests (is_some (box_in (slice_get boxes.funcs place))) (is_computed_there (slice_get schedule.standings place))
     (by_box (slice_get boxes.funcs place) refl) (by_standing (slice_get schedule.standings place) refl)
   where
-    not_inlined : (p : Place) → IsComputed place p → is_inlined p ≡ false
+    not_inlined : (p : ComputeLevel) → IsComputed place p → is_inlined p ≡ false
     not_inlined places.Root computed = refl
     not_inlined (places.At consumer) computed = refl
     not_inlined places.Inlined computed = absurd computed
@@ -328,7 +328,7 @@ boxes_are_of_reached_funcs pipeline schedule boxes accepted is place =
         ∙ and_from h.standing.is_reached (not (is_inlined h.standing.place)) h.there.reached (not_from_false (is_inlined h.standing.place)
         (not_inlined h.standing.place h.computed))
 
-    by_standing : (found : Option Standing) → slice_get schedule.standings place ≡ found → is_computed_there found ≡ true
+    by_standing : (found : Option FuncPlacement) → slice_get schedule.standings place ≡ found → is_computed_there found ≡ true
         → is_some (box_in (slice_get boxes.funcs place)) ≡ true
     by_standing None e computed = absurd cc
     by_standing (Some own) e computed =
@@ -339,7 +339,7 @@ boxes_are_of_reached_funcs pipeline schedule boxes accepted is place =
 
 -- ---- phases
 
-phases_at : (place : Place) (reached : Bool) (func : Func) (own : Option SourceBox) → is_some own ≡ (reached && not (is_inlined place))
+phases_at : (place : ComputeLevel) (reached : Bool) (func : Func) (own : Option SourceBox) → is_some own ≡ (reached && not (is_inlined place))
     → phases_of place func own ≡ cond (reached && is_root place) (length func.updates + 1) 0
 phases_at places.Root true func None e = absurd cc
 phases_at places.Root true func (Some own) e = refl
@@ -348,7 +348,7 @@ phases_at places.Root false func (Some own) e = absurd cc
 phases_at other true func own e = refl
 phases_at other false func own e = refl
 
-phases_are : (standings : List Standing) (funcs : List Func) (boxes : List (Option SourceBox)) → length boxes ≡ length funcs
+phases_are : (standings : List FuncPlacement) (funcs : List Func) (boxes : List (Option SourceBox)) → length boxes ≡ length funcs
     → ((place : ℕ) → is_some (box_in (slice_get boxes place)) ≡ is_computed_there (slice_get standings place))
     → phases standings funcs boxes ≡ reached_stages standings funcs
 phases_are [] funcs boxes many are = refl

@@ -14,12 +14,12 @@ use Rattle.schedule_lines.specs.declared.stages.Stage.{Stage}
 use Rattle.schedule_lines.specs.Directives.{same_id}
 use Rattle.schedule.specs.declared.plans.FuncPlan.{FuncPlan}
 use Rattle.schedule.specs.declared.schedules.Schedule.{Schedule}
-use Rattle.schedule.specs.declared.standings.LoopPlace.{LoopPlace}
-use Rattle.schedule.specs.declared.standings.Place.{Place}
-use Rattle.schedule.specs.declared.standings.Place.TheVariants as places
-use Rattle.schedule.specs.declared.standings.Standing.{Standing}
+use Rattle.schedule.specs.declared.placements.LoopPlace.{LoopPlace}
+use Rattle.schedule.specs.declared.placements.ComputeLevel.{ComputeLevel}
+use Rattle.schedule.specs.declared.placements.ComputeLevel.TheVariants as places
+use Rattle.schedule.specs.declared.placements.FuncPlacement.{FuncPlacement}
 use Rattle.schedule.specs.Accepted.{IsAccepted, IsPlan, IsLegal, IsProduced}
-use Rattle.schedule.specs.Standing.{comes_first, pure_loops_of}
+use Rattle.schedule.specs.Placements.{comes_first, pure_loops_of}
 use Rattle.schedule.specs.Uses.{IsRootReached, HasConsumerAtRoot}
 use Rattle.schedule.proofs.Uses.{numbered_at}
 use Rattle.schedule_loops.specs.declared.extents.Extents.{Extents}
@@ -29,7 +29,7 @@ use Rattle.schedule_loops.specs.Reach.{wholes}
 use Rattle.schedule_loops.specs.Stages.{IsStageOf, first_loops, has_variable, extent_in, is_slice_of}
 use Rattle.schedule_loops.proofs.AcceptedStages.{accepted as accepted_stages, pair_at}
 use Rattle.schedule_loops.proofs.Covering.{visited}
-use Rattle.schedule_loops.proofs.TurnsFound.{of_all, visits_are_made}
+use Rattle.schedule_loops.proofs.IterationsFound.{of_all, visits_are_made}
 use Rattle.bounds_ranges.specs.declared.bases.Multiple.{Multiple}
 use Rattle.bounds_ranges.specs.declared.ranges.Range.{Range}
 use Rattle.bounds_ranges.specs.Ranges.{more_sum, less_sum}
@@ -41,7 +41,7 @@ use Rattle.bounds.specs.declared.verdict.Boxes.{Boxes}
 use Rattle.bounds.specs.Boxes.{no_loops, lasts_of}
 use Rattle.bounds.specs.Extents.{box_in, extent, extents_of}
 use Rattle.bounds_laws.specs.Callers.{IsReadWithin, StandsAt, HasLoop, IsWithin}
-use Rattle.bounds_laws.specs.ConsumerLaws.{turns_from, gone, IsGone, IsTakenTo, AgreeFrom}
+use Rattle.bounds_laws.specs.ConsumerLaws.{iterations_from, gone, IsGone, IsTakenTo, AgreeFrom}
 use Rattle.bounds.specs.Inference.{consumer_of}
 use Rattle.bounds_laws.specs.Laws.{LiesIn, values_for, consumer_in, IsComputed}
 use Rattle.bounds.specs.Verdict.{inferred}
@@ -54,7 +54,7 @@ use Rattle.bounds_laws.proofs.Settled.{settled_boxes_hold}
 use Rattle.bounds_laws.proofs.StandingWithin.{one_standing}
 
 -- a reader's point lies in the view with which a source is asked, while the loops of the source's consumer have these values
-pub record Sees (pipeline : Pipeline) (schedule : Schedule) (boxes : Boxes) (reader : ℕ) (own : SourceBox) (x y : ℕ) (place : Place) : Type 0 where
+pub record Sees (pipeline : Pipeline) (schedule : Schedule) (boxes : Boxes) (reader : ℕ) (own : SourceBox) (x y : ℕ) (place : ComputeLevel) : Type 0 where
   pub consumer : Option ConsumerLoop
   pub consumer_is : consumer_in schedule boxes.funcs place ≡ consumer
   pub view : SourceBox
@@ -177,7 +177,7 @@ module _ (pipeline : Pipeline) (schedule : Schedule) (boxes : Boxes) (rules : Is
     extents = extents_of own
 
     no_lasts : own.lasts ≡ no_loops
-    no_lasts = box.lasts ∙ ap (λ (p : Place). lasts_of (consumer_in schedule boxes.funcs p)) root
+    no_lasts = box.lasts ∙ ap (λ (p : ComputeLevel). lasts_of (consumer_in schedule boxes.funcs p)) root
 
     below_none : Below values no_loops
     below_none = subst (λ (l : List ℕ). Below values l) no_lasts below
@@ -246,21 +246,21 @@ module _ (pipeline : Pipeline) (schedule : Schedule) (boxes : Boxes) (rules : Is
     unfolding far_y
     gone_y = record { word = in_y.word; is = gone_by (has_variable variables.SecondArgument (first_loops func None)) refl refl }
 
-    turns : List ℕ
-    turns = turns_from (length inside) made.turns stage.loops
+    iterations : List ℕ
+    iterations = iterations_from (length inside) made.iterations stage.loops
 
-    taken : Below turns (consumer_loop plan own id).lasts × LiesIn turns (consumer_view stage own (consumer_loop plan own id)) x y
-    unfolding turns inside outside inner stage extents
+    taken : Below iterations (consumer_loop plan own id).lasts × LiesIn iterations (consumer_view stage own (consumer_loop plan own id)) x y
+    unfolding iterations inside outside inner stage extents
     taken =
-        let h = consumer_arguments_lie func plan own id inside outside made.turns stage_is (parted inner stage.loops) (taken_length inner stage.loops
+        let h = consumer_arguments_lie func plan own id inside outside made.iterations stage_is (parted inner stage.loops) (taken_length inner stage.loops
         (count_few id stage.loops)) made.are in (
           h.0,
-          of_all (λ (whole : Values). (a b : ℕ) → IsTakenTo func own whole a b → LiesIn turns (consumer_view stage own (consumer_loop plan own id)) a b)
-              (wholes extents stage.splits inside made.turns) h.1 made.whole made.visited x y
+          of_all (λ (whole : Values). (a b : ℕ) → IsTakenTo func own whole a b → LiesIn iterations (consumer_view stage own (consumer_loop plan own id)) a b)
+              (wholes extents stage.splits inside made.iterations) h.1 made.whole made.visited x y
               (record { first = gone_x; second = gone_y }),
         )
 
-    pub consumer_sees : (place : Place) → consumer_in schedule boxes.funcs place ≡ Some (consumer_loop plan own id)
+    pub consumer_sees : (place : ComputeLevel) → consumer_in schedule boxes.funcs place ≡ Some (consumer_loop plan own id)
         → Sees pipeline schedule boxes reader own x y place
     unfolding stage consumer_view_in
     consumer_sees place consumer_is = record {
@@ -268,7 +268,7 @@ module _ (pipeline : Pipeline) (schedule : Schedule) (boxes : Boxes) (rules : Is
       consumer_is = consumer_is;
       view = consumer_view plan.pure own (consumer_loop plan own id);
       view_is = rw (box.there.standing, plan_is) (rw root refl);
-      values = turns;
+      values = iterations;
       below_view = taken.0;
       below_consumer = taken.0;
       lies = taken.1;
@@ -281,7 +281,7 @@ module _ (pipeline : Pipeline) (schedule : Schedule) (boxes : Boxes) (rules : Is
     box : HasBox pipeline schedule boxes reader own
     box = has_box pipeline schedule boxes accepted is reader own own_is
 
-    root_sees : (place : Place) → consumer_in schedule boxes.funcs place ≡ None → Sees pipeline schedule boxes reader own x y place
+    root_sees : (place : ComputeLevel) → consumer_in schedule boxes.funcs place ≡ None → Sees pipeline schedule boxes reader own x y place
     root_sees place none = record {
       consumer = None;
       consumer_is = none;
@@ -314,7 +314,7 @@ module _ (pipeline : Pipeline) (schedule : Schedule) (boxes : Boxes) (rules : Is
           let plan_is : slice_get schedule.funcs reader ≡ Some consumer.plan = ap (λ (n : ℕ). slice_get schedule.funcs n) same ∙ consumer.plan_is in
           let standing_is = one_standing schedule.standings reader box.standing rooted.own box.there.standing (ap (λ (n : ℕ). slice_get schedule.standings n)
           same ∙ rooted.there.standing) in
-          let root : box.standing.place ≡ places.Root = ap (λ (s : Standing). s.place) standing_is ∙ rooted.root in
+          let root : box.standing.place ≡ places.Root = ap (λ (s : FuncPlacement). s.place) standing_is ∙ rooted.root in
           let box_is : slice_get boxes.funcs at.func ≡ Some (Some own) = ap (λ (n : ℕ). slice_get boxes.funcs n) (sym same) ∙ own_is in
           consumer_sees reader own own_is box root consumer.plan plan_is at.inside values below x y lies (places.At at) (rw (consumer.plan_is, box_is) refl)
       by_loop (IsWithin st other there other_place inside) = by_box (slice_get schedule.funcs at.func) refl (box_in (slice_get boxes.funcs at.func)) refl
@@ -324,11 +324,11 @@ module _ (pipeline : Pipeline) (schedule : Schedule) (boxes : Boxes) (rules : Is
               (pure_loops_of (slice_get schedule.funcs other.func))) inside).0
 
           own_place : box.standing.place ≡ places.At other
-          own_place = ap (λ (s : Standing). s.place) (one_standing schedule.standings reader box.standing st box.there.standing there.standing) ∙ other_place
+          own_place = ap (λ (s : FuncPlacement). s.place) (one_standing schedule.standings reader box.standing st box.there.standing there.standing) ∙ other_place
 
           own_lasts : own.lasts ≡ lasts_of (consumer_of other (slice_get schedule.funcs at.func) (box_in (slice_get boxes.funcs at.func)))
           own_lasts =
-              box.lasts ∙ ap (λ (p : Place). lasts_of (consumer_in schedule boxes.funcs p)) own_place
+              box.lasts ∙ ap (λ (p : ComputeLevel). lasts_of (consumer_in schedule boxes.funcs p)) own_place
               ∙ ap (λ (n : ℕ). lasts_of (consumer_of other (slice_get schedule.funcs n) (box_in (slice_get boxes.funcs n)))) same_func
 
           by_box : (plan : Option FuncPlan) → slice_get schedule.funcs at.func ≡ plan → (consumer_box : Option SourceBox)
@@ -354,7 +354,7 @@ module _ (pipeline : Pipeline) (schedule : Schedule) (boxes : Boxes) (rules : Is
         → Sees pipeline schedule boxes reader own x y within.own.place
     sees func within computed = by_place within.own.place refl computed
       where
-        by_place : (place : Place) → within.own.place ≡ place → IsComputed func place → Sees pipeline schedule boxes reader own x y place
+        by_place : (place : ComputeLevel) → within.own.place ≡ place → IsComputed func place → Sees pipeline schedule boxes reader own x y place
         by_place places.Root e c = root_sees places.Root refl
         by_place (places.At at) e c = by_loop func within at e (within.within at e)
         by_place places.Inlined e c = absurd c

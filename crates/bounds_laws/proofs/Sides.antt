@@ -9,7 +9,7 @@ use Rattle.halide_pipeline.specs.declared.expressions.Source.TheVariants as sour
 use Rattle.halide_pipeline.specs.WellFormed.{is_first_in_place, is_second_in_place}
 use Rattle.halide_pipeline.specs.Pipelines.{Pipeline}
 use Rattle.schedule.specs.declared.schedules.Schedule.{Schedule}
-use Rattle.bounds_ranges.specs.declared.expressions.Asked.{Asked}
+use Rattle.bounds_ranges.specs.declared.expressions.ReadRange.{ReadRange}
 use Rattle.bounds_ranges.specs.declared.ranges.Range.{Range}
 use Rattle.bounds_weights.specs.Weight.{flags_of}
 use Rattle.bounds.specs.declared.boxes.ConsumerLoop.{ConsumerLoop}
@@ -48,7 +48,7 @@ folded_least lasts (range ∷ others) kept own e =
 
 -- one of the two: how it stands in a read and in what is gathered, whether it counts, where it stands in place, and how many pixels it has
 pub record Side : Type 0 where
-  pub of : Asked → Range
+  pub of : ReadRange → Range
   pub part : Spread → Option Range
   pub counts : Bool → Bool → Bool
   pub is_in_place : Update → Bool
@@ -56,11 +56,11 @@ pub record Side : Type 0 where
   pub none : part no_spread ≡ None
   pub drawn : (output : Output) (lasts : List ℕ) → part (record { x = Some (pixels_range lasts output.width); y = Some (pixels_range lasts output.height) })
       ≡ Some (pixels_range lasts (count output))
-  pub read : (consumer : Option ConsumerLoop) (lasts : List ℕ) (first second : Bool) (spread : Spread) (one : Asked)
+  pub read : (consumer : Option ConsumerLoop) (lasts : List ℕ) (first second : Bool) (spread : Spread) (one : ReadRange)
       → part (with_read consumer lasts first second spread one) ≡ joined (lasts_of consumer) (counts first second) (part spread) (taken consumer lasts (of one))
   pub all : counts true true ≡ true
   pub placed : (update : Update) → counts (not (is_first_in_place update)) (not (is_second_in_place update)) ≡ not (is_in_place update)
-  pub normal : (one : Asked) → IsNormal one.x.base × IsNormal one.y.base → IsNormal (of one).base
+  pub normal : (one : ReadRange) → IsNormal one.x.base × IsNormal one.y.base → IsNormal (of one).base
 
 abbrev pub first_side : Side
 first_side = record {
@@ -97,29 +97,29 @@ module _ (side : Side) (consumer : Option ConsumerLoop) where
   joins own all = folded (lasts_of consumer) own all
 
   module _ (lasts : List ℕ) (source : Source) (first second : Bool) where
-    abbrev with_one : Bool → Spread → Asked → Spread
+    abbrev with_one : Bool → Spread → ReadRange → Spread
     with_one test spread one = cond test (with_read consumer lasts first second spread one) spread
 
-    one_counts : side.counts first second ≡ true → (test : Bool) (spread : Spread) (one : Asked) (rest : List Range)
+    one_counts : side.counts first second ≡ true → (test : Bool) (spread : Spread) (one : ReadRange) (rest : List Range)
         → joins (side.part (with_one test spread one)) rest ≡ joins (side.part spread) (cond test (taken consumer lasts (side.of one) ∷ rest) rest)
     one_counts e true spread one rest =
         ap (λ (own : Option Range). joins own rest) (side.read consumer lasts first second spread one
         ∙ ap (λ (t : Bool). joined (lasts_of consumer) t (side.part spread) (taken consumer lasts (side.of one))) e)
     one_counts e false spread one rest = refl
 
-    gathered_counts : side.counts first second ≡ true → (spread : Spread) (asked : List Asked)
+    gathered_counts : side.counts first second ≡ true → (spread : Spread) (asked : List ReadRange)
         → side.part (gathered consumer lasts source first second spread asked) ≡ joins (side.part spread) (asked_of side.of consumer lasts source asked)
     gathered_counts e spread [] = refl
     gathered_counts e spread (one ∷ others) =
         gathered_counts e (with_one (same_source one.source source) spread one) others
         ∙ one_counts e (same_source one.source source) spread one (asked_of side.of consumer lasts source others)
 
-    one_stays : side.counts first second ≡ false → (test : Bool) (spread : Spread) (one : Asked) → side.part (with_one test spread one) ≡ side.part spread
+    one_stays : side.counts first second ≡ false → (test : Bool) (spread : Spread) (one : ReadRange) → side.part (with_one test spread one) ≡ side.part spread
     one_stays e true spread one = side.read consumer lasts first second spread one
         ∙ ap (λ (t : Bool). joined (lasts_of consumer) t (side.part spread) (taken consumer lasts (side.of one))) e
     one_stays e false spread one = refl
 
-    gathered_stays : side.counts first second ≡ false → (spread : Spread) (asked : List Asked)
+    gathered_stays : side.counts first second ≡ false → (spread : Spread) (asked : List ReadRange)
         → side.part (gathered consumer lasts source first second spread asked) ≡ side.part spread
     gathered_stays e spread [] = refl
     gathered_stays e spread (one ∷ others) = gathered_stays e (with_one (same_source one.source source) spread one) others

@@ -6,13 +6,13 @@ use Rattle.std.proofs.lemmas.Bool.{eqb-true, eq-eqb}
 use Rattle.halide_pipeline.specs.Pipelines.{Pipeline}
 use Rattle.schedule_lines.specs.declared.stages.LoopId.TheVariants as ids
 use Rattle.schedule.specs.declared.plans.FuncPlan.{FuncPlan}
-use Rattle.schedule.specs.declared.standings.LoopPlace.{LoopPlace}
-use Rattle.schedule.specs.declared.standings.Place.{Place}
-use Rattle.schedule.specs.declared.standings.Place.TheVariants as places
-use Rattle.schedule.specs.declared.standings.Standing.{Standing}
+use Rattle.schedule.specs.declared.placements.LoopPlace.{LoopPlace}
+use Rattle.schedule.specs.declared.placements.ComputeLevel.{ComputeLevel}
+use Rattle.schedule.specs.declared.placements.ComputeLevel.TheVariants as places
+use Rattle.schedule.specs.declared.placements.FuncPlacement.{FuncPlacement}
 use Rattle.schedule.specs.Accepted.{Numbered}
-use Rattle.schedule.specs.Standing.{place_calls, is_called, is_away, is_outside, outside, place_at, place_computed, place_of, standing, standings}
-use Rattle.schedule.specs.Standing.{standings_from}
+use Rattle.schedule.specs.Placements.{place_calls, is_called, is_away, is_outside, outside, place_at, place_computed, place_of, standing, standings}
+use Rattle.schedule.specs.Placements.{standings_from}
 use Rattle.schedule.specs.Uses.{IsReached, StandsWithin, Consumer, Computed as ComputedThere, Inlined, HasUsesWithin}
 use Rattle.schedule.proofs.Uses.{numbered_at, uses_lie_within}
 use Rattle.bounds_laws.specs.StandingWhere.{HasReadersWithin, IsSaidAt, StandsWhereReadersDo, StandsNowhereElse}
@@ -25,16 +25,16 @@ none_both false b e = refl
 none_either : (a b : Bool) → a ≡ false → b ≡ false → (a || b) ≡ false
 none_either a b e f = rw (e, f) refl
 
-module _ (pipeline : Pipeline) (plans : List FuncPlan) (all : List Standing) (loop : LoopPlace) where
-  abbrev From : ℕ → List Standing → Type 0
+module _ (pipeline : Pipeline) (plans : List FuncPlan) (all : List FuncPlacement) (loop : LoopPlace) where
+  abbrev From : ℕ → List FuncPlacement → Type 0
   From at rest = (k : ℕ) → slice_get all (at + k) ≡ slice_get rest k
 
-  from_next : (at : ℕ) (first : Standing) (others : List Standing) → From at (first ∷ others) → From (at + 1) others
+  from_next : (at : ℕ) (first : FuncPlacement) (others : List FuncPlacement) → From at (first ∷ others) → From (at + 1) others
   from_next at first others from k =
       let next : at + 1 + k ≡ at + suc k = omega arith in
       ap (λ (n : ℕ). slice_get all n) next ∙ from (suc k)
 
-  by_reached : (reached : Bool) (func at : ℕ) (first : Standing) (flags : List Bool) → first.is_reached ≡ reached
+  by_reached : (reached : Bool) (func at : ℕ) (first : FuncPlacement) (flags : List Bool) → first.is_reached ≡ reached
       → (first.is_reached ≡ true → place_calls pipeline at func ≡ true → is_outside pipeline plans loop at first flags ≡ false)
       → (is_outside pipeline plans loop at first flags && place_calls pipeline at func) ≡ false
   by_reached false func at first flags reached lowers = rw reached refl
@@ -45,8 +45,8 @@ module _ (pipeline : Pipeline) (plans : List FuncPlan) (all : List Standing) (lo
       by_calls true c = rw (lowers reached c) refl
 
   -- Where each that is reached and calls a Func isn't flagged, no flagged one calls it.
-  none_calls : (func at : ℕ) (rest : List Standing) → From at rest
-      → ((reader : ℕ) (its : Standing) (behind : List Standing) → at < suc reader → IsReached all reader its → place_calls pipeline reader func ≡ true
+  none_calls : (func at : ℕ) (rest : List FuncPlacement) → From at rest
+      → ((reader : ℕ) (its : FuncPlacement) (behind : List FuncPlacement) → at < suc reader → IsReached all reader its → place_calls pipeline reader func ≡ true
       → From (reader + 1) behind
       → is_outside pipeline plans loop reader its (outside pipeline plans loop (reader + 1) behind) ≡ false)
       → is_called pipeline func at (outside pipeline plans loop at rest) ≡ false
@@ -60,13 +60,13 @@ module _ (pipeline : Pipeline) (plans : List FuncPlan) (all : List Standing) (lo
       (from_next at first others from)))
       (none_calls func (at + 1) others (from_next at first others from) (λ reader its behind later. each reader its behind (omega (arith, later))))
 
-  away_by : (is_consumer reached : Bool) (at : ℕ) (own : Standing) (flags : List Bool) → is_away pipeline plans loop at own.place flags ≡ false
+  away_by : (is_consumer reached : Bool) (at : ℕ) (own : FuncPlacement) (flags : List Bool) → is_away pipeline plans loop at own.place flags ≡ false
       → (reached && (not is_consumer && is_away pipeline plans loop at own.place flags)) ≡ false
   away_by is_consumer reached at own flags e =
       none_both reached (not is_consumer && is_away pipeline plans loop at own.place flags) (none_both (not is_consumer) (is_away pipeline plans loop at
       own.place flags) e)
 
-  lowered : (reader : ℕ) → StandsWithin pipeline plans all loop reader → (its : Standing) → IsReached all reader its → (behind : List Standing)
+  lowered : (reader : ℕ) → StandsWithin pipeline plans all loop reader → (its : FuncPlacement) → IsReached all reader its → (behind : List FuncPlacement)
       → From (reader + 1) behind
       → is_outside pipeline plans loop reader its (outside pipeline plans loop (reader + 1) behind) ≡ false
   lowered reader Consumer its there behind from =
@@ -74,25 +74,25 @@ module _ (pipeline : Pipeline) (plans : List FuncPlan) (all : List Standing) (lo
       behind)) (rw (eq-eqb loop.func loop.func refl) refl)
   lowered reader (ComputedThere _ own at own_there place_is within) its there behind from =
       let same : own ≡ its = one_standing all reader own its own_there.standing there.standing in
-      let its_place : its.place ≡ places.At at = ap (λ (s : Standing). s.place) (sym same) ∙ place_is in
+      let its_place : its.place ≡ places.At at = ap (λ (s : FuncPlacement). s.place) (sym same) ∙ place_is in
       away_by (reader == loop.func) its.is_reached reader its (outside pipeline plans loop (reader + 1) behind) (rw (its_place, within) refl)
   lowered reader (Inlined _ own own_there place_is callers) its there behind from =
       let same : own ≡ its = one_standing all reader own its own_there.standing there.standing in
-      let its_place : its.place ≡ places.Inlined = ap (λ (s : Standing). s.place) (sym same) ∙ place_is in
+      let its_place : its.place ≡ places.Inlined = ap (λ (s : FuncPlacement). s.place) (sym same) ∙ place_is in
       away_by (reader == loop.func) its.is_reached reader its (outside pipeline plans loop (reader + 1) behind)
-      (ap (λ (p : Place). is_away pipeline plans loop reader p (outside pipeline plans loop (reader + 1) behind)) its_place
+      (ap (λ (p : ComputeLevel). is_away pipeline plans loop reader p (outside pipeline plans loop (reader + 1) behind)) its_place
       ∙ none_calls reader (reader + 1) behind from
       (λ caller its_own others later caller_there calls. lowered caller (callers caller its_own (omega (arith, later)) caller_there calls) its_own caller_there
       others))
 
-  -- ---- the standing of a Func, over those behind it
+  -- ---- the standing of a Func, over those after it
 
-  pub record StandingAt (at : ℕ) (plan : FuncPlan) (own : Standing) : Type 0 where
-    pub behind : List Standing
+  pub record StandingAt (at : ℕ) (plan : FuncPlan) (own : FuncPlacement) : Type 0 where
+    pub behind : List FuncPlacement
     pub own_is : own ≡ standing pipeline plans at plan behind
     pub from : From (at + 1) behind
 
-  pub standing_at : (at : ℕ) (rest : List FuncPlan) → From at (standings_from pipeline plans at rest) → (k : ℕ) (plan : FuncPlan) (own : Standing)
+  pub standing_at : (at : ℕ) (rest : List FuncPlan) → From at (standings_from pipeline plans at rest) → (k : ℕ) (plan : FuncPlan) (own : FuncPlacement)
       → slice_get rest k ≡ Some plan → slice_get (standings_from pipeline plans at rest) k ≡ Some own → StandingAt (at + k) plan own
   standing_at at [] from k plan own plan_is found = absurd cc
   standing_at at (first ∷ others) from zero plan own plan_is found =
@@ -113,7 +113,7 @@ module _ (pipeline : Pipeline) (plans : List FuncPlan) (all : List Standing) (lo
 
 -- ---- where a line puts a Func
 
-said_placed : (pipeline : Pipeline) (plans : List FuncPlan) (at : ℕ) (loop : Option LoopPlace) (said : IsSaidAt pipeline plans at loop) (behind : List Standing)
+said_placed : (pipeline : Pipeline) (plans : List FuncPlan) (at : ℕ) (loop : Option LoopPlace) (said : IsSaidAt pipeline plans at loop) (behind : List FuncPlacement)
     (is_output : Bool)
     → (at == pipeline.output.func) ≡ is_output → cond is_output places.Root (place_of pipeline plans at behind said.plan.compute)
     ≡ place_at pipeline plans at behind loop
@@ -122,12 +122,12 @@ said_placed pipeline plans at loop said behind false e =
     ap (place_of pipeline plans at behind) said.line_is ∙ ap (place_computed pipeline plans at behind) said.at_loop
     ∙ ap (place_at pipeline plans at behind) said.loop_is
 
-there_or_nowhere : (loop : LoopPlace) (away : Bool) (place : Place) → place ≡ cond away places.Nowhere (places.At loop)
+there_or_nowhere : (loop : LoopPlace) (away : Bool) (place : ComputeLevel) → place ≡ cond away places.Nowhere (places.At loop)
     → (place ≡ places.At loop) ⊎ (place ≡ places.Nowhere)
 there_or_nowhere loop true place e = inr e
 there_or_nowhere loop false place e = inl e
 
-module _ (pipeline : Pipeline) (plans : List FuncPlan) (at : ℕ) (own : Standing) (found : slice_get (standings pipeline plans) at ≡ Some own) where
+module _ (pipeline : Pipeline) (plans : List FuncPlan) (at : ℕ) (own : FuncPlacement) (found : slice_get (standings pipeline plans) at ≡ Some own) where
   are : standings pipeline plans ≡ standings_from pipeline plans 0 plans
   unfolding standings
   are = refl
@@ -136,12 +136,12 @@ module _ (pipeline : Pipeline) (plans : List FuncPlan) (at : ℕ) (own : Standin
   here n = omega arith
 
   found_so : slice_get (standings_from pipeline plans 0 plans) at ≡ Some own
-  found_so = ap (λ (l : List Standing). slice_get l at) (sym are) ∙ found
+  found_so = ap (λ (l : List FuncPlacement). slice_get l at) (sym are) ∙ found
 
   pub stands : (loop wanted : LoopPlace) (plan : FuncPlan) → slice_get plans at ≡ Some plan
       → StandingAt pipeline plans (standings pipeline plans) wanted at plan own
   stands loop wanted plan plan_is =
-      subst (λ (l : List Standing). StandingAt pipeline plans l wanted at plan own) (sym are)
+      subst (λ (l : List FuncPlacement). StandingAt pipeline plans l wanted at plan own) (sym are)
       (subst (λ (n : ℕ). StandingAt pipeline plans (standings_from pipeline plans 0 plans) wanted n plan own) (here at)
       (standing_at pipeline plans (standings_from pipeline plans 0 plans) wanted 0 plans (λ k. ap (λ (n : ℕ). slice_get (standings_from pipeline plans 0 plans)
       n) (here k)) at plan own plan_is found_so))
@@ -150,13 +150,13 @@ module _ (pipeline : Pipeline) (plans : List FuncPlan) (at : ℕ) (own : Standin
       → own.place ≡ place_at pipeline plans at (stands wanted wanted said.plan said.plan_is).behind loop
   place_is loop wanted said =
       let own_at = stands wanted wanted said.plan said.plan_is in
-      ap (λ (s : Standing). s.place) own_at.own_is ∙ said_placed pipeline plans at loop said own_at.behind (at == pipeline.output.func) refl
+      ap (λ (s : FuncPlacement). s.place) own_at.own_is ∙ said_placed pipeline plans at loop said own_at.behind (at == pipeline.output.func) refl
 
   pub within : (loop : LoopPlace) → own.place ≡ places.At loop → HasReadersWithin pipeline plans at loop
   within loop e =
       subst (λ (n : ℕ). HasUsesWithin pipeline plans (standings pipeline plans) n own) (here at)
       (numbered_at (HasUsesWithin pipeline plans (standings pipeline plans)) 0 (standings pipeline plans)
-      (subst (λ (l : List Standing). Numbered (HasUsesWithin pipeline plans l) 0 l) (sym are) (uses_lie_within pipeline plans)) at own found) loop e
+      (subst (λ (l : List FuncPlacement). Numbered (HasUsesWithin pipeline plans l) 0 l) (sym are) (uses_lie_within pipeline plans)) at own found) loop e
 
 pub stands_where_readers_do : StandsWhereReadersDo
 stands_where_readers_do pipeline plans at loop own said found = record {

@@ -21,7 +21,7 @@ use Rattle.halide_pipeline.specs.Pixel.{Reads, at_reduction, points, variable, s
 use Rattle.halide_pipeline.specs.Points.{Point}
 use Rattle.schedule.specs.declared.schedules.Schedule.{Schedule}
 use Rattle.bounds_inlining.specs.Inlining.{flagged}
-use Rattle.bounds_ranges.specs.declared.expressions.Asked.{Asked}
+use Rattle.bounds_ranges.specs.declared.expressions.ReadRange.{ReadRange}
 use Rattle.bounds_ranges.specs.Expressions.{range_of, ranges_where}
 use Rattle.bounds_ranges.specs.Laws.{Below, Lies, AllLie, Covers, AnswerWords}
 use Rattle.bounds_ranges.specs.Ranges.{literal}
@@ -34,9 +34,9 @@ use Rattle.bounds.specs.declared.boxes.SourceBox.{SourceBox}
 use Rattle.bounds.specs.Inference.{reduction_range, second_range, update_variables, own_calls, left, second_left, right, left_read, update_asked}
 use Rattle.bounds_laws.specs.Laws.{LiesIn, IsNear, seen_in, second_seen, points_at}
 
--- ---- lists of points, one behind the other
+-- ---- lists of points, one after the other
 
-pub both_lie : (lasts values : List ℕ) (asked more : List Asked) (points others : List Point) → AllLie lasts values asked points
+pub both_lie : (lasts values : List ℕ) (asked more : List ReadRange) (points others : List Point) → AllLie lasts values asked points
     → AllLie lasts values more others → AllLie lasts values (asked ++ more) (points ++ others)
 both_lie lasts values [] more [] others some all = all
 both_lie lasts values [] more (point ∷ points) others some all = absurd some

@@ -7,7 +7,7 @@ use Rattle.halide_pipeline.specs.declared.expressions.Source.{Source}
 use Rattle.halide_pipeline.specs.declared.expressions.Source.TheVariants as sources
 use Rattle.halide_pipeline.specs.Pipelines.{Pipeline}
 use Rattle.halide_pipeline.specs.Points.{Point}
-use Rattle.bounds_ranges.specs.declared.expressions.Asked.{Asked}
+use Rattle.bounds_ranges.specs.declared.expressions.ReadRange.{ReadRange}
 use Rattle.bounds_ranges.specs.Expressions.{walked}
 use Rattle.bounds_ranges.specs.Laws.{Below, AllLie}
 use Rattle.bounds_weights.specs.Weight.{flags_of}
@@ -27,21 +27,21 @@ module _ (consumer : Option ConsumerLoop) (lasts values : List ℕ) (own : Below
   abbrev Holds : Spread → Type 0
   Holds spread = HoldsAll (lasts_of consumer) (values_for consumer values) source spread points
 
-  abbrev from : Spread → List Asked → Spread
+  abbrev from : Spread → List ReadRange → Spread
   from spread asked = gathered consumer lasts source true true spread asked
 
-  -- more is gathered behind, or first
-  behind : (spread : Spread) (some more : List Asked) → Holds (from spread some) → Holds (from spread (some ++ more))
+  -- more is gathered after, or first
+  behind : (spread : Spread) (some more : List ReadRange) → Holds (from spread some) → Holds (from spread (some ++ more))
   behind spread some more holds =
       holds_more (lasts_of consumer) (values_for consumer values) source (from spread some) (from spread (some ++ more))
       (λ u v is. subst (λ (s : Spread). InSpread (lasts_of consumer) (values_for consumer values) s u v) (sym (gathered_both consumer lasts source true true
       spread some more)) (gathered_keeps consumer lasts values inside source true true (from spread some) more u v is))
       points holds
 
-  after : (spread : Spread) (some more : List Asked) → Holds (from (from spread some) more) → Holds (from spread (some ++ more))
+  after : (spread : Spread) (some more : List ReadRange) → Holds (from (from spread some) more) → Holds (from spread (some ++ more))
   after spread some more holds = subst (λ (s : Spread). Holds s) (sym (gathered_both consumer lasts source true true spread some more)) holds
 
-  fits_from : (spread : Spread) (asked : List Asked) → IsSpread (lasts_of consumer) spread → IsSpread (lasts_of consumer) (from spread asked)
+  fits_from : (spread : Spread) (asked : List ReadRange) → IsSpread (lasts_of consumer) spread → IsSpread (lasts_of consumer) (from spread asked)
   fits_from spread asked fits = gathered_fits consumer lasts source true true spread asked fits
 
 module _ (pipeline : Pipeline) (flags : List Bool) (reader : ℕ) (view : SourceBox) (consumer : Option ConsumerLoop) (values : List ℕ)

@@ -11,30 +11,30 @@ use Rattle.halide_pipeline.specs.WellFormed.{IsWellFormed}
 use Rattle.halide_pipeline.specs.Pixel.{Reads}
 use Rattle.halide_pipeline.specs.Points.{Point}
 use Rattle.schedule.specs.declared.schedules.Schedule.{Schedule}
-use Rattle.schedule.specs.declared.standings.LoopPlace.{LoopPlace}
-use Rattle.schedule.specs.declared.standings.Place.TheVariants as places
-use Rattle.schedule.specs.declared.standings.Standing.{Standing}
+use Rattle.schedule.specs.declared.placements.LoopPlace.{LoopPlace}
+use Rattle.schedule.specs.declared.placements.ComputeLevel.TheVariants as places
+use Rattle.schedule.specs.declared.placements.FuncPlacement.{FuncPlacement}
 use Rattle.schedule.specs.Accepted.{IsAccepted}
-use Rattle.schedule.specs.Standing.{place_calls, is_within}
+use Rattle.schedule.specs.Placements.{place_calls, is_within}
 use Rattle.schedule.specs.Uses.{IsReached}
 use Rattle.bounds_inlining.specs.Inlining.{flagged}
 use Rattle.bounds_weights.specs.Weight.{flags_of}
 use Rattle.bounds_laws.specs.Laws.{IsComputed, pure_points, update_points}
 
 -- A Func reads an earlier one: it calls it, or an inlined one in between that reads it.
-pub data ReadsThrough (pipeline : Pipeline) (standings : List Standing) : ℕ → ℕ → Type 0 where
+pub data ReadsThrough (pipeline : Pipeline) (standings : List FuncPlacement) : ℕ → ℕ → Type 0 where
   Calls : (reader func : ℕ) → func < reader → place_calls pipeline reader func ≡ true → ReadsThrough pipeline standings reader func
   Through : (reader between func : ℕ) → between < reader → flagged (flags_of standings) between ≡ true → place_calls pipeline reader between ≡ true
       → ReadsThrough pipeline standings between func → ReadsThrough pipeline standings reader func
 
 -- A point is of an input that is there, or of one of the first so many Funcs: of the reader itself, or of one that it reads, and not of an
 -- inlined one.
-abbrev pub IsReadThrough : Pipeline → List Standing → ℕ → ℕ → Source → Type 0
+abbrev pub IsReadThrough : Pipeline → List FuncPlacement → ℕ → ℕ → Source → Type 0
 IsReadThrough pipeline standings reader count (sources.Input place) = is_some (slice_get pipeline.inputs place) ≡ true
 IsReadThrough pipeline standings reader count (sources.Func func) =
     (flagged (flags_of standings) func ≡ false) × ((func < count) × ((func ≡ reader) ⊎ ReadsThrough pipeline standings reader func))
 
-abbrev pub AreReadThrough : Pipeline → List Standing → ℕ → ℕ → List Point → Type 0
+abbrev pub AreReadThrough : Pipeline → List FuncPlacement → ℕ → ℕ → List Point → Type 0
 AreReadThrough pipeline standings reader count points = AllByRecursion (λ (point : Point). IsReadThrough pipeline standings reader count point.source) points
 
 -- Each point that a pure definition reads, its inlined Funcs put in place, is of a source that it reads so.
@@ -53,17 +53,17 @@ UpdatePointsAreReadThrough = (pipeline : Pipeline) (schedule : Schedule) → IsW
 -- It is the Func that has the loop, or it is computed at that loop or at one inside it.
 pub data StandsAt (schedule : Schedule) (consumer : LoopPlace) (reader : ℕ) : Type 0 where
   HasLoop : reader ≡ consumer.func → StandsAt schedule consumer reader
-  IsWithin : (own : Standing) (at : LoopPlace) → IsReached schedule.standings reader own → own.place ≡ places.At at → is_within schedule.funcs consumer at
+  IsWithin : (own : FuncPlacement) (at : LoopPlace) → IsReached schedule.standings reader own → own.place ≡ places.At at → is_within schedule.funcs consumer at
       ≡ true → StandsAt schedule consumer reader
 
 -- What a Func that is computed reads of others is reached and computed; and where that is at a loop, the reader stands at it.
 pub record IsReadWithin (schedule : Schedule) (reader func : ℕ) : Type 0 where
-  pub own : Standing
+  pub own : FuncPlacement
   pub there : IsReached schedule.standings func own
   pub before : func < reader
   pub within : (consumer : LoopPlace) → own.place ≡ places.At consumer → StandsAt schedule consumer reader
 
 abbrev pub ReadersStandWithin : Type 0
 ReadersStandWithin = (pipeline : Pipeline) (schedule : Schedule) → IsAccepted pipeline schedule
-    → (reader : ℕ) (its : Standing) → IsReached schedule.standings reader its → IsComputed reader its.place
+    → (reader : ℕ) (its : FuncPlacement) → IsReached schedule.standings reader its → IsComputed reader its.place
     → (func : ℕ) → ReadsThrough pipeline schedule.standings reader func → IsReadWithin schedule reader func

@@ -1,4 +1,4 @@
--- Boxes hold all that the pixels of the output's picture read, with all that these read in turn.
+-- Boxes hold all that the pixels of the output's picture read, all that those read, and so on.
 -- This project's own.
 use Rattle.std.specs.Prelude.{◌≡◌, ℕ, zero, suc, ◌+◌, ◌^◌, ◌<◌, ◌&&◌, ◌||◌, Bool, false, nat_lt, nat_le, List, [], ◌∷◌, length, slice_get, Option, Some, None}
 use Rattle.std.specs.Prelude.{Ok}
@@ -11,7 +11,7 @@ use Rattle.halide_pipeline.specs.Pipelines.{Pipeline}
 use Rattle.halide_pipeline.specs.Pixel.{Planes, reads_of, pixels}
 use Rattle.halide_pipeline.specs.Points.{Point, Hold, pixel_trace}
 use Rattle.schedule.specs.declared.schedules.Schedule.{Schedule}
-use Rattle.schedule.specs.declared.standings.Standing.{Standing}
+use Rattle.schedule.specs.declared.placements.FuncPlacement.{FuncPlacement}
 use Rattle.schedule.specs.Accepted.{IsAccepted}
 use Rattle.schedule.specs.Legal.{is_inlined}
 use Rattle.bounds_ranges.specs.declared.ranges.Range.{Range}
@@ -58,7 +58,7 @@ is_within None x y = false
 is_within (Some input) x y = nat_lt x input.width && nat_lt y input.height
 
 -- The output reaches a Func that is inlined.
-abbrev pub is_put_in : Option Standing → Bool
+abbrev pub is_put_in : Option FuncPlacement → Bool
 is_put_in None = false
 is_put_in (Some own) = own.is_reached && is_inlined own.place
 
@@ -85,7 +85,7 @@ OneRowBoxes = (pipeline : Pipeline) (schedule : Schedule) (boxes : Boxes) → Is
 
 -- ---- the whole
 
--- What the pixels of the output's picture read, with all that these read in turn, is held.
+-- What the pixels of the output's picture read, what those read, and so on, is held.
 abbrev pub AllReadsAreHeld : Type 0
 AllReadsAreHeld = (pipeline : Pipeline) (schedule : Schedule) (boxes : Boxes) → IsWellFormed pipeline → IsAccepted pipeline schedule
     → inferred pipeline schedule ≡ Ok boxes

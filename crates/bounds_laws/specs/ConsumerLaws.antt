@@ -1,7 +1,7 @@
 -- Where loops of a consumer take arguments.
 --
 -- The consumer of a Func that is computed at a loop is the Func whose loop it is. While this loop and those outside of it are in given
--- turns, those inside take all their values.
+-- iterations, those inside take all their values.
 -- This project's own.
 use Rattle.std.specs.Prelude.{◌≡◌, ◌<◌, ℕ, zero, suc, ◌+◌, ◌^◌, nat_lt, true, not, if◌then◌else◌, List, [], ◌∷◌, ◌++◌, take, drop, length, slice_get, Option}
 use Rattle.std.specs.Prelude.{Some, None, Ok}
@@ -20,16 +20,16 @@ use Rattle.schedule_lines.specs.declared.stages.LoopId.{LoopId}
 use Rattle.schedule_lines.specs.declared.stages.LoopId.TheVariants as ids
 use Rattle.schedule.specs.declared.plans.FuncPlan.{FuncPlan}
 use Rattle.schedule.specs.declared.schedules.Schedule.{Schedule}
-use Rattle.schedule.specs.declared.standings.LoopPlace.{LoopPlace}
-use Rattle.schedule.specs.declared.standings.Place.{Place}
-use Rattle.schedule.specs.declared.standings.Place.TheVariants as places
-use Rattle.schedule.specs.declared.standings.Standing.{Standing}
+use Rattle.schedule.specs.declared.placements.LoopPlace.{LoopPlace}
+use Rattle.schedule.specs.declared.placements.ComputeLevel.{ComputeLevel}
+use Rattle.schedule.specs.declared.placements.ComputeLevel.TheVariants as places
+use Rattle.schedule.specs.declared.placements.FuncPlacement.{FuncPlacement}
 use Rattle.schedule.specs.Accepted.{IsAccepted}
 use Rattle.schedule.specs.Uses.{StandsWithin}
 use Rattle.schedule_loops.specs.declared.extents.Extents.{Extents}
 use Rattle.schedule_loops.specs.Visits.{Values, counts, Visit}
 use Rattle.schedule_loops.specs.Reach.{wholes}
-use Rattle.schedule_loops.specs.Runs.{AreTurns}
+use Rattle.schedule_loops.specs.Runs.{AreIterations}
 use Rattle.schedule_loops.specs.Stages.{IsStageOf, IsVisitOf, first_loops, has_variable}
 use Rattle.bounds_ranges.specs.declared.ranges.Range.{Range}
 use Rattle.bounds_ranges.specs.Ranges.{more_sum, less_sum}
@@ -44,21 +44,21 @@ use Rattle.bounds_laws.specs.Laws.{LiesIn, AreBoxed, LiesPartly, values_for, con
 use Rattle.bounds.specs.Verdict.{inferred}
 use Rattle.bounds.specs.Views.{inner_count, consumer_loop, consumer_view, settled, settled_box, view_of}
 
--- ---- turns of the loops of a stage, innermost first
+-- ---- iterations of the loops of a stage, innermost first
 
 -- of one loop; 0 where none is there
-abbrev pub turn_of : Values → Option Loop → ℕ
-turn_of turns None = 0
-turn_of turns (Some own) = turns own.id
+abbrev pub iteration_of : Values → Option Loop → ℕ
+iteration_of iterations None = 0
+iteration_of iterations (Some own) = iterations own.id
 
-abbrev pub turn_at : ℕ → Values → List Loop → ℕ → ℕ
-turn_at inner turns loops at = if nat_lt at inner then 0 else turn_of turns (slice_get loops at)
+abbrev pub iteration_at : ℕ → Values → List Loop → ℕ → ℕ
+iteration_at inner iterations loops at = if nat_lt at inner then 0 else iteration_of iterations (slice_get loops at)
 
--- Those of the loop with so many inside it and of all outside of it; the loops inside, which have no turn yet, count as in their first.
-abbrev pub turns_from : ℕ → Values → List Loop → List ℕ
-turns_from inner turns loops =
-    turn_at inner turns loops 0 ∷ turn_at inner turns loops 1 ∷ turn_at inner turns loops 2 ∷ turn_at inner turns loops 3
-    ∷ turn_at inner turns loops 4 ∷ []
+-- Those of the loop with so many inside it and of all outside of it; the loops inside, which have no iteration yet, count as in their first.
+abbrev pub iterations_from : ℕ → Values → List Loop → List ℕ
+iterations_from inner iterations loops =
+    iteration_at inner iterations loops 0 ∷ iteration_at inner iterations loops 1 ∷ iteration_at inner iterations loops 2 ∷ iteration_at inner iterations loops 3
+    ∷ iteration_at inner iterations loops 4 ∷ []
 
 -- ---- the consumer's arguments
 
@@ -76,17 +76,17 @@ pub record IsTakenTo (func : Func) (own : SourceBox) (whole : Values) (x y : ℕ
   pub first : IsGone own.x (gone func variables.FirstArgument whole) x
   pub second : IsGone own.y (gone func variables.SecondArgument whole) y
 
--- While a loop of a pure definition and those outside of it are in given turns, each point to which those inside take the arguments lies in
--- the view of them that is asked with, under these turns.
+-- While a loop of a pure definition and those outside of it are in given iterations, each point to which those inside take the arguments lies in
+-- the view of them that is asked with, under these iterations.
 abbrev pub ConsumerArgumentsLie : Type 0
-ConsumerArgumentsLie = (func : Func) (plan : FuncPlan) (own : SourceBox) (id : LoopId) (inside outside : List Loop) (turns : Values)
+ConsumerArgumentsLie = (func : Func) (plan : FuncPlan) (own : SourceBox) (id : LoopId) (inside outside : List Loop) (iterations : Values)
     → IsStageOf func None plan.pure → plan.pure.loops ≡ inside ++ outside → length inside ≡ inner_count id plan.pure.loops
-    → AreTurns (counts (extents_of own) plan.pure.splits) outside turns
-    → Below (turns_from (length inside) turns plan.pure.loops) (consumer_loop plan own id).lasts
+    → AreIterations (counts (extents_of own) plan.pure.splits) outside iterations
+    → Below (iterations_from (length inside) iterations plan.pure.loops) (consumer_loop plan own id).lasts
     × AllByRecursion
     (λ whole. (x y : ℕ) → IsTakenTo func own whole x y
-    → LiesIn (turns_from (length inside) turns plan.pure.loops) (consumer_view plan.pure own (consumer_loop plan own id)) x y)
-    (wholes (extents_of own) plan.pure.splits inside turns)
+    → LiesIn (iterations_from (length inside) iterations plan.pure.loops) (consumer_view plan.pure own (consumer_loop plan own id)) x y)
+    (wholes (extents_of own) plan.pure.splits inside iterations)
 
 -- ---- points of a box at a loop
 
@@ -114,7 +114,7 @@ SettledBoxesHold = (inner : ℕ) (own : SourceBox) (values others : List ℕ) �
 -- names among it, lies in the Func's box in each dimension that isn't in place.
 abbrev pub ProducedOwnReadsLie : Type 0
 ProducedOwnReadsLie = (pipeline : Pipeline) (schedule : Schedule) (boxes : Boxes) → IsWellFormed pipeline → inferred pipeline schedule ≡ Ok boxes
-    → (reader : ℕ) (func : Func) (sought : Standing) → slice_get pipeline.funcs reader ≡ Some func
+    → (reader : ℕ) (func : Func) (sought : FuncPlacement) → slice_get pipeline.funcs reader ≡ Some func
     → slice_get schedule.standings reader ≡ Some sought → sought.is_reached ≡ true → IsComputed reader sought.place
     → (consumer : Option ConsumerLoop) → consumer_in schedule boxes.funcs sought.place ≡ consumer
     → (values : List ℕ) → Below (values_for consumer values) (lasts_of consumer)
@@ -143,7 +143,7 @@ OwnReadsStay = (pipeline : Pipeline) (schedule : Schedule) → IsWellFormed pipe
 -- So all that an update reads of its own Func lies in the Func's box, and the point that its left side names, where the arguments in place do.
 abbrev pub OwnPointsLie : Type 0
 OwnPointsLie = (pipeline : Pipeline) (schedule : Schedule) (boxes : Boxes) → IsWellFormed pipeline → inferred pipeline schedule ≡ Ok boxes
-    → (reader : ℕ) (func : Func) (sought : Standing) → slice_get pipeline.funcs reader ≡ Some func
+    → (reader : ℕ) (func : Func) (sought : FuncPlacement) → slice_get pipeline.funcs reader ≡ Some func
     → slice_get schedule.standings reader ≡ Some sought → sought.is_reached ≡ true → IsComputed reader sought.place
     → (consumer : Option ConsumerLoop) → consumer_in schedule boxes.funcs sought.place ≡ consumer
     → (values : List ℕ) → Below (values_for consumer values) (lasts_of consumer)
@@ -163,7 +163,7 @@ pub record IsProduced (consumer : Option ConsumerLoop) (own : SourceBox) : Type 
 
 abbrev pub BoxesAreProduced : Type 0
 BoxesAreProduced = (pipeline : Pipeline) (schedule : Schedule) (boxes : Boxes) → inferred pipeline schedule ≡ Ok boxes
-    → (place : ℕ) (sought : Standing) → slice_get schedule.standings place ≡ Some sought → sought.is_reached ≡ true → IsComputed place sought.place
+    → (place : ℕ) (sought : FuncPlacement) → slice_get schedule.standings place ≡ Some sought → sought.is_reached ≡ true → IsComputed place sought.place
     → (own : SourceBox) → slice_get boxes.funcs place ≡ Some (Some own) → IsProduced (consumer_in schedule boxes.funcs sought.place) own
 
 -- A point of a box is near.
@@ -184,29 +184,29 @@ VisitsLie = (func : Func) (update : Option Update) (own : SourceBox) → IsBox o
 
 -- ---- arguments, wherever loops take them
 
--- The loop and those outside of it are each in one of their turns.
-abbrev pub AreTurnsFrom : FuncPlan → SourceBox → LoopId → Values → Type 0
-AreTurnsFrom plan own id turns = AreTurns (counts (extents_of own) plan.pure.splits) (drop (inner_count id plan.pure.loops) plan.pure.loops) turns
+-- The loop and those outside of it are each in one of their iterations.
+abbrev pub AreIterationsFrom : FuncPlan → SourceBox → LoopId → Values → Type 0
+AreIterationsFrom plan own id iterations = AreIterations (counts (extents_of own) plan.pure.splits) (drop (inner_count id plan.pure.loops) plan.pure.loops) iterations
 
--- the values that bases take in these turns
+-- the values that bases take in these iterations
 abbrev pub values_in : FuncPlan → LoopId → Values → List ℕ
-values_in plan id turns = turns_from (inner_count id plan.pure.loops) turns plan.pure.loops
+values_in plan id iterations = iterations_from (inner_count id plan.pure.loops) iterations plan.pure.loops
 
 -- The loops inside take the consumer's arguments to this point.
-pub record IsReachedIn (func : Func) (plan : FuncPlan) (own : SourceBox) (id : LoopId) (turns : Values) (x y : ℕ) : Type 0 where
-  pub turns_are : AreTurnsFrom plan own id turns
+pub record IsReachedIn (func : Func) (plan : FuncPlan) (own : SourceBox) (id : LoopId) (iterations : Values) (x y : ℕ) : Type 0 where
+  pub iterations_are : AreIterationsFrom plan own id iterations
   pub whole : Values
-  pub visited : Contains (wholes (extents_of own) plan.pure.splits (take (inner_count id plan.pure.loops) plan.pure.loops) turns) whole
+  pub visited : Contains (wholes (extents_of own) plan.pure.splits (take (inner_count id plan.pure.loops) plan.pure.loops) iterations) whole
   pub taken : IsTakenTo func own whole x y
 
--- While loops of a consumer are in these turns, the point may be the arguments of a Func with this place: of the consumer itself, where the loops
+-- While loops of a consumer are in these iterations, the point may be the arguments of a Func with this place: of the consumer itself, where the loops
 -- inside take them to it; of a Func that is computed at a loop of the consumer, where it lies in that one's box.
-abbrev pub MayBeArguments : Func → FuncPlan → SourceBox → LoopId → Values → Place → SourceBox → ℕ → ℕ → Type 0
-MayBeArguments func plan consuming id turns places.Root own x y = IsReachedIn func plan consuming id turns x y
-MayBeArguments func plan consuming id turns (places.At at) own x y =
-    AreTurnsFrom plan consuming at.inside turns × LiesIn (values_in plan at.inside turns) own x y
-MayBeArguments func plan consuming id turns places.Inlined own x y = ⊥
-MayBeArguments func plan consuming id turns places.Nowhere own x y = ⊥
+abbrev pub MayBeArguments : Func → FuncPlan → SourceBox → LoopId → Values → ComputeLevel → SourceBox → ℕ → ℕ → Type 0
+MayBeArguments func plan consuming id iterations places.Root own x y = IsReachedIn func plan consuming id iterations x y
+MayBeArguments func plan consuming id iterations (places.At at) own x y =
+    AreIterationsFrom plan consuming at.inside iterations × LiesIn (values_in plan at.inside iterations) own x y
+MayBeArguments func plan consuming id iterations places.Inlined own x y = ⊥
+MayBeArguments func plan consuming id iterations places.Nowhere own x y = ⊥
 
 -- The values are those of loops, and the point lies in the view.
 pub record IsSeenIn (values : List ℕ) (consumer : Option ConsumerLoop) (view : SourceBox) (x y : ℕ) : Type 0 where
@@ -215,49 +215,49 @@ pub record IsSeenIn (values : List ℕ) (consumer : Option ConsumerLoop) (view :
   pub lies : LiesIn values view x y
 
 -- Wherever loops take the arguments of a Func that makes its reads within the loop at which another one is computed, they lie in the view of
--- them with which that other one is asked, while the loops of the consumer from that one outward have the same turns.
+-- them with which that other one is asked, while the loops of the consumer from that one outward have the same iterations.
 abbrev pub ArgumentsLieInViews : Type 0
 ArgumentsLieInViews = (pipeline : Pipeline) (schedule : Schedule) (boxes : Boxes) → IsAccepted pipeline schedule → inferred pipeline schedule ≡ Ok boxes
-    → (place : ℕ) (sought : Standing) (at : LoopPlace) → slice_get schedule.standings place ≡ Some sought → sought.is_reached ≡ true → sought.place
+    → (place : ℕ) (sought : FuncPlacement) (at : LoopPlace) → slice_get schedule.standings place ≡ Some sought → sought.is_reached ≡ true → sought.place
     ≡ places.At at
     → (func : Func) (plan : FuncPlan) (consuming : SourceBox)
     → slice_get pipeline.funcs at.func ≡ Some func → slice_get schedule.funcs at.func ≡ Some plan → slice_get boxes.funcs at.func ≡ Some (Some consuming)
-    → (reader : ℕ) (its : Standing) (own : SourceBox) → slice_get schedule.standings reader ≡ Some its → its.is_reached ≡ true
+    → (reader : ℕ) (its : FuncPlacement) (own : SourceBox) → slice_get schedule.standings reader ≡ Some its → its.is_reached ≡ true
     → slice_get boxes.funcs reader ≡ Some (Some own)
     → StandsWithin pipeline schedule.funcs schedule.standings at reader
-    → (turns : Values) (x y : ℕ) → MayBeArguments func plan consuming at.inside turns its.place own x y
-    → IsSeenIn (values_in plan at.inside turns) (consumer_in schedule boxes.funcs sought.place)
+    → (iterations : Values) (x y : ℕ) → MayBeArguments func plan consuming at.inside iterations its.place own x y
+    → IsSeenIn (values_in plan at.inside iterations) (consumer_in schedule boxes.funcs sought.place)
     (view_of (slice_get schedule.funcs reader) (slice_get schedule.standings reader) own (consumer_in schedule boxes.funcs sought.place)) x y
 
 -- So all that its pure definition reads there of that other one lies in the box of that one.
 abbrev pub PureReadsInLoopsLie : Type 0
 PureReadsInLoopsLie = (pipeline : Pipeline) (schedule : Schedule) (boxes : Boxes) → IsWellFormed pipeline → IsAccepted pipeline schedule
     → inferred pipeline schedule ≡ Ok boxes
-    → (place : ℕ) (sought : Standing) (at : LoopPlace) → slice_get schedule.standings place ≡ Some sought → sought.is_reached ≡ true → sought.place
+    → (place : ℕ) (sought : FuncPlacement) (at : LoopPlace) → slice_get schedule.standings place ≡ Some sought → sought.is_reached ≡ true → sought.place
     ≡ places.At at
     → (func : Func) (plan : FuncPlan) (consuming : SourceBox)
     → slice_get pipeline.funcs at.func ≡ Some func → slice_get schedule.funcs at.func ≡ Some plan → slice_get boxes.funcs at.func ≡ Some (Some consuming)
-    → (reader : ℕ) (reading : Func) (its : Standing) (own : SourceBox) → place < reader
+    → (reader : ℕ) (reading : Func) (its : FuncPlacement) (own : SourceBox) → place < reader
     → slice_get pipeline.funcs reader ≡ Some reading → slice_get schedule.standings reader ≡ Some its → its.is_reached ≡ true → slice_get boxes.funcs reader
     ≡ Some (Some own)
     → (reads : Reads) → AnswerWords pipeline.inputs reads
-    → (turns : Values) (x y : ℕ) → MayBeArguments func plan consuming at.inside turns its.place own x y
-    → AreBoxed (values_in plan at.inside turns) (sources.Func place) (slice_get boxes.funcs place) (pure_points pipeline schedule reads reader reading x y)
+    → (iterations : Values) (x y : ℕ) → MayBeArguments func plan consuming at.inside iterations its.place own x y
+    → AreBoxed (values_in plan at.inside iterations) (sources.Func place) (slice_get boxes.funcs place) (pure_points pipeline schedule reads reader reading x y)
 
 -- And all that its updates read of it.
 abbrev pub UpdateReadsInLoopsLie : Type 0
 UpdateReadsInLoopsLie = (pipeline : Pipeline) (schedule : Schedule) (boxes : Boxes) → IsWellFormed pipeline → IsAccepted pipeline schedule
     → inferred pipeline schedule ≡ Ok boxes
-    → (place : ℕ) (sought : Standing) (at : LoopPlace) → slice_get schedule.standings place ≡ Some sought → sought.is_reached ≡ true → sought.place
+    → (place : ℕ) (sought : FuncPlacement) (at : LoopPlace) → slice_get schedule.standings place ≡ Some sought → sought.is_reached ≡ true → sought.place
     ≡ places.At at
     → (func : Func) (plan : FuncPlan) (consuming : SourceBox)
     → slice_get pipeline.funcs at.func ≡ Some func → slice_get schedule.funcs at.func ≡ Some plan → slice_get boxes.funcs at.func ≡ Some (Some consuming)
-    → (reader : ℕ) (reading : Func) (its : Standing) (own : SourceBox) → place < reader
+    → (reader : ℕ) (reading : Func) (its : FuncPlacement) (own : SourceBox) → place < reader
     → slice_get pipeline.funcs reader ≡ Some reading → slice_get schedule.standings reader ≡ Some its → its.is_reached ≡ true → slice_get boxes.funcs reader
     ≡ Some (Some own)
     → (number_at : ℕ) (update : Update) → slice_get reading.updates number_at ≡ Some update
     → (reads : Reads) → AnswerWords pipeline.inputs reads
-    → (turns : Values) (x y : ℕ) → MayBeArguments func plan consuming at.inside turns its.place own x y → IsNear x → IsNear y
+    → (iterations : Values) (x y : ℕ) → MayBeArguments func plan consuming at.inside iterations its.place own x y → IsNear x → IsNear y
     → (number : ℕ) → number < points update
-    → AreBoxed (values_in plan at.inside turns) (sources.Func place) (slice_get boxes.funcs place) (update_points pipeline schedule reads reader update number x
+    → AreBoxed (values_in plan at.inside iterations) (sources.Func place) (slice_get boxes.funcs place) (update_points pipeline schedule reads reader update number x
     y)

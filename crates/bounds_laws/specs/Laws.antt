@@ -13,9 +13,9 @@ use Rattle.halide_pipeline.specs.declared.environments.Environment.{Environment}
 use Rattle.halide_pipeline.specs.Pixel.{Reads, at_point, at_reduction, points}
 use Rattle.halide_pipeline.specs.Points.{Point, Seen}
 use Rattle.schedule.specs.declared.schedules.Schedule.{Schedule}
-use Rattle.schedule.specs.declared.standings.Place.{Place}
-use Rattle.schedule.specs.declared.standings.Place.TheVariants as places
-use Rattle.schedule.specs.declared.standings.Standing.{Standing}
+use Rattle.schedule.specs.declared.placements.ComputeLevel.{ComputeLevel}
+use Rattle.schedule.specs.declared.placements.ComputeLevel.TheVariants as places
+use Rattle.schedule.specs.declared.placements.FuncPlacement.{FuncPlacement}
 use Rattle.bounds_inlining.specs.Inlining.{inlined, flagged}
 use Rattle.bounds_inlining.specs.Laws.{seen_variable}
 use Rattle.bounds_inlining.specs.Values.{seeing}
@@ -67,12 +67,12 @@ PureReadsOfInputsLie = (pipeline : Pipeline) (schedule : Schedule) (boxes : Boxe
 -- ---- Funcs
 
 -- the loop at which a Func with this place is computed
-abbrev pub consumer_in : Schedule → List (Option SourceBox) → Place → Option ConsumerLoop
+abbrev pub consumer_in : Schedule → List (Option SourceBox) → ComputeLevel → Option ConsumerLoop
 consumer_in schedule boxes (places.At at) = consumer_of at (slice_get schedule.funcs at.func) (box_in (slice_get boxes at.func))
 consumer_in schedule boxes _ = None
 
--- A Func is computed at root, or at a loop of a Func behind it.
-abbrev pub IsComputed : ℕ → Place → Type 0
+-- A Func is computed at root, or at a loop of a Func after it.
+abbrev pub IsComputed : ℕ → ComputeLevel → Type 0
 IsComputed func places.Root = Unit {0}
 IsComputed func (places.At at) = func < at.func
 IsComputed func places.Inlined = ⊥
@@ -83,7 +83,7 @@ IsComputed func places.Nowhere = ⊥
 abbrev pub PureReadsOfFuncsLie : Type 0
 PureReadsOfFuncsLie = (pipeline : Pipeline) (schedule : Schedule) (boxes : Boxes) → IsWellFormed pipeline → inferred pipeline schedule ≡ Ok boxes
     → (reader : ℕ) (func : Func) (own : SourceBox) → slice_get pipeline.funcs reader ≡ Some func → slice_get boxes.funcs reader ≡ Some (Some own)
-    → (place : ℕ) (sought : Standing) → place < reader → slice_get schedule.standings place ≡ Some sought → sought.is_reached ≡ true
+    → (place : ℕ) (sought : FuncPlacement) → place < reader → slice_get schedule.standings place ≡ Some sought → sought.is_reached ≡ true
     → IsComputed place sought.place
     → (consumer : Option ConsumerLoop) → consumer_in schedule boxes.funcs sought.place ≡ consumer
     → (view : SourceBox) → view_of (slice_get schedule.funcs reader) (slice_get schedule.standings reader) own consumer ≡ view
@@ -135,7 +135,7 @@ abbrev pub UpdateReadsOfFuncsLie : Type 0
 UpdateReadsOfFuncsLie = (pipeline : Pipeline) (schedule : Schedule) (boxes : Boxes) → IsWellFormed pipeline → inferred pipeline schedule ≡ Ok boxes
     → (reader : ℕ) (func : Func) (own : SourceBox) → slice_get pipeline.funcs reader ≡ Some func → slice_get boxes.funcs reader ≡ Some (Some own)
     → (at : ℕ) (update : Update) → slice_get func.updates at ≡ Some update
-    → (place : ℕ) (sought : Standing) → place < reader → slice_get schedule.standings place ≡ Some sought → sought.is_reached ≡ true
+    → (place : ℕ) (sought : FuncPlacement) → place < reader → slice_get schedule.standings place ≡ Some sought → sought.is_reached ≡ true
     → IsComputed place sought.place
     → (consumer : Option ConsumerLoop) → consumer_in schedule boxes.funcs sought.place ≡ consumer
     → (view : SourceBox) → view_of (slice_get schedule.funcs reader) (slice_get schedule.standings reader) own consumer ≡ view
@@ -150,7 +150,7 @@ UpdateReadsOfFuncsLie = (pipeline : Pipeline) (schedule : Schedule) (boxes : Box
 -- The output's picture lies in its Func's box.
 abbrev pub OutputLies : Type 0
 OutputLies = (pipeline : Pipeline) (schedule : Schedule) (boxes : Boxes) → IsWellFormed pipeline → inferred pipeline schedule ≡ Ok boxes
-    → (sought : Standing) → slice_get schedule.standings pipeline.output.func ≡ Some sought → sought.is_reached ≡ true → sought.place ≡ places.Root
+    → (sought : FuncPlacement) → slice_get schedule.standings pipeline.output.func ≡ Some sought → sought.is_reached ≡ true → sought.place ≡ places.Root
     → (x y : ℕ) → x < pipeline.output.width → y < pipeline.output.height → IsBoxed no_loops (slice_get boxes.funcs pipeline.output.func) x y
 
 -- Where dimensions count, the point lies in the box in these.
@@ -167,7 +167,7 @@ IsPartlyBoxed values (Some (Some own)) first second x y = LiesPartly values own 
 -- dimension that isn't in place.
 abbrev pub OwnReadsLie : Type 0
 OwnReadsLie = (pipeline : Pipeline) (schedule : Schedule) (boxes : Boxes) → IsWellFormed pipeline → inferred pipeline schedule ≡ Ok boxes
-    → (reader : ℕ) (func : Func) (sought : Standing) → slice_get pipeline.funcs reader ≡ Some func
+    → (reader : ℕ) (func : Func) (sought : FuncPlacement) → slice_get pipeline.funcs reader ≡ Some func
     → slice_get schedule.standings reader ≡ Some sought → sought.is_reached ≡ true → sought.place ≡ places.Root
     → (at : ℕ) (update : Update) → slice_get func.updates at ≡ Some update
     → (reads : Reads) → AnswerWords pipeline.inputs reads

@@ -13,9 +13,9 @@ use Rattle.halide_pipeline.specs.declared.expressions.Source.TheVariants as sour
 use Rattle.halide_pipeline.specs.WellFormed.{is_first_in_place, is_second_in_place, IsWellFormed}
 use Rattle.halide_pipeline.specs.Pipelines.{Pipeline}
 use Rattle.schedule.specs.declared.schedules.Schedule.{Schedule}
-use Rattle.schedule.specs.declared.standings.Standing.{Standing}
+use Rattle.schedule.specs.declared.placements.FuncPlacement.{FuncPlacement}
 use Rattle.schedule.specs.Accepted.{IsAccepted}
-use Rattle.bounds_ranges.specs.declared.expressions.Asked.{Asked}
+use Rattle.bounds_ranges.specs.declared.expressions.ReadRange.{ReadRange}
 use Rattle.bounds_ranges.specs.declared.ranges.Ends.{Ends}
 use Rattle.bounds_ranges.specs.declared.ranges.Range.{Range}
 use Rattle.bounds_ranges.specs.Ranges.{no_base, same_base, ends_of, widened}
@@ -53,9 +53,9 @@ pub record IsLeast (lasts : List ℕ) (all : List Range) (own : Range) : Type 0 
 
 -- ---- what is asked of a source in one dimension, the one that `side` has of a read
 
-module _ (side : Asked → Range) where
+module _ (side : ReadRange → Range) where
   -- among these reads
-  abbrev pub asked_of : Option ConsumerLoop → List ℕ → Source → List Asked → List Range
+  abbrev pub asked_of : Option ConsumerLoop → List ℕ → Source → List ReadRange → List Range
   asked_of consumer lasts source [] = []
   asked_of consumer lasts source (read ∷ others) =
       if same_source read.source source then taken consumer lasts (side read) ∷ asked_of consumer lasts source others else asked_of consumer lasts source others
@@ -114,7 +114,7 @@ pub record IsLeastBox (consumer : Option ConsumerLoop) (columns rows : List Rang
 abbrev pub FuncBoxesAreLeast : Type 0
 FuncBoxesAreLeast = (pipeline : Pipeline) (schedule : Schedule) (boxes : Boxes) → IsWellFormed pipeline → IsAccepted pipeline schedule
     → inferred pipeline schedule ≡ Ok boxes
-    → (at : ℕ) (func : Func) (standing : Standing) (own : SourceBox)
+    → (at : ℕ) (func : Func) (standing : FuncPlacement) (own : SourceBox)
     → slice_get pipeline.funcs at ≡ Some func → slice_get schedule.standings at ≡ Some standing → slice_get boxes.funcs at ≡ Some (Some own)
     → let consumer = consumer_in schedule boxes.funcs standing.place in
     IsLeastBox consumer (columns_asked pipeline schedule boxes.funcs at consumer func) (rows_asked pipeline schedule boxes.funcs at consumer func) own

@@ -6,7 +6,7 @@ use Rattle.std.specs.Prelude.{◌≡◌, ℕ, ◌+◌, ◌&&◌, Bool, false, if
 use Rattle.halide_pipeline.specs.declared.definitions.Func.{Func}
 use Rattle.halide_pipeline.specs.Pipelines.{Pipeline}
 use Rattle.schedule.specs.declared.schedules.Schedule.{Schedule}
-use Rattle.schedule.specs.declared.standings.Standing.{Standing}
+use Rattle.schedule.specs.declared.placements.FuncPlacement.{FuncPlacement}
 use Rattle.schedule.specs.Accepted.{IsAccepted}
 use Rattle.schedule.specs.Legal.{is_root}
 use Rattle.bounds_weights.specs.Weight.{is_computed}
@@ -15,7 +15,7 @@ use Rattle.bounds.specs.Extents.{box_in}
 use Rattle.bounds.specs.Verdict.{inferred}
 
 -- The Func at a place is computed: the output reaches it, and it isn't inlined.
-abbrev pub is_computed_there : Option Standing → Bool
+abbrev pub is_computed_there : Option FuncPlacement → Bool
 is_computed_there None = false
 is_computed_there (Some own) = is_computed own
 
@@ -25,7 +25,7 @@ BoxesAreOfReachedFuncs = (pipeline : Pipeline) (schedule : Schedule) (boxes : Bo
     → (place : ℕ) → is_some (box_in (slice_get boxes.funcs place)) ≡ is_computed_there (slice_get schedule.standings place)
 
 -- how many stages the Funcs at root have that the output reaches: of each its pure definition, and its updates
-abbrev pub reached_stages : List Standing → List Func → ℕ
+abbrev pub reached_stages : List FuncPlacement → List Func → ℕ
 reached_stages [] funcs = 0
 reached_stages (standing ∷ standings) [] = 0
 reached_stages (standing ∷ standings) (func ∷ funcs) =

@@ -8,16 +8,16 @@ use Rattle.schedule_lines.specs.declared.lines.Computed.TheVariants as computed
 use Rattle.schedule_lines.specs.declared.lines.LoopNames.{LoopNames}
 use Rattle.schedule.specs.declared.plans.ComputeLine.{ComputeLine}
 use Rattle.schedule.specs.declared.plans.FuncPlan.{FuncPlan}
-use Rattle.schedule.specs.declared.standings.LoopPlace.{LoopPlace}
-use Rattle.schedule.specs.declared.standings.Place.TheVariants as places
-use Rattle.schedule.specs.declared.standings.Standing.{Standing}
-use Rattle.schedule.specs.Standing.{place_calls, consumer, standings}
+use Rattle.schedule.specs.declared.placements.LoopPlace.{LoopPlace}
+use Rattle.schedule.specs.declared.placements.ComputeLevel.TheVariants as places
+use Rattle.schedule.specs.declared.placements.FuncPlacement.{FuncPlacement}
+use Rattle.schedule.specs.Placements.{place_calls, consumer, standings}
 use Rattle.schedule.specs.Uses.{IsReached, StandsWithin}
 
 -- Each later Func that is reached and calls the one at a place makes its reads within the loop.
 abbrev pub HasReadersWithin : Pipeline → List FuncPlan → ℕ → LoopPlace → Type 0
 HasReadersWithin pipeline plans at loop =
-    (reader : ℕ) (its : Standing) → at < reader → IsReached (standings pipeline plans) reader its → place_calls pipeline reader at ≡ true
+    (reader : ℕ) (its : FuncPlacement) → at < reader → IsReached (standings pipeline plans) reader its → place_calls pipeline reader at ≡ true
     → StandsWithin pipeline plans (standings pipeline plans) loop reader
 
 -- A line names this loop for a Func that isn't the output, or no loop that may have it.
@@ -32,15 +32,15 @@ pub record IsSaidAt (pipeline : Pipeline) (plans : List FuncPlan) (at : ℕ) (lo
   pub no_output : at ≡ pipeline.output.func → ⊥
 
 -- It is computed there, or nowhere.
-pub record StandsThere (pipeline : Pipeline) (plans : List FuncPlan) (at : ℕ) (loop : LoopPlace) (own : Standing) : Type 0 where
+pub record StandsThere (pipeline : Pipeline) (plans : List FuncPlan) (at : ℕ) (loop : LoopPlace) (own : FuncPlacement) : Type 0 where
   pub there_or_nowhere : (own.place ≡ places.At loop) ⊎ (own.place ≡ places.Nowhere)
   pub only_if : own.place ≡ places.At loop → HasReadersWithin pipeline plans at loop
   pub where_so : HasReadersWithin pipeline plans at loop → own.place ≡ places.At loop
 
 abbrev pub StandsWhereReadersDo : Type 0
-StandsWhereReadersDo = (pipeline : Pipeline) (plans : List FuncPlan) (at : ℕ) (loop : LoopPlace) (own : Standing) → IsSaidAt pipeline plans at (Some loop)
+StandsWhereReadersDo = (pipeline : Pipeline) (plans : List FuncPlan) (at : ℕ) (loop : LoopPlace) (own : FuncPlacement) → IsSaidAt pipeline plans at (Some loop)
     → slice_get (standings pipeline plans) at ≡ Some own → StandsThere pipeline plans at loop own
 
 abbrev pub StandsNowhereElse : Type 0
-StandsNowhereElse = (pipeline : Pipeline) (plans : List FuncPlan) (at : ℕ) (own : Standing) → IsSaidAt pipeline plans at None
+StandsNowhereElse = (pipeline : Pipeline) (plans : List FuncPlan) (at : ℕ) (own : FuncPlacement) → IsSaidAt pipeline plans at None
     → slice_get (standings pipeline plans) at ≡ Some own → own.place ≡ places.Nowhere

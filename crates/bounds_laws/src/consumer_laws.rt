@@ -15,8 +15,8 @@ ghost use Rattle.bounds_laws.specs.ConsumerLaws.{
   UpdateReadsInLoopsLie,
 };
 
-/// While a loop of a pure definition and those outside of it are in given turns, each point to which the loops inside
-/// take the arguments lies in the view of them with which Funcs computed at that loop are asked.
+/// While a loop of a pure definition and those outside of it are in given iterations, each point to which the loops
+/// inside take the arguments lies in the view of them with which Funcs computed at that loop are asked.
 pub fn consumer_arguments_lie()
     ensures { ConsumerArgumentsLie }
 {}
@@ -68,7 +68,7 @@ pub fn visits_lie()
 
 /// Wherever loops take the arguments of a Func that makes its reads within the loop at which another one is computed,
 /// they lie in the view of them with which that other one is asked, while the loops of the consumer from that one
-/// outward have the same turns.
+/// outward have the same iterations.
 pub fn arguments_lie_in_views()
     ensures { ArgumentsLieInViews }
 {}

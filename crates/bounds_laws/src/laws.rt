@@ -44,7 +44,7 @@ pub fn own_reads_lie()
     ensures { OwnReadsLie }
 {}
 
-/// Boxes hold all that the pixels of the output's picture read, with all that these read in turn: what is read of an
+/// Boxes hold all that the pixels of the output's picture read, all that those read, and so on: what is read of an
 /// input lies within its extents, and what is read of a Func that is computed lies in its box.
 pub fn all_reads_are_held()
     ensures { AllReadsAreHeld }

@@ -5,8 +5,8 @@
 //!   (`specs/Reached.antt`, `specs/Least.antt`).
 //! - [`caller_laws`]: which Funcs another reads, also through inlined ones, and where the readers stand
 //!   (`specs/Callers.antt`, `specs/StandingWhere.antt`).
-//! - [`laws`]: **what is read lies in its box**, for all that the output's pixels read, with all that these read in
-//!   turn (`specs/Laws.antt`, `specs/Closure.antt`).
+//! - [`laws`]: **what is read lies in its box**, for all that the output's pixels read, what those read, and so on
+//!   (`specs/Laws.antt`, `specs/Closure.antt`).
 //! - [`consumer_laws`]: so do the arguments to which loops take a Func, and what is read there of a Func at a loop
 //!   (`specs/ConsumerLaws.antt`).
 #![tactic(auto)]

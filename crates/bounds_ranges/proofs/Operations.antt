@@ -26,7 +26,7 @@ use Rattle.bounds_inlining.proofs.Kept.{folds_are_related, levels_related}
 use Rattle.bounds_inlining.proofs.KeptFolds.{KeptLevels, kept_folds_related}
 use Rattle.bounds_ranges.specs.declared.ranges.CommonBase.{CommonBase}
 use Rattle.bounds_ranges.specs.declared.ranges.Ends.{Ends}
-use Rattle.bounds_ranges.specs.declared.expressions.Asked.{Asked}
+use Rattle.bounds_ranges.specs.declared.expressions.ReadRange.{ReadRange}
 use Rattle.bounds_ranges.specs.declared.expressions.OwnCalls.{OwnCalls}
 use Rattle.bounds_ranges.specs.declared.ranges.Range.{Range}
 use Rattle.bounds_ranges.specs.Ranges.{no_base, add_base, negated, same_base, more_sum, less_sum, between, every, ends_of, fit, widened, added, subtracted}
@@ -187,7 +187,7 @@ module _ (lasts values : List ℕ) (below : Below values lasts) where
 
   -- ---- points
 
-  all_lie_both : (a b : List Asked) (p q : List Point) → AllLie lasts values a p → AllLie lasts values b q → AllLie lasts values (a ++ b) (p ++ q)
+  all_lie_both : (a b : List ReadRange) (p q : List Point) → AllLie lasts values a p → AllLie lasts values b q → AllLie lasts values (a ++ b) (p ++ q)
   all_lie_both [] b [] q la lb = lb
   all_lie_both [] b (point ∷ p) q la lb = absurd la
   all_lie_both (first ∷ a) b [] q la lb = absurd la
@@ -213,8 +213,8 @@ module _ (lasts values : List ℕ) (below : Below values lasts) where
     abbrev R : Ranged → Seen → Type 0
     R = Covers lasts values
 
-    -- a read behind others
-    one_more : (s : Source) (before : List Asked) (points : List Point) (x y : Range) (v w : ℕ) → AllLie lasts values before points → Lies lasts values x v
+    -- a read after others
+    one_more : (s : Source) (before : List ReadRange) (points : List Point) (x y : Range) (v w : ℕ) → AllLie lasts values before points → Lies lasts values x v
         → Lies lasts values y w
         → AllLie lasts values (before ++ (record { source = s; x = x; y = y } ∷ [])) (points ++ (record { source = s; x = v; y = w } ∷ []))
     one_more s before points x y v w all lx ly =

@@ -15,7 +15,7 @@ use Rattle.halide_pipeline.specs.declared.expressions.Variable.TheVariants as va
 use Rattle.bounds_inlining.specs.Inlining.{Inside, none, arguments, answer, answered, inside, made_in, flagged, func_in, through, through_at}
 use Rattle.halide_pipeline.proofs.Trees.{at_call1, at_call2}
 use Rattle.bounds_inlining.proofs.Steps.{inside_is}
-use Rattle.bounds_ranges.specs.declared.expressions.Asked.{Asked}
+use Rattle.bounds_ranges.specs.declared.expressions.ReadRange.{ReadRange}
 use Rattle.bounds_ranges.specs.declared.expressions.OwnCalls.{OwnCalls}
 use Rattle.bounds_ranges.specs.declared.expressions.Variables.{Variables}
 use Rattle.bounds_ranges.specs.declared.ranges.Range.{Range}
@@ -24,8 +24,8 @@ use Rattle.bounds_ranges.specs.Expressions.{Ranged, ranging, called, unasked, un
 use Rattle.bounds_ranges.specs.Expressions.{ranged_update, ranges_where, is_anywhere, chosen}
 use Rattle.bounds_ranges.specs.inner.Walking.{answer_of}
 
-pub two_asked : (old first second a b : List Asked) → first ≡ old ++ a → second ≡ first ++ b → second ≡ old ++ (a ++ b)
-two_asked old first second a b e f = f ∙ ap (λ (l : List Asked). l ++ b) e ∙ append_assoc old a b
+pub two_asked : (old first second a b : List ReadRange) → first ≡ old ++ a → second ≡ first ++ b → second ≡ old ++ (a ++ b)
+two_asked old first second a b e f = f ∙ ap (λ (l : List ReadRange). l ++ b) e ∙ append_assoc old a b
 
 -- the ranges of a definition's variables
 pub variables_are : (lasts : List ℕ) (inputs : List Input) (x y zero : Range) → zero ≡ literal lasts 0
@@ -53,7 +53,7 @@ module _ (lasts : List ℕ) (inputs : List Input) (flags : List Bool) (funcs : L
   abbrev alone : Source → Range → Range → Ranged
   alone s x y = record { range = called inputs s; asked = record { source = s; x = x; y = y } ∷ [] }
 
-  -- behind what an index reads, the answer to the ranges alone
+  -- after what an index reads, the answer to the ranges alone
   abbrev pub Behind1 : Source → Ranged → Option (Ranged → Option Ranged → Ranged) → Type 0
   Behind1 s x found =
       answered ((ranging lasts inputs).level (layer.Call1 s x)) x None found
@@ -86,14 +86,14 @@ module _ (lasts : List ℕ) (inputs : List Input) (flags : List Bool) (funcs : L
   made2 : (s : Source) (x y : Ranged) (deep : Inside Ranged) (func : Option Func) → Behind2 s x y (made_in (ranging lasts inputs) deep func)
   unfolding ranging
   made2 s x y deep None =
-      ap (λ (l : List Asked). record { range = called inputs s; asked = l }) (append_assoc x.asked y.asked (record { source = s; x = x.range; y = y.range }
+      ap (λ (l : List ReadRange). record { range = called inputs s; asked = l }) (append_assoc x.asked y.asked (record { source = s; x = x.range; y = y.range }
       ∷ []))
   made2 s x y deep (Some func) = refl
 
   pub answered2 : (s : Source) (x y : Ranged) → Behind2 s x y (answer within s)
   unfolding ranging
   answered2 (sources.Input place) x y =
-      ap (λ (l : List Asked). record { range = called inputs (sources.Input place); asked = l }) (append_assoc x.asked y.asked
+      ap (λ (l : List ReadRange). record { range = called inputs (sources.Input place); asked = l }) (append_assoc x.asked y.asked
       (record { source = sources.Input place; x = x.range; y = y.range } ∷ []))
   answered2 (sources.Func place) x y =
       subst (λ (found : Option (Ranged → Option Ranged → Ranged)). Behind2 (sources.Func place) x y found)
@@ -132,19 +132,19 @@ are_fit lasts x y zero fx fy fz variables.SecondArgument = fy
 are_fit lasts x y zero fx fy fz variables.FirstReduction = fz
 are_fit lasts x y zero fx fy fz variables.SecondReduction = fz
 
-pub three_asked : (old first second third a b c : List Asked) → first ≡ old ++ a → second ≡ first ++ b → third ≡ second ++ c → third ≡ old ++ (a ++ (b ++ c))
+pub three_asked : (old first second third a b c : List ReadRange) → first ≡ old ++ a → second ≡ first ++ b → third ≡ second ++ c → third ≡ old ++ (a ++ (b ++ c))
 three_asked old first second third a b c e f g = two_asked old first third a (b ++ c) e (two_asked first second third b c f g)
 
-pub joined2 : (old first second a b c d whole : List Asked) → first ≡ old ++ a → a ≡ c → second ≡ first ++ b → b ≡ d → whole ≡ c ++ d → second ≡ old ++ whole
+pub joined2 : (old first second a b c d whole : List ReadRange) → first ≡ old ++ a → a ≡ c → second ≡ first ++ b → b ≡ d → whole ≡ c ++ d → second ≡ old ++ whole
 joined2 old first second a b c d whole e f g h i =
-    two_asked old first second c d (e ∙ ap (λ (l : List Asked). old ++ l) f) (g ∙ ap (λ (l : List Asked). first ++ l) h)
-    ∙ ap (λ (l : List Asked). old ++ l) (sym i)
+    two_asked old first second c d (e ∙ ap (λ (l : List ReadRange). old ++ l) f) (g ∙ ap (λ (l : List ReadRange). first ++ l) h)
+    ∙ ap (λ (l : List ReadRange). old ++ l) (sym i)
 
-pub joined3 : (old first second third a b c d g h whole : List Asked) → first ≡ old ++ a → a ≡ d → second ≡ first ++ b → b ≡ g → third ≡ second ++ c → c ≡ h
+pub joined3 : (old first second third a b c d g h whole : List ReadRange) → first ≡ old ++ a → a ≡ d → second ≡ first ++ b → b ≡ g → third ≡ second ++ c → c ≡ h
     → whole ≡ d ++ (g ++ h) → third ≡ old ++ whole
 joined3 old first second third a b c d g h whole e f i j k l m =
-    three_asked old first second third d g h (e ∙ ap (λ (x : List Asked). old ++ x) f) (i ∙ ap (λ (x : List Asked). first ++ x) j) (k
-    ∙ ap (λ (x : List Asked). second ++ x) l) ∙ ap (λ (x : List Asked). old ++ x) (sym m)
+    three_asked old first second third d g h (e ∙ ap (λ (x : List ReadRange). old ++ x) f) (i ∙ ap (λ (x : List ReadRange). first ++ x) j) (k
+    ∙ ap (λ (x : List ReadRange). second ++ x) l) ∙ ap (λ (x : List ReadRange). old ++ x) (sym m)
 
 -- ---- an update's calls
 
@@ -193,7 +193,7 @@ module _ (lasts : List ℕ) (inputs : List Input) (flags : List Bool) (funcs : L
       ∙ answered2 lasts inputs flags funcs count s (of_update (first_at around s) a) (of_update (second_at around s) b)
 
 -- one more read whose ranges stay within the words
-pub fit_behind : (lasts : List ℕ) (reads : List Asked) (source : Source) (x y : Range) → AreFitReads lasts reads → IsFit lasts x → IsFit lasts y
+pub fit_behind : (lasts : List ℕ) (reads : List ReadRange) (source : Source) (x y : Range) → AreFitReads lasts reads → IsFit lasts x → IsFit lasts y
     → AreFitReads lasts (reads ++ record { source = source; x = x; y = y } ∷ [])
 unfolding AreFitReads
 fit_behind lasts [] source x y all first second = ((first, second), tt)

@@ -13,7 +13,7 @@ use Rattle.halide_pipeline.specs.declared.expressions.Variable.{Variable}
 use Rattle.halide_pipeline.specs.declared.expressions.Variable.TheVariants as variables
 use Rattle.halide_pipeline.specs.WellFormed.{is_own_call}
 use Rattle.bounds_inlining.specs.Inlining.{Algebra, inlined, inside, through_at, flagged}
-use Rattle.bounds_ranges.specs.declared.expressions.Asked.{Asked}
+use Rattle.bounds_ranges.specs.declared.expressions.ReadRange.{ReadRange}
 use Rattle.bounds_ranges.specs.declared.expressions.OwnCalls.{OwnCalls}
 use Rattle.bounds_ranges.specs.declared.expressions.Variables.{Variables}
 use Rattle.bounds_ranges.specs.declared.ranges.Range.{Range}
@@ -43,9 +43,9 @@ range_at lasts inputs (layer.Call2 source x y) = called inputs source
 -- the range of a part, and of each point that it reads: those of its indexes, of which one that isn't written is 0
 pub record Ranged : Type 0 where
   pub range : Range
-  pub asked : List Asked
+  pub asked : List ReadRange
 
-abbrev pub asked_at : List ℕ → Expr-F Ranged → List Asked
+abbrev pub asked_at : List ℕ → Expr-F Ranged → List ReadRange
 asked_at lasts (layer.Number n) = []
 asked_at lasts (layer.Variable v) = []
 asked_at lasts (layer.Binary operation a b) = a.asked ++ b.asked
@@ -62,7 +62,7 @@ ranged_at lasts inputs e = record { range = range_at lasts inputs (map-Expr Rang
 abbrev pub unasked : Range → Ranged
 unasked range = record { range = range; asked = [] }
 
-abbrev pub second_asked : Option Ranged → List Asked
+abbrev pub second_asked : Option Ranged → List ReadRange
 second_asked None = []
 second_asked (Some y) = y.asked
 
@@ -133,10 +133,10 @@ abbrev pub AreFit : List ℕ → Variables → Type 0
 AreFit lasts given = (v : Variable) → IsFit lasts (range_of given v)
 
 -- nor do those in which points are read
-abbrev pub IsFitRead : List ℕ → Asked → Type 0
+abbrev pub IsFitRead : List ℕ → ReadRange → Type 0
 IsFitRead lasts read = IsFit lasts read.x × IsFit lasts read.y
 
-unfoldable pub AreFitReads : List ℕ → List Asked → Type 0
+unfoldable pub AreFitReads : List ℕ → List ReadRange → Type 0
 AreFitReads lasts reads = AllByRecursion (IsFitRead lasts) reads
 
 -- the flagged Funcs are inlined

@@ -15,7 +15,7 @@ use Rattle.halide_pipeline.specs.Points.{Point, Seen}
 use Rattle.bounds_inlining.specs.Inlining.{inlined}
 use Rattle.bounds_inlining.specs.Values.{seeing}
 use Rattle.bounds_inlining.specs.Laws.{AreFuncs, seen_variable}
-use Rattle.bounds_ranges.specs.declared.expressions.Asked.{Asked}
+use Rattle.bounds_ranges.specs.declared.expressions.ReadRange.{ReadRange}
 use Rattle.bounds_ranges.specs.declared.expressions.OwnCalls.{OwnCalls}
 use Rattle.bounds_ranges.specs.declared.ranges.Range.{Range}
 use Rattle.bounds_ranges.specs.Ranges.{more_sum, less_sum}
@@ -39,13 +39,13 @@ pub record Lies (lasts values : List ℕ) (range : Range) (x : ℕ) : Type 0 whe
   pub fits_high : range.high + more_sum range.base lasts ≤ greatest
 
 -- A point is one of the source, and its coordinates lie in these ranges.
-pub record LiesAt (lasts values : List ℕ) (asked : Asked) (point : Point) : Type 0 where
+pub record LiesAt (lasts values : List ℕ) (asked : ReadRange) (point : Point) : Type 0 where
   pub source : point.source ≡ asked.source
   pub x : Lies lasts values asked.x point.x
   pub y : Lies lasts values asked.y point.y
 
 -- Each point lies in the ranges in its place.
-abbrev pub AllLie : List ℕ → List ℕ → List Asked → List Point → Type 0
+abbrev pub AllLie : List ℕ → List ℕ → List ReadRange → List Point → Type 0
 AllLie lasts values [] [] = Unit {0}
 AllLie lasts values [] (point ∷ points) = ⊥
 AllLie lasts values (first ∷ asked) [] = ⊥

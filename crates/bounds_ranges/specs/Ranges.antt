@@ -15,7 +15,7 @@ use Rattle.bounds_ranges.specs.Numbers.{origin, least, greatest}
 -- ---- Bases of ranges: sums of whole multiples of loops, a multiple for each loop that a stage can have.
 
 -- A multiple past this bound counts as the bound. Only one of a loop that runs once can be so great, since otherwise
--- some value of the loop would leave the signed words; and no value hangs on that one.
+-- some value of the loop would leave the signed words; and no value depends on that one.
 abbrev pub most_multiple : ℕ
 most_multiple = 2 ^ 40
 

@@ -15,7 +15,7 @@ use std::alloc::AllocError;
 
 /// A read: in which ranges its point lies. An index that isn't written is 0.
 #[derive(Clone, Copy, Debug)]
-pub struct Asked {
+pub struct ReadRange {
     pub source: Source,
     pub x: Range,
     pub y: Range,
@@ -32,7 +32,7 @@ pub struct Variables {
 
 /// The scope of an expression: the loops around it, what it may call, and its variables.
 #[derive(Clone, Copy)]
-pub struct Scope<'a> {
+pub struct RangeScope<'a> {
     pub lasts: &'a Lasts,
     pub inputs: &'a [Input],
     pub funcs: &'a [Func],
@@ -94,7 +94,11 @@ fn variable(variables: &Variables, variable: Variable) -> Range
 /// those of an argument of an inlined Func once.
 #[cycle(ranged)]
 #[tactic(auto, unfolding(bounds_inlining::specs::Inlining::through, crate::specs::Expressions::ranging))]
-pub fn ranged(scope: &Scope<'_>, expr: &Expr, asked: &mut Vec<Asked>) -> Result<Range, AllocError>
+pub fn ranged(
+    scope: &RangeScope<'_>,
+    expr: &Expr,
+    asked: &mut Vec<ReadRange>,
+) -> Result<Range, AllocError>
     requires variables { spec.AreFit scope.now.lasts.now scope.now.variables.now }
     requires reads { spec.AreFitReads scope.now.lasts.now asked.old.items }
     ensures range { IfOk result (λ r. r
@@ -151,7 +155,7 @@ fn ask(
     source: Source,
     x: Range,
     y: Range,
-    asked: &mut Vec<Asked>,
+    asked: &mut Vec<ReadRange>,
 ) -> Result<Range, AllocError>
     requires first { IsFit lasts.now x }
     requires second { IsFit lasts.now y }
@@ -161,18 +165,18 @@ fn ask(
     ensures reads { OnOk result (spec.AreFitReads lasts.now asked.new.items) }
     ensures asked { OnOk result (asked.new.items ≡ asked.old.items ++ (record { source = source; x = x; y = y } ∷ [])) }
 {
-    asked.push(Asked { source, x, y })?;
+    asked.push(ReadRange { source, x, y })?;
     Ok(called(lasts, inputs, source))
 }
 
 /// The range of a call, whose indexes have these ranges.
 #[cycle(ranged)]
 fn answered(
-    scope: &Scope<'_>,
+    scope: &RangeScope<'_>,
     source: Source,
     x: Range,
     y: Range,
-    asked: &mut Vec<Asked>,
+    asked: &mut Vec<ReadRange>,
 ) -> Result<Range, AllocError>
     requires first { IsFit scope.now.lasts.now x }
     requires second { IsFit scope.now.lasts.now y }
@@ -203,7 +207,7 @@ fn answered(
                 first_reduction: zero,
                 second_reduction: zero,
             };
-            let inside = Scope {
+            let inside = RangeScope {
                 count: place,
                 variables: &variables,
                 ..*scope
@@ -251,11 +255,11 @@ fn is_anywhere(own: &OwnCalls, anywhere: bool, source: Source, in_place: bool) -
 /// that doesn't stand in place.
 #[tactic(auto, unfolding(crate::specs::Expressions::ranged_update, crate::specs::Expressions::ranging))]
 pub fn ranged_update(
-    scope: &Scope<'_>,
+    scope: &RangeScope<'_>,
     own: &OwnCalls,
     anywhere: bool,
     expr: &Expr,
-    asked: &mut Vec<Asked>,
+    asked: &mut Vec<ReadRange>,
 ) -> Result<Range, AllocError>
     requires variables { spec.AreFit scope.now.lasts.now scope.now.variables.now }
     requires reads { spec.AreFitReads scope.now.lasts.now asked.old.items }

@@ -14,17 +14,17 @@ use Rattle.schedule_lines.specs.declared.stages.Loop.{Loop}
 use Rattle.schedule_lines.specs.declared.stages.LoopId.{LoopId}
 use Rattle.schedule.specs.declared.plans.FuncPlan.{FuncPlan}
 use Rattle.schedule.specs.declared.schedules.Schedule.{Schedule}
-use Rattle.schedule.specs.declared.standings.Standing.{Standing}
+use Rattle.schedule.specs.declared.placements.FuncPlacement.{FuncPlacement}
 use Rattle.schedule.specs.Legal.{is_inlined}
-use Rattle.schedule.specs.declared.standings.Place.{Place}
+use Rattle.schedule.specs.declared.placements.ComputeLevel.{ComputeLevel}
 use Rattle.bounds_inlining.specs.Inlining.{inlined, flagged, counting, needing}
 use Rattle.bounds_weights.specs.declared.faults.WeightError.{WeightError}
 use Rattle.bounds_weights.specs.declared.faults.WeightError.TheVariants as errors
 use Rattle.bounds_weights.specs.declared.stage_needs.StageNeeds.{StageNeeds}
 use Rattle.schedule_lines.specs.declared.stages.Mark.TheVariants as marks
 use Rattle.schedule_lines.specs.Directives.{is_marked, same_id, find_marked}
-use Rattle.schedule.specs.declared.standings.Place.TheVariants as places
-use Rattle.schedule.specs.Standing.{pure_loops_of}
+use Rattle.schedule.specs.declared.placements.ComputeLevel.TheVariants as places
+use Rattle.schedule.specs.Placements.{pure_loops_of}
 
 -- ---- How many copies of a stage's code stand one after the other, since loops around it are unrolled.
 
@@ -32,7 +32,7 @@ abbrev pub factor_of : Option ℕ → ℕ
 factor_of None = 1
 factor_of (Some factor) = factor
 
--- An unrolled loop is the inner one of a split: a copy for each of its rounds.
+-- An unrolled loop is the inner one of a split: a copy for each of its iterations.
 abbrev pub copies : Loop → ℕ
 copies own = if is_marked marks.Unrolled own then factor_of own.inner_of else 1
 
@@ -46,7 +46,7 @@ copies_from id [] = 1
 copies_from id (first ∷ outside) = if same_id first.id id then copies first * all_copies outside else copies_from id outside
 
 -- of the loop at which a Func is computed and those outside of it
-abbrev pub consumer_copies : List FuncPlan → Place → ℕ
+abbrev pub consumer_copies : List FuncPlan → ComputeLevel → ℕ
 consumer_copies plans places.Inlined = 1
 consumer_copies plans places.Root = 1
 consumer_copies plans (places.At consumer) = copies_from consumer.inside (pure_loops_of (slice_get plans consumer.func))
@@ -59,12 +59,12 @@ abbrev pub most_weight : ℕ
 most_weight = 4096
 
 -- which Funcs are inlined
-abbrev pub flags_of : List Standing → List Bool
+abbrev pub flags_of : List FuncPlacement → List Bool
 flags_of [] = []
 flags_of (own ∷ others) = is_inlined own.place ∷ flags_of others
 
 -- A Func is computed that the output reaches and that isn't inlined.
-abbrev pub is_computed : Standing → Bool
+abbrev pub is_computed : FuncPlacement → Bool
 is_computed own = own.is_reached && not (is_inlined own.place)
 
 -- ---- nodes
@@ -92,15 +92,15 @@ updates_weight flags funcs (update ∷ updates) (stage ∷ stages) =
     stage_weight (update_nodes flags funcs update) stage + updates_weight flags funcs updates stages
 
 -- all stages of a Func, in each copy of the code around them
-abbrev pub func_weight : List Bool → List Func → List FuncPlan → Func → FuncPlan → Standing → ℕ
+abbrev pub func_weight : List Bool → List Func → List FuncPlan → Func → FuncPlan → FuncPlacement → ℕ
 func_weight flags funcs plans func plan own =
     (stage_weight (nodes_in flags funcs func.pure) plan.pure + updates_weight flags funcs func.updates plan.updates) * consumer_copies plans own.place
 
-abbrev pub computed_weight : List Bool → List Func → List FuncPlan → Func → FuncPlan → Standing → ℕ
+abbrev pub computed_weight : List Bool → List Func → List FuncPlan → Func → FuncPlan → FuncPlacement → ℕ
 computed_weight flags funcs plans func plan own = if is_computed own then func_weight flags funcs plans func plan own else 0
 
 -- all Funcs that are computed, each with its plan and what becomes of it
-abbrev pub funcs_weight : List Bool → List Func → List FuncPlan → List Func → List FuncPlan → List Standing → ℕ
+abbrev pub funcs_weight : List Bool → List Func → List FuncPlan → List Func → List FuncPlan → List FuncPlacement → ℕ
 funcs_weight flags funcs plans [] rest standings = 0
 funcs_weight flags funcs plans (func ∷ others) [] standings = 0
 funcs_weight flags funcs plans (func ∷ others) (plan ∷ rest) [] = 0
@@ -153,7 +153,7 @@ abbrev pub is_inner_of : ℕ → Option Loop → Bool
 is_inner_of factor None = false
 is_inner_of factor (Some own) = has_factor factor own.inner_of
 
--- Its vectorized loop has 16 rounds.
+-- Its vectorized loop has 16 iterations.
 abbrev pub is_by_16 : Stage → Bool
 is_by_16 stage = is_inner_of 16 (find_marked marks.Vectorized stage.loops)
 
@@ -175,10 +175,10 @@ updates_needs flags funcs (update ∷ updates) (stage ∷ stages) =
 abbrev pub func_needs : List Bool → List Func → Func → FuncPlan → StageNeeds
 func_needs flags funcs func plan = both (needs_of (need_in flags funcs func.pure) plan.pure) (updates_needs flags funcs func.updates plan.updates)
 
-abbrev pub computed_needs : List Bool → List Func → Func → FuncPlan → Standing → StageNeeds
+abbrev pub computed_needs : List Bool → List Func → Func → FuncPlan → FuncPlacement → StageNeeds
 computed_needs flags funcs func plan own = if is_computed own then func_needs flags funcs func plan else no_needs
 
-abbrev pub funcs_needs : List Bool → List Func → List Func → List FuncPlan → List Standing → StageNeeds
+abbrev pub funcs_needs : List Bool → List Func → List Func → List FuncPlan → List FuncPlacement → StageNeeds
 funcs_needs flags funcs [] plans standings = no_needs
 funcs_needs flags funcs (func ∷ others) [] standings = no_needs
 funcs_needs flags funcs (func ∷ others) (plan ∷ plans) [] = no_needs

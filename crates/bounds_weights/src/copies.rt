@@ -4,7 +4,7 @@ ghost use Rattle.std.specs.Prelude.{◌≡◌};
 ghost use Rattle.bounds_weights.specs.Weight as spec;
 ghost use Rattle.bounds_weights.specs.inner.Tables.{capped};
 
-use schedule::{FuncPlan, Place};
+use schedule::{ComputeLevel, FuncPlan};
 use schedule_lines::stages::{Loop, LoopId, Mark, is_marked, same_id};
 use sqlite_items::at;
 
@@ -52,12 +52,12 @@ fn copies_from(id: LoopId, loops: &[Loop]) -> u32
 
 /// How many there are of the code of a Func that is computed here, for the loop at which it is and those outside of
 /// it; or the greatest `u32` if there are more.
-pub fn consumer_copies(plans: &[FuncPlan], place: Place) -> u32
+pub fn consumer_copies(plans: &[FuncPlan], place: ComputeLevel) -> u32
     ensures { result ≡ capped (spec.consumer_copies plans.now place) }
 {
     match place {
-        Place::Inlined | Place::Root | Place::Nowhere => 1,
-        Place::At(consumer) => match at(plans, consumer.func) {
+        ComputeLevel::Inlined | ComputeLevel::Root | ComputeLevel::Nowhere => 1,
+        ComputeLevel::At(consumer) => match at(plans, consumer.func) {
             None => 1,
             Some(plan) => copies_from(consumer.inside, plan.pure.loops.as_slice()),
         },

@@ -7,7 +7,7 @@ ghost use Rattle.bounds_weights.specs.inner.Tables as inner;
 use crate::weighing::{inlined_flags, is_computed};
 use bounds_inlining::needs::{Need, need_calls, registers};
 use halide_pipeline::{Expr, Func, Pipeline, Update};
-use schedule::{FuncPlan, Schedule, Standing};
+use schedule::{FuncPlacement, FuncPlan, Schedule};
 use schedule_lines::stages::{Mark, Stage, find_marked};
 use std::alloc::{AllocError, Global};
 
@@ -74,7 +74,7 @@ pub fn stage_need(calls: &[Option<Need>], func: &Func, update: Option<usize>) ->
     }
 }
 
-/// Whether a stage's vectorized loop has 16 rounds.
+/// Whether a stage's vectorized loop has 16 iterations.
 fn is_by_16(stage: &Stage) -> bool
     ensures { result ≡ spec.is_by_16 stage.now }
 {
@@ -137,7 +137,7 @@ fn computed_needs(
     calls: &[Option<Need>],
     func: &Func,
     plan: &FuncPlan,
-    own: &Standing,
+    own: &FuncPlacement,
 ) -> StageNeeds
     ensures { inner.AllNeedsAs calls.now result (λ flags funcs. spec.computed_needs flags funcs func.now plan.now
         own.now) }
@@ -157,7 +157,7 @@ fn funcs_needs(
     calls: &[Option<Need>],
     funcs: &[Func],
     plans: &[FuncPlan],
-    standings: &[Standing],
+    standings: &[FuncPlacement],
 ) -> StageNeeds
     ensures { inner.AllNeedsAs calls.now result (λ flags all. spec.funcs_needs flags all funcs.now plans.now
         standings.now) }
@@ -182,7 +182,7 @@ fn total_needs(
     alloc: Global,
     funcs: &[Func],
     plans: &[FuncPlan],
-    standings: &[Standing],
+    standings: &[FuncPlacement],
 ) -> Result<StageNeeds, AllocError>
     ensures { IfOk result (λ own. own
         ≡ inner.capped_needs (spec.funcs_needs (spec.flags_of standings.now) funcs.now funcs.now plans.now

@@ -9,7 +9,7 @@ use crate::copies::{all_copies, consumer_copies};
 use crate::faults::WeightError;
 use bounds_inlining::counts::{CountCall, count_calls, nodes};
 use halide_pipeline::{Expr, Func, Pipeline, Update};
-use schedule::{FuncPlan, Place, Schedule, Standing};
+use schedule::{ComputeLevel, FuncPlacement, FuncPlan, Schedule};
 use schedule_lines::stages::Stage;
 use std::alloc::{AllocError, Global};
 
@@ -17,21 +17,21 @@ use std::alloc::{AllocError, Global};
 const MOST_WEIGHT: u32 = 4096;
 
 /// Whether a Func is inlined that is computed here.
-fn is_inlined(place: Place) -> bool
+fn is_inlined(place: ComputeLevel) -> bool
     ensures { result ≡ legal.is_inlined place }
 {
-    matches!(place, Place::Inlined)
+    matches!(place, ComputeLevel::Inlined)
 }
 
 /// Whether a Func is computed: the output reaches it, and it isn't inlined.
-pub fn is_computed(own: &Standing) -> bool
+pub fn is_computed(own: &FuncPlacement) -> bool
     ensures { result ≡ spec.is_computed own.now }
 {
     own.is_reached && !is_inlined(own.place)
 }
 
 /// Which Funcs are inlined.
-pub fn inlined_flags(alloc: Global, standings: &[Standing]) -> Result<Vec<bool>, AllocError>
+pub fn inlined_flags(alloc: Global, standings: &[FuncPlacement]) -> Result<Vec<bool>, AllocError>
     ensures { IfOk result (λ flags. flags.items ≡ spec.flags_of standings.now) }
 {
     match standings {
@@ -104,7 +104,7 @@ fn func_weight(
     plans: &[FuncPlan],
     func: &Func,
     plan: &FuncPlan,
-    own: &Standing,
+    own: &FuncPlacement,
 ) -> u32
     ensures { inner.CountsAs calls.now result (λ flags funcs. spec.func_weight flags funcs plans.now func.now plan.now
         own.now) }
@@ -121,7 +121,7 @@ fn computed_weight(
     plans: &[FuncPlan],
     func: &Func,
     plan: &FuncPlan,
-    own: &Standing,
+    own: &FuncPlacement,
 ) -> u32
     ensures { inner.CountsAs calls.now result (λ flags funcs. spec.computed_weight flags funcs plans.now func.now
         plan.now own.now) }
@@ -139,7 +139,7 @@ fn funcs_weight(
     plans: &[FuncPlan],
     funcs: &[Func],
     rest: &[FuncPlan],
-    standings: &[Standing],
+    standings: &[FuncPlacement],
 ) -> u32
     ensures { inner.CountsAs calls.now result (λ flags all. spec.funcs_weight flags all plans.now funcs.now rest.now
         standings.now) }
@@ -163,7 +163,7 @@ fn total_weight(
     alloc: Global,
     funcs: &[Func],
     plans: &[FuncPlan],
-    standings: &[Standing],
+    standings: &[FuncPlacement],
 ) -> Result<u32, AllocError>
     ensures { IfOk result (λ total. total
         ≡ inner.capped (spec.funcs_weight (spec.flags_of standings.now) funcs.now plans.now funcs.now plans.now

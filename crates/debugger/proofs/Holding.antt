@@ -1,4 +1,4 @@
--- What a session holds behind turns, and behind a machine that is put back.
+-- What a session holds after turns, and after a machine that is put back.
 use Rattle.std.proofs.Common.{◌≡◌, ◌∙◌, ◌≤◌, ℕ, Bool, nat_le, refl, sym, ap, subst, arith, List, [], ◌∷◌, length, map, Option}
 use Rattle.std.proofs.lemmas.Bool.{and_parts, leb-true}
 use Rattle.std.proofs.lemmas.List.{with_items_is}
@@ -8,15 +8,15 @@ use Rattle.rv_insn.specs.declared.instructions.Insn.{Insn}
 use Rattle.hart_core.specs.HartState.{HartState}
 use Rattle.multi_hart.specs.Run.{KeepsShape, State}
 use Rattle.multi_hart.proofs.TurnByTurn.{length-opening_harts}
-use Rattle.debugger_pages.specs.Pages.{Marks, pages_of}
-use Rattle.debugger_stores.specs.Stored.{store_in}
+use Rattle.debugger_writes.specs.Pages.{Marks, pages_of}
+use Rattle.debugger_writes.specs.Stored.{store_in}
 use Rattle.turn_log.specs.TurnLog.{LogState}
 use Rattle.loader.specs.Image.{ImageContents, IsImage}
 use Rattle.loader.specs.Loading.{machine_of}
-use Rattle.debugger.specs.declared.kept.Kept.{Kept}
+use Rattle.debugger.specs.declared.kept.KeptPlaces.{KeptPlaces}
 use Rattle.debugger.specs.Places.{SessionState, moved, opened, state_at}
 use Rattle.debugger.specs.inner.Held.{Held}
-use Rattle.debugger.specs.inner.Kept.{AreFree, CanPutBack, KeptFits}
+use Rattle.debugger.specs.inner.KeptPlaces.{AreFree, CanPutBack, KeptFits}
 use Rattle.debugger.proofs.Keeping.{can-put-back, fits-marked, none-fits, shape-there}
 
 pub shape-held : (session : SessionState) (place : ℕ) (machine : State) → machine ≡ state_at session place
@@ -35,7 +35,7 @@ as-many-bytes session place machine e = sym (shape-held session place machine e)
 pub same-text : (session : SessionState) (place : ℕ) (machine : State) → machine ≡ state_at session place → machine.text ≡ session.image.words
 same-text session place machine e = (shape-held session place machine e).text
 
-pub can-go-back : (session : SessionState) (place : ℕ) (machine : State) (kept : Kept) → machine ≡ state_at session place
+pub can-go-back : (session : SessionState) (place : ℕ) (machine : State) (kept : KeptPlaces) → machine ≡ state_at session place
     → KeptFits session.image session.log kept machine.memory
     → CanPutBack (length machine.memory) (length machine.harts) kept
 can-go-back session place machine kept e fits = can-put-back session.image session.log kept machine.memory machine fits (shape-held session place machine e)
@@ -45,13 +45,13 @@ pub text-meant : (session : SessionState) (place : ℕ) (machine : State) (store
     → stores ≡ map store_in session.image.words → stores ≡ map store_in machine.text
 text-meant session place machine stores e is = is ∙ ap (map store_in) (sym (same-text session place machine e))
 
-pub flags-held : (session : SessionState) (place : ℕ) (machine : State) (kept : Kept) → machine ≡ state_at session place
+pub flags-held : (session : SessionState) (place : ℕ) (machine : State) (kept : KeptPlaces) → machine ≡ state_at session place
     → KeptFits session.image session.log kept machine.memory
     → length kept.written.items ≡ pages_of (length machine.memory)
 flags-held session place machine kept e fits = fits.flags ∙ ap pages_of (as-many-bytes session place machine e)
 
 -- the same session at another place, with a machine that stands there
-pub held-there : (session : SessionState) (machine machine' : State) (first : List HartState) (stores : List (Option Insn)) (kept kept' : Kept) (place : ℕ)
+pub held-there : (session : SessionState) (machine machine' : State) (first : List HartState) (stores : List (Option Insn)) (kept kept' : KeptPlaces) (place : ℕ)
     → Held session machine first stores kept → machine' ≡ state_at session place → place ≤ length session.log.turns
     → KeptFits session.image session.log kept' machine'.memory
     → Held (moved session place) machine' first stores kept'
@@ -75,13 +75,13 @@ start-again session machine now harts first e text same is =
     ∙ ap (λ (t : List ℕ). record { text = t; memory = session.image.bytes; harts = harts }) text
     ∙ ap (λ (hs : List HartState). record { text = session.image.words; memory = session.image.bytes; harts = hs }) (same ∙ is)
 
--- behind turns that mark what they write
-pub held-marked : (session : SessionState) (machine now : State) (first : List HartState) (stores : List (Option Insn)) (kept : Kept) (place : ℕ)
+-- after turns that mark what they write
+pub held-marked : (session : SessionState) (machine now : State) (first : List HartState) (stores : List (Option Insn)) (kept : KeptPlaces) (place : ℕ)
     (was marks : List Bool) → Held session machine first stores kept
     → was ≡ kept.written.items → Marks machine.memory now.memory was marks → now ≡ state_at session place → place ≤ length session.log.turns
     → Held (moved session place) now first stores (record { below = kept.below; places = kept.places; written = with_items kept.written marks })
 held-marked session machine now first stores kept place was marks held was-is marked state within =
-    let new : Kept = record { below = kept.below; places = kept.places; written = with_items kept.written marks } in
+    let new : KeptPlaces = record { below = kept.below; places = kept.places; written = with_items kept.written marks } in
     let long : length marks ≡ length kept.written.items = marked.flags ∙ ap (λ (xs : List Bool). length xs) was-is in
     let put : new.written.items ≡ marks = with_items_is kept.written marks (long ∙ sym kept.written.ok.0) in
     let from : Marks machine.memory now.memory kept.written.items marks = subst (λ (xs : List Bool). Marks machine.memory now.memory xs marks) was-is marked in
@@ -91,7 +91,7 @@ held-marked session machine now first stores kept place was marks held was-is ma
     refl held.kept all)
 
 -- where one more place is kept
-pub held-kept : (session : SessionState) (machine : State) (first : List HartState) (stores : List (Option Insn)) (kept new : Kept)
+pub held-kept : (session : SessionState) (machine : State) (first : List HartState) (stores : List (Option Insn)) (kept new : KeptPlaces)
     → Held session machine first stores kept
     → KeptFits session.image session.log new machine.memory → Held session machine first stores new
 held-kept session machine first stores kept new held fits = record {
@@ -115,7 +115,7 @@ length-map-stores : (words : List ℕ) → length (map store_in words) ≡ lengt
 length-map-stores [] = refl
 length-map-stores (word ∷ words) = let rest = length-map-stores words in omega (arith, rest)
 
-pub held-at-start : (image : ImageContents) (log : LogState) (machine : State) (first : List HartState) (stores : List (Option Insn)) (kept : Kept)
+pub held-at-start : (image : ImageContents) (log : LogState) (machine : State) (first : List HartState) (stores : List (Option Insn)) (kept : KeptPlaces)
     → IsImage image → machine ≡ machine_of image log.harts
     → first ≡ machine.harts → stores ≡ map store_in image.words → AreFree (pages_of (length image.bytes)) kept
     → Held (opened image log) machine first stores kept

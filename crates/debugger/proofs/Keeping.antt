@@ -11,15 +11,15 @@ use Rattle.multi_hart.proofs.TurnByTurn.{shape-run}
 use Rattle.turn_log.specs.TurnLog.{LogState}
 use Rattle.loader.specs.Image.{ImageContents}
 use Rattle.loader.specs.Loading.{machine_of}
-use Rattle.debugger_pages.specs.declared.pages.PageCopy.{PageCopy}
-use Rattle.debugger_pages.specs.Pages.{AreBelow, Holds, IsPage, Marks, found, is_written, lowest, over, pages_of, slot_at}
-use Rattle.debugger_pages.proofs.Laying.{holds_same, over_congruent}
-use Rattle.debugger_pages.proofs.Marking.{marks_none}
-use Rattle.debugger.specs.declared.kept.Kept.{Kept}
+use Rattle.debugger_writes.specs.declared.pages.PageCopy.{PageCopy}
+use Rattle.debugger_writes.specs.Pages.{AreBelow, Holds, IsPage, Marks, found, is_written, lowest, over, pages_of, slot_at}
+use Rattle.debugger_writes.proofs.Laying.{holds_same, over_congruent}
+use Rattle.debugger_writes.proofs.Marking.{marks_none}
+use Rattle.debugger.specs.declared.kept.KeptPlaces.{KeptPlaces}
 use Rattle.debugger.specs.declared.kept.KeptPlace.{KeptPlace}
-use Rattle.debugger.specs.inner.Kept.{AreFree, AreKept, ArePages, CanPutBack, IsCopy, IsKept, KeptFits, first_of, last_kept, last_of}
+use Rattle.debugger.specs.inner.KeptPlaces.{AreFree, AreKept, ArePages, CanPutBack, IsCopy, IsKept, KeptFits, first_of, last_kept, last_of}
 
--- the state at a place, which hangs on the image and on the log alone
+-- the state at a place, which depends on the image and on the log alone
 abbrev pub there : ImageContents → LogState → ℕ → State
 there image log place = run (machine_of image log.harts) (take place log.turns)
 
@@ -61,7 +61,7 @@ kept-push image log f (first ∷ copies) copy are is = (are.0, kept-push image l
 
 -- ---- one place more
 
-pub one-more : (image : ImageContents) (log : LogState) (kept new : Kept) (copy : KeptPlace) (memory : List ℕ) → new.below.items ≡ kept.below.items
+pub one-more : (image : ImageContents) (log : LogState) (kept new : KeptPlaces) (copy : KeptPlace) (memory : List ℕ) → new.below.items ≡ kept.below.items
     → new.places.items ≡ kept.places.items ++ copy ∷ [] → length new.written.items ≡ length kept.written.items
     → KeptFits image log kept memory → IsKept image log (last_kept image kept) copy → memory ≡ (there image log copy.place).memory
     → KeptFits image log new memory
@@ -111,7 +111,7 @@ kept-let-go image log below new first others settled are =
     kept-same image log (over first.pages.items (lowest below (slice_index image.bytes))) (lowest new (slice_index image.bytes)) others
     (λ i. sym (settled (slice_index image.bytes) i)) are.1
 
-pub gone-last : (image : ImageContents) (kept new : Kept) (first : KeptPlace) (others : List KeptPlace) → kept.places.items ≡ first ∷ others
+pub gone-last : (image : ImageContents) (kept new : KeptPlaces) (first : KeptPlace) (others : List KeptPlace) → kept.places.items ≡ first ∷ others
     → new.places.items ≡ others
     → Settled kept.below.items new.below.items first → (i : ℕ) → last_kept image kept i ≡ last_kept image new i
 gone-last image kept new first others is rest settled i =
@@ -119,7 +119,7 @@ gone-last image kept new first others is rest settled i =
     ∙ last-let-go image kept.below.items new.below.items first others settled i
     ∙ ap (λ (cs : List KeptPlace). last_of (first_of image new) cs i) (sym rest)
 
-pub gone-fits : (image : ImageContents) (log : LogState) (kept new : Kept) (first : KeptPlace) (others : List KeptPlace) (memory : List ℕ)
+pub gone-fits : (image : ImageContents) (log : LogState) (kept new : KeptPlaces) (first : KeptPlace) (others : List KeptPlace) (memory : List ℕ)
     → kept.places.items ≡ first ∷ others → new.places.items ≡ others
     → new.written.items ≡ kept.written.items → length new.below.items ≡ length kept.below.items → Settled kept.below.items new.below.items first
     → (AreBelow (length image.bytes) kept.below.items → ArePages (length image.bytes) first → AreBelow (length image.bytes) new.below.items)
@@ -141,7 +141,7 @@ gone-fits image log kept new first others memory is rest flags slots settled pag
     }
 
 -- the pages of the first place have places of their own
-pub first-below : (image : ImageContents) (log : LogState) (kept : Kept) (first : KeptPlace) (others : List KeptPlace) (memory : List ℕ)
+pub first-below : (image : ImageContents) (log : LogState) (kept : KeptPlaces) (first : KeptPlace) (others : List KeptPlace) (memory : List ℕ)
     → kept.places.items ≡ first ∷ others → KeptFits image log kept memory
     → All (λ (page : PageCopy). page.number < length kept.below.items) first.pages.items
 first-below image log kept first others memory is fits =
@@ -173,7 +173,7 @@ get-place copies at place is = go (slice_get copies at) refl is
     go None e isnt = absurd cc
     go (Some copy) e same = (copy, e, cc)
 
-pub put-there : (image : ImageContents) (log : LogState) (kept : Kept) (at place : ℕ) (memory new : List ℕ) (harts : List HartState)
+pub put-there : (image : ImageContents) (log : LogState) (kept : KeptPlaces) (at place : ℕ) (memory new : List ℕ) (harts : List HartState)
     → KeptFits image log kept memory
     → option_map (λ (c : KeptPlace). c.place) (slice_get kept.places.items at) ≡ Some place → length new ≡ length image.bytes
     → Holds new (last_of (first_of image kept) (take (at + 1) kept.places.items))
@@ -197,8 +197,8 @@ put-there image log kept at place memory new harts fits is size holds own =
     ∙ ap (λ (hs : List HartState). record { text = image.words; memory = state.memory; harts = hs }) same_harts
     ∙ ap (λ (t : List ℕ). record { text = t; memory = state.memory; harts = state.harts }) (sym shape.text)
 
--- pages that aren't marked behind it are as at the last place
-pub fits-back : (image : ImageContents) (log : LogState) (kept new : Kept) (count : ℕ) (memory memory' : List ℕ) → KeptFits image log kept memory
+-- pages that aren't marked after it are as at the last place
+pub fits-back : (image : ImageContents) (log : LogState) (kept new : KeptPlaces) (count : ℕ) (memory memory' : List ℕ) → KeptFits image log kept memory
     → new.below.items ≡ kept.below.items → new.places.items ≡ kept.places.items
     → length new.written.items ≡ length kept.written.items → Holds memory' (last_of (first_of image kept) (take count kept.places.items))
     → ((f : ℕ → ℕ) (i : ℕ) → is_written new.written.items (i / 4096) ≡ false → last_of f kept.places.items i ≡ last_of f (take count kept.places.items) i)
@@ -219,7 +219,7 @@ fits-back image log kept new count memory memory' fits same places flags holds u
 }
 
 -- and at the start, where neither are those that were let go
-pub fits-start : (image : ImageContents) (log : LogState) (kept new : Kept) (memory : List ℕ) → KeptFits image log kept memory
+pub fits-start : (image : ImageContents) (log : LogState) (kept new : KeptPlaces) (memory : List ℕ) → KeptFits image log kept memory
     → new.below.items ≡ kept.below.items → new.places.items ≡ kept.places.items
     → length new.written.items ≡ length kept.written.items
     → ((f : ℕ → ℕ) (i : ℕ) → is_written new.written.items (i / 4096) ≡ false → lowest kept.below.items f i ≡ f i)
@@ -241,7 +241,7 @@ fits-start image log kept new memory fits same places flags below behind = recor
 }
 
 -- what is asked of a machine that stands at a place
-pub can-put-back : (image : ImageContents) (log : LogState) (kept : Kept) (memory : List ℕ) (machine : State) → KeptFits image log kept memory
+pub can-put-back : (image : ImageContents) (log : LogState) (kept : KeptPlaces) (memory : List ℕ) (machine : State) → KeptFits image log kept memory
     → KeepsShape (machine_of image log.harts) machine → CanPutBack (length machine.memory) (length machine.harts) kept
 can-put-back image log kept memory machine fits shape = record {
   below = subst (λ (n : ℕ). AreBelow n kept.below.items) (sym shape.bytes) fits.below;
@@ -262,7 +262,7 @@ can-put-back image log kept memory machine fits shape = record {
 
 -- ---- turns
 
-pub fits-marked : (image : ImageContents) (log : LogState) (kept new : Kept) (memory memory' : List ℕ) → new.below.items ≡ kept.below.items
+pub fits-marked : (image : ImageContents) (log : LogState) (kept new : KeptPlaces) (memory memory' : List ℕ) → new.below.items ≡ kept.below.items
     → new.places.items ≡ kept.places.items
     → KeptFits image log kept memory → Marks memory memory' kept.written.items new.written.items → KeptFits image log new memory'
 fits-marked image log kept new memory memory' same places fits marks = record {
@@ -283,7 +283,7 @@ fits-marked image log kept new memory memory' same places fits marks = record {
 
 -- ---- what is kept of a machine that stands at a place
 
-pub copy-kept : (image : ImageContents) (log : LogState) (kept : Kept) (place : ℕ) (machine : State) (copy : KeptPlace) → KeptFits image log kept machine.memory
+pub copy-kept : (image : ImageContents) (log : LogState) (kept : KeptPlaces) (place : ℕ) (machine : State) (copy : KeptPlace) → KeptFits image log kept machine.memory
     → machine ≡ there image log place → place ≤ length log.turns
     → place % 4096 ≡ 0 → IsCopy place machine kept.written.items copy → IsKept image log (last_kept image kept) copy
 copy-kept image log kept place machine copy fits here within every is =
@@ -306,13 +306,13 @@ none-more [] empty (suc n) = refl
 none-more (slot ∷ below) empty zero = empty 0
 none-more (slot ∷ below) empty (suc n) = none-more below (λ k. empty (suc k)) n
 
--- the first place and those behind it
+-- the first place and those after it
 pub first-and-rest : (places : List KeptPlace) (first : KeptPlace) → 1 ≤ length places → first ≡ slice_index_or places 0 first
     → places ≡ first ∷ remove places 0
 first-and-rest [] first some is = absurd (omega (arith, some))
 first-and-rest (place ∷ places) first some is = ap (λ (p : KeptPlace). p ∷ places) (sym is)
 
-pub none-fits : (image : ImageContents) (log : LogState) (kept : Kept) → AreFree (pages_of (length image.bytes)) kept → KeptFits image log kept image.bytes
+pub none-fits : (image : ImageContents) (log : LogState) (kept : KeptPlaces) → AreFree (pages_of (length image.bytes)) kept → KeptFits image log kept image.bytes
 none-fits image log kept free = record {
   slots = free.slots;
   flags = free.flags;
@@ -328,7 +328,7 @@ none-fits image log kept free = record {
 -- ---- what calls leave of the kept places
 
 -- the same places and pages as before
-pub same-fits : (image : ImageContents) (log : LogState) (kept new : Kept) (memory : List ℕ) → new.below.items ≡ kept.below.items
+pub same-fits : (image : ImageContents) (log : LogState) (kept new : KeptPlaces) (memory : List ℕ) → new.below.items ≡ kept.below.items
     → new.places.items ≡ kept.places.items → new.written.items ≡ kept.written.items
     → KeptFits image log kept memory → KeptFits image log new memory
 same-fits image log kept new memory same places flags fits =
@@ -336,7 +336,7 @@ same-fits image log kept new memory same places flags fits =
     (subst (λ (xs : List Bool). Marks memory memory kept.written.items xs) (sym flags) (marks_none memory kept.written.items))
 
 -- the first place is taken out, and its pages settle in the list of those that were let go
-pub let-go : (image : ImageContents) (log : LogState) (kept new : Kept) (first : KeptPlace) (was now : List (Option PageCopy)) (memory : List ℕ)
+pub let-go : (image : ImageContents) (log : LogState) (kept new : KeptPlaces) (first : KeptPlace) (was now : List (Option PageCopy)) (memory : List ℕ)
     → kept.places.items ≡ first ∷ remove kept.places.items 0 → new.places.items ≡ remove kept.places.items 0 → new.written.items ≡ kept.written.items
     → was ≡ kept.below.items → new.below.items ≡ now → length now ≡ length was
     → ((size : ℕ) → AreBelow size was → All (IsPage size) first.pages.items → AreBelow size now)
@@ -364,7 +364,7 @@ get-there (first ∷ copies) zero below = (first, refl)
 get-there (first ∷ copies) (suc at) below = get-there copies at (omega (arith, below))
 
 -- data of the image under the pages that were let go, and those of so many places over them
-pub put-held : (image : ImageContents) (kept : Kept) (count : ℕ) (bytes : List ℕ) (below : List (Option PageCopy)) (places : List KeptPlace)
+pub put-held : (image : ImageContents) (kept : KeptPlaces) (count : ℕ) (bytes : List ℕ) (below : List (Option PageCopy)) (places : List KeptPlace)
     (old one two three : State)
     → bytes ≡ image.bytes → one ≡ with_data old bytes → below ≡ kept.below.items → places ≡ kept.places.items
     → ((f : ℕ → ℕ) → Holds one.memory f → Holds two.memory (lowest below f)) → ((f : ℕ → ℕ) → Holds two.memory f
@@ -379,7 +379,7 @@ put-held image kept count bytes below places old one two three same first below-
     (third (lowest below (slice_index image.bytes)) (second (slice_index image.bytes) begin)))
 
 -- and harts of the last of them
-pub put-state : (image : ImageContents) (log : LogState) (kept : Kept) (at place : ℕ) (memory bytes : List ℕ) (old one two three four : State)
+pub put-state : (image : ImageContents) (log : LogState) (kept : KeptPlaces) (at place : ℕ) (memory bytes : List ℕ) (old one two three four : State)
     → KeptFits image log kept memory
     → option_map (λ (c : KeptPlace). c.place) (slice_get kept.places.items at) ≡ Some place → old.text ≡ image.words → bytes ≡ image.bytes
     → one ≡ with_data old bytes → two ≡ with_data one two.memory → length two.memory ≡ length one.memory → three ≡ with_data two three.memory
@@ -398,20 +398,20 @@ put-state image log kept at place memory bytes old one two three four fits is te
     ∙ put-there image log kept at place memory three.memory found.0.harts.items fits is size holds (λ copy got. sym (ap (λ (s : State). s.harts) last)
     ∙ ap (λ (s : State). s.harts) (own copy got))
 
-pub put-memory : (kept : Kept) (at : ℕ) (three four : State) → at < length kept.places.items → ((copy : KeptPlace) → slice_get kept.places.items at ≡ Some copy
+pub put-memory : (kept : KeptPlaces) (at : ℕ) (three four : State) → at < length kept.places.items → ((copy : KeptPlace) → slice_get kept.places.items at ≡ Some copy
     → four ≡ with_harts three copy.harts.items) → four.memory ≡ three.memory
 put-memory kept at three four below own =
     let found = get-there kept.places.items at below in
     ap (λ (s : State). s.memory) (own found.0 found.1)
 
-pub kept-within : (image : ImageContents) (log : LogState) (kept : Kept) (at place : ℕ) (memory : List ℕ) → KeptFits image log kept memory
+pub kept-within : (image : ImageContents) (log : LogState) (kept : KeptPlaces) (at place : ℕ) (memory : List ℕ) → KeptFits image log kept memory
     → option_map (λ (c : KeptPlace). c.place) (slice_get kept.places.items at) ≡ Some place → place ≤ length log.turns
 kept-within image log kept at place memory fits is =
     let found = get-place kept.places.items at place is in
     let both = kept-at image log (first_of image kept) kept.places.items at found.0 fits.places found.1 in
     subst (λ (p : ℕ). p ≤ length log.turns) found.2 both.0.within
 
-pub kept-every : (image : ImageContents) (log : LogState) (kept : Kept) (at place : ℕ) (memory : List ℕ) → KeptFits image log kept memory
+pub kept-every : (image : ImageContents) (log : LogState) (kept : KeptPlaces) (at place : ℕ) (memory : List ℕ) → KeptFits image log kept memory
     → option_map (λ (c : KeptPlace). c.place) (slice_get kept.places.items at) ≡ Some place → place % 4096 ≡ 0
 kept-every image log kept at place memory fits is =
     let found = get-place kept.places.items at place is in

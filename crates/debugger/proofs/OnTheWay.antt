@@ -5,7 +5,7 @@ use Rattle.debugger.specs.Counts.{Walked, counted, steps_from}
 use Rattle.debugger.specs.Places.{CountedSession, SessionState, moved}
 use Rattle.debugger.proofs.Counting.{counted-on, steps-on}
 
--- which turns run hangs on no place of a session
+-- which turns run depends on no place of a session
 steps-moved : (session : SessionState) (at place n : ℕ) → steps_from (moved session at) place n ≡ steps_from session place n
 steps-moved session at place zero = refl
 steps-moved session at place (suc n) = let before = steps-moved session at place n in omega (arith, before)

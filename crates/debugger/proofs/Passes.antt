@@ -65,7 +65,7 @@ stops-at-end session place hart count turns on_break changed once e f =
     ap (λ b. b || list_any (watch_stops session (place + turns)) session.watches) (sym e)
     ∙ ap (λ b. on_break || b) (watches-behind session place turns once.some (still-last session place hart count turns once) ∙ sym f)
 
--- ---- turns up to one behind which a mark may stop
+-- ---- turns up to one after which a mark may stop
 
 pub quiet-more : (state : State) (hart : ℕ) (breaks watches : List ℕ) (turns : ℕ) → IsQuietUntil state hart breaks watches turns
     → list_any (λ mark. mark == (hart_at (run state (replicate turns hart)) hart).pc) breaks ≡ false
@@ -136,7 +136,7 @@ until-behind session place hart count turns changed on_break until =
     ap (λ b. b || list_any (watch_stops session (place + turns)) session.watches) (sym until.on_break_is)
     ∙ ap (λ b. on_break || b) (watches-at session place hart count turns until.stand until.some until.most ∙ sym until.changed_is)
 
--- where a machine stands behind turns that were made from the place on
+-- where a machine stands after turns that were made from the place on
 pub stands-behind : (session : SessionState) (log : LogState) (breaks watches : List ℕ) (machine now : State) (place hart count turns : ℕ)
     → Fits session log breaks watches machine place → IsLog log
     → run_at log.turns place ≡ Some (hart, count) → turns ≤ count → now ≡ run machine (replicate turns hart) → now ≡ state_at session (place + turns)
@@ -204,7 +204,7 @@ pub latest-from : (session here : SessionState) (at from place : ℕ) (last : Op
 latest-from session here at from place None e latest = subst (λ (s : SessionState). Latest s from place None) e latest
 latest-from session here at from place (Some stop) e latest = subst (λ (s : SessionState). Latest s from place (Some stop)) e latest
 
--- where all places behind the start are looked through, the start is left
+-- where all places after the start are looked through, the start is left
 pub previous-at-start : (session here : SessionState) (at : ℕ) (found : Option ℕ) → here ≡ moved session at → 0 < session.place
     → ((k : ℕ) → 0 < k → k < session.place → stops session k ≡ false) → MatchOption found (stops here 0 ≡ false) (λ stop. (stop ≡ 0) × (stops here 0 ≡ true))
     → MatchOption found (NoPreviousStop session) (IsPreviousStop session)

@@ -12,7 +12,7 @@ use Rattle.turn_log.specs.TurnLog.{LogState, IsLog}
 use Rattle.turn_log.specs.RunAt.{Stand, run_at}
 use Rattle.turn_log.proofs.RunAtLaws.{run_at-stands, run_at-below, run_at-none}
 
--- turns of one hart that stand at a place lead to the places behind it
+-- turns of one hart that stand at a place lead to the places after it
 pub run-standing : (start : State) (turns : List ℕ) (place hart count n : ℕ) → Stand turns place hart count → n ≤ count
     → run start (take (place + n) turns) ≡ run (run start (take place turns)) (replicate n hart)
 run-standing start turns place hart count n stand within =

@@ -41,7 +41,7 @@ differs-none before after watches text memory =
     ∙ ap (λ (m : List ℕ). list_any (differs before (record { text = before.text; memory = m; harts = after.harts })) watches) memory
     ∙ differs-itself before watches
 
--- behind the last of some turns, of which those before it changed nothing
+-- after the last of some turns, of which those before it changed nothing
 pub watches-behind : (session : SessionState) (place turns : ℕ) → 1 ≤ turns → state_at session (place + (turns - 1)) ≡ state_at session place
     → list_any (watch_stops session (place + turns)) session.watches ≡ list_any (differs (state_at session place) (state_at session (place + turns)))
     session.watches

@@ -17,9 +17,9 @@ use Rattle.hart_core.specs.VectorRows.{accesses_at, size_of}
 use Rattle.multi_hart.specs.Run.{State, hart_at, if_no_fault, is_in, outcome, turn, word_in}
 use Rattle.multi_hart.proofs.Resting.{there as there-is}
 use Rattle.multi_hart.proofs.TurnByTurn.{shape-turn}
-use Rattle.debugger_stores.specs.Stored.{places_stored, store_in, written}
-use Rattle.debugger_stores.proofs.Outcomes.{not_stepped, stepped, store_is}
-use Rattle.debugger_stores.proofs.Untouched.{stays}
+use Rattle.debugger_writes.specs.Stored.{places_stored, store_in, written}
+use Rattle.debugger_writes.proofs.Outcomes.{not_stepped, stepped, store_is}
+use Rattle.debugger_writes.proofs.Untouched.{stays}
 use Rattle.debugger.specs.Stops.{differs}
 use Rattle.debugger.specs.inner.Watching.{LeavesWord}
 use Rattle.debugger.proofs.Stopping.{same-itself}
@@ -80,7 +80,7 @@ word-stays state number address below leaves =
         → if_no_fault (fault_of words bytes Reads address 4) a ≡ if_no_fault (fault_of words others Reads address 4) b
     misaligned_both words bytes others address a b isnt = none words bytes address a isnt ∙ sym (none words others address b isnt)
 
--- no word of these differs behind the turn
+-- no word of these differs after the turn
 pub none-differs : (state : State) (number : ℕ) (watches : List ℕ) → number < length state.harts → All (LeavesWord (written state number)) watches
     → list_any (differs state (turn state number)) watches ≡ false
 none-differs state number [] below leave = refl

@@ -3,8 +3,8 @@
 use Rattle.std.specs.Prelude.{ℕ, ◌+◌, ◌%◌, ◌==◌, ◌&&◌, Bool, nat_lt, not, if◌then◌else◌, List, [], ◌∷◌, ◌++◌, length, Result, Ok, Err}
 use Rattle.std.specs.List.{list_any}
 use Rattle.memory.specs.Access.{is_text_word, in_data}
-use Rattle.debugger.specs.declared.refusals.Refusal.{Refusal}
-use Rattle.debugger.specs.declared.refusals.Refusal.TheVariants.{Address, TooManyMarks}
+use Rattle.debugger.specs.declared.refusals.SessionRefusal.{SessionRefusal}
+use Rattle.debugger.specs.declared.refusals.SessionRefusal.TheVariants.{Address, TooManyMarks}
 use Rattle.debugger.specs.Places.{SessionState}
 
 abbrev pub most_marks : ℕ
@@ -21,19 +21,19 @@ abbrev pub is_among : List ℕ → ℕ → Bool
 is_among marks address = list_any (λ mark. mark == address) marks
 
 -- An address that may not be marked is refused before a mark too many. One that is marked stays so, at any number of marks.
-abbrev pub setting : Bool → Bool → SessionState → SessionState → Result SessionState Refusal
+abbrev pub setting : Bool → Bool → SessionState → SessionState → Result SessionState SessionRefusal
 setting may_be is_set session marked =
     if not may_be then Err Address
     else if is_set then Ok session
     else if nat_lt (marks session) most_marks then Ok marked
     else Err TooManyMarks
 
-abbrev pub with_break : SessionState → ℕ → Result SessionState Refusal
+abbrev pub with_break : SessionState → ℕ → Result SessionState SessionRefusal
 with_break session address =
     setting (is_text_word (length session.image.words) address) (is_among session.breaks address)
     session (record session { breaks = session.breaks ++ address ∷ [] })
 
-abbrev pub with_watch : SessionState → ℕ → Result SessionState Refusal
+abbrev pub with_watch : SessionState → ℕ → Result SessionState SessionRefusal
 with_watch session address =
     setting (is_data_word (length session.image.bytes) address) (is_among session.watches address)
     session (record session { watches = session.watches ++ address ∷ [] })

@@ -16,7 +16,7 @@ pub record SessionState : Type 0 where
   pub watches : List ℕ
 
 -- What a contract sees of a session: its image, log, place and marks, and how many turns of running harts it made one by one since it
--- was opened. No other answer hangs on that count.
+-- was opened. No other answer depends on that count.
 pub record CountedSession : Type 0 where
   pub state : SessionState
   pub steps : ℕ

@@ -1,9 +1,9 @@
 -- The numbers of the refusals, and what a refusal that isn't for want of memory says. This project's own.
 use Rattle.std.specs.Prelude.{ℕ, Option, Some, None, Result, Ok, Err}
-use Rattle.debugger.specs.declared.refusals.Refusal.{Refusal}
-use Rattle.debugger.specs.declared.refusals.Refusal.TheVariants.{PastEnd, BeforeStart, Address, TooManyMarks, NoStop, OutOfMemory}
+use Rattle.debugger.specs.declared.refusals.SessionRefusal.{SessionRefusal}
+use Rattle.debugger.specs.declared.refusals.SessionRefusal.TheVariants.{PastEnd, BeforeStart, Address, TooManyMarks, NoStop, OutOfMemory}
 
-abbrev pub number_of : Refusal → Option ℕ
+abbrev pub number_of : SessionRefusal → Option ℕ
 number_of PastEnd = Some 1
 number_of BeforeStart = Some 2
 number_of Address = Some 3
@@ -12,7 +12,7 @@ number_of NoStop = Some 5
 number_of OutOfMemory = None
 
 -- a fact, unless memory ran out
-abbrev pub UnlessMemory : Refusal → Type 0 → Type 0
+abbrev pub UnlessMemory : SessionRefusal → Type 0 → Type 0
 UnlessMemory PastEnd fact = fact
 UnlessMemory BeforeStart fact = fact
 UnlessMemory Address fact = fact
@@ -21,6 +21,6 @@ UnlessMemory NoStop fact = fact
 UnlessMemory OutOfMemory fact = Unit {0}
 
 -- what is read, or the refusal of an address at which nothing stands
-abbrev pub or_address : Option ℕ → Result ℕ Refusal
+abbrev pub or_address : Option ℕ → Result ℕ SessionRefusal
 or_address (Some word) = Ok word
 or_address None = Err Address

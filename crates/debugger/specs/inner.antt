@@ -1,5 +1,5 @@
 pub mod Held
-pub mod Kept
+pub mod KeptPlaces
 pub mod Passing
 pub mod Steps
 pub mod Watching

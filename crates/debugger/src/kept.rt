@@ -12,11 +12,11 @@ ghost use Rattle.multi_hart.specs.Run.{run};
 ghost use Rattle.loader.specs.Image.{ImageContents};
 ghost use Rattle.loader.specs.Loading.{machine_of};
 ghost use Rattle.turn_log.specs.TurnLog.{LogState};
-ghost use Rattle.debugger_pages.specs.Pages.{Holds, Marked, is_written, pages_of};
-ghost use Rattle.debugger.specs.inner.Kept.{AreFree, ArePages, CanPutBack, IsCopy, IsKept, KeptFits, last_kept};
-ghost use Rattle.debugger.specs.inner.Kept.{last_of};
+ghost use Rattle.debugger_writes.specs.Pages.{Holds, Marked, is_written, pages_of};
+ghost use Rattle.debugger.specs.inner.KeptPlaces.{AreFree, ArePages, CanPutBack, IsCopy, IsKept, KeptFits, last_kept};
+ghost use Rattle.debugger.specs.inner.KeptPlaces.{last_of};
 
-use debugger_pages::{
+use debugger_writes::{
     PAGE, PageCopy, changed_pages, mark_below, mark_pages, put_below, put_pages, settle,
 };
 use hart_core::Hart;
@@ -40,7 +40,7 @@ pub(crate) struct KeptPlace {
 }
 
 /// The last places that were kept.
-pub(crate) struct Kept {
+pub(crate) struct KeptPlaces {
     /// For each page of data its last copy among those that were let go.
     pub below: Vec<Option<PageCopy>>,
     /// The places, in the order in which they were kept.
@@ -50,9 +50,9 @@ pub(crate) struct Kept {
 }
 
 /// Written out, so that a check sees a call wherever one is dropped, and not the drops of its parts.
-impl Drop for Kept {
+impl Drop for KeptPlaces {
     fn drop(self) {
-        let Kept {
+        let KeptPlaces {
             below,
             places,
             written,
@@ -64,7 +64,7 @@ impl Drop for Kept {
 }
 
 /// No place is kept, over so many bytes of data.
-pub(crate) fn keep_none(alloc: Global, size: usize) -> Result<Kept, AllocError>
+pub(crate) fn keep_none(alloc: Global, size: usize) -> Result<KeptPlaces, AllocError>
     requires { size < 2 ^ 63 }
     ensures none { IfOk result (λ kept. AreFree (pages_of size) kept) }
 {
@@ -75,7 +75,7 @@ pub(crate) fn keep_none(alloc: Global, size: usize) -> Result<Kept, AllocError>
         below.push(None)?;
         written.push(false)?;
     }
-    Ok(Kept {
+    Ok(KeptPlaces {
         below,
         places: Vec::new(alloc),
         written,
@@ -125,7 +125,7 @@ pub(crate) fn copy_of(
 }
 
 /// Keeps one more place, and lets the one that was kept first go where there are too many.
-pub(crate) fn keep_last(kept: &mut Kept, copy: KeptPlace)
+pub(crate) fn keep_last(kept: &mut KeptPlaces, copy: KeptPlace)
     ensures { (image : ImageContents) (log : LogState) (memory : List ℕ) → KeptFits image log kept.old memory
         → IsKept image log (last_kept image kept.old) copy
         → memory ≡ (run (machine_of image log.harts) (take copy.place log.turns)).memory
@@ -136,7 +136,7 @@ pub(crate) fn keep_last(kept: &mut Kept, copy: KeptPlace)
 }
 
 /// Lets the place go that was kept first where there are as many as may be.
-fn make_room(kept: &mut Kept)
+fn make_room(kept: &mut KeptPlaces)
     ensures fits { (image : ImageContents) (log : LogState) (memory : List ℕ) → KeptFits image log kept.old memory
         → KeptFits image log kept.new memory }
     ensures last { (image : ImageContents) (log : LogState) (memory : List ℕ) → KeptFits image log kept.old memory
@@ -149,7 +149,7 @@ fn make_room(kept: &mut Kept)
 }
 
 /// Keeps one more place. One for which there is no memory isn't kept.
-fn push_last(kept: &mut Kept, copy: KeptPlace)
+fn push_last(kept: &mut KeptPlaces, copy: KeptPlace)
     ensures { (image : ImageContents) (log : LogState) (memory : List ℕ) → KeptFits image log kept.old memory
         → IsKept image log (last_kept image kept.old) copy
         → memory ≡ (run (machine_of image log.harts) (take copy.place log.turns)).memory
@@ -162,7 +162,7 @@ fn push_last(kept: &mut Kept, copy: KeptPlace)
 }
 
 /// Lets the place go that was kept first, which leaves its pages to the next one.
-fn let_go(kept: &mut Kept)
+fn let_go(kept: &mut KeptPlaces)
     requires { 1 ≤ length kept.old.places.items }
     ensures fits { (image : ImageContents) (log : LogState) (memory : List ℕ) → KeptFits image log kept.old memory
         → KeptFits image log kept.new memory }
@@ -174,7 +174,7 @@ fn let_go(kept: &mut Kept)
 }
 
 /// Puts a machine back to the state at the one of the kept places that stands there. Takes no memory.
-pub(crate) fn put_back(kept: &mut Kept, image: &Image, at: usize, machine: &mut Machine)
+pub(crate) fn put_back(kept: &mut KeptPlaces, image: &Image, at: usize, machine: &mut Machine)
     requires there { at < length kept.old.places.items }
     requires can { CanPutBack (length machine.old.memory) (length machine.old.harts) kept.old }
     requires size { length image.now.bytes ≡ length machine.old.memory }
@@ -194,7 +194,12 @@ pub(crate) fn put_back(kept: &mut Kept, image: &Image, at: usize, machine: &mut 
 }
 
 /// Puts a machine back to the start of the log, where its harts were these. Takes no memory.
-pub(crate) fn put_at_start(kept: &mut Kept, image: &Image, opening: &[Hart], machine: &mut Machine)
+pub(crate) fn put_at_start(
+    kept: &mut KeptPlaces,
+    image: &Image,
+    opening: &[Hart],
+    machine: &mut Machine,
+)
     requires size { length image.now.bytes ≡ length machine.old.memory }
     requires harts { length opening.now ≡ length machine.old.harts }
     ensures state { machine.new ≡ record { text = machine.old.text; memory = image.now.bytes; harts = opening.now } }
@@ -236,7 +241,7 @@ fn put_harts(machine: &mut Machine, places: &[KeptPlace], at: usize)
     machine.set_harts(&places[at].harts);
 }
 
-/// Marks the pages of all places behind so many.
+/// Marks the pages of all places after so many.
 fn mark_behind(written: &mut [bool], places: &[KeptPlace], count: usize)
     ensures marked { Marked written.old written.new }
     ensures others { (f : ℕ → ℕ) (i : ℕ) → is_written written.new (i / 4096) ≡ false → last_of f places.now i

@@ -10,7 +10,7 @@
 //! - [`readers`]: what can be read of the state at its place.
 //! - [`marks`]: breaks and watches.
 //! - [`stops`]: going to the next and to the previous stop.
-//! - [`refusals`]: why a call is refused ([`Refusal`]).
+//! - [`refusals`]: why a call is refused ([`SessionRefusal`]).
 #![tactic(auto)]
 
 mod kept;
@@ -24,5 +24,5 @@ mod turns;
 mod walking;
 mod watches;
 
-pub use crate::refusals::Refusal;
+pub use crate::refusals::SessionRefusal;
 pub use crate::sessions::Session;

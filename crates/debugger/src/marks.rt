@@ -5,7 +5,7 @@ ghost use Rattle.memory.specs.Access.{is_text_word, most_words, most_bytes};
 ghost use Rattle.debugger.specs.Marks.{with_break, with_watch, is_data_word};
 ghost use Rattle.debugger.specs.Refusals.{UnlessMemory};
 
-use crate::refusals::Refusal;
+use crate::refusals::SessionRefusal;
 use crate::sessions::Session;
 use memory::{DATA_START, TEXT_START};
 
@@ -15,23 +15,23 @@ pub const MOST_MARKS: usize = 64;
 impl Session {
     /// Sets a break at the address of a text word. Refused where it is none, else where 64 marks are set
     /// and this isn't one of them. A break that is set stays so.
-    pub fn set_break(&mut self, pc: u32) -> Result<(), Refusal>
+    pub fn set_break(&mut self, pc: u32) -> Result<(), SessionRefusal>
         ensures ok { OnOk result (with_break self.old.state pc ≡ Ok self.new.state) }
         ensures err { IfErr result (λ refusal. UnlessMemory refusal (with_break self.old.state pc ≡ Err refusal)) }
         ensures unchanged { OnErr result (self.new ≡ self.old) }
         ensures steps { self.new.steps ≡ self.old.steps }
         // Memory is wanted for a mark that is to be added alone.
-        ensures needed { result ≡ Err Refusal.OutOfMemory → with_break self.old.state pc
+        ensures needed { result ≡ Err SessionRefusal.OutOfMemory → with_break self.old.state pc
             ≡ Ok (record self.old.state { breaks = self.old.state.breaks ++ pc ∷ [] }) }
     {
         if !is_text_word(self.image.words().len(), pc) {
-            return Err(Refusal::Address);
+            return Err(SessionRefusal::Address);
         }
         if self.breaks.contains(&pc) {
             return Ok(());
         }
         if self.breaks.len() + self.watches.len() >= MOST_MARKS {
-            return Err(Refusal::TooManyMarks);
+            return Err(SessionRefusal::TooManyMarks);
         }
         self.breaks.push(pc)?;
         Ok(())
@@ -39,23 +39,23 @@ impl Session {
 
     /// Sets a watch of an aligned word, of which all four bytes are data. Refused where it is none, else
     /// where 64 marks are set and this isn't one of them. A watch that is set stays so.
-    pub fn set_watch(&mut self, address: u32) -> Result<(), Refusal>
+    pub fn set_watch(&mut self, address: u32) -> Result<(), SessionRefusal>
         ensures ok { OnOk result (with_watch self.old.state address ≡ Ok self.new.state) }
         ensures err { IfErr result (λ refusal. UnlessMemory refusal (with_watch self.old.state address ≡ Err refusal)) }
         ensures unchanged { OnErr result (self.new ≡ self.old) }
         ensures steps { self.new.steps ≡ self.old.steps }
         // Memory is wanted for a mark that is to be added alone.
-        ensures needed { result ≡ Err Refusal.OutOfMemory → with_watch self.old.state address
+        ensures needed { result ≡ Err SessionRefusal.OutOfMemory → with_watch self.old.state address
             ≡ Ok (record self.old.state { watches = self.old.state.watches ++ address ∷ [] }) }
     {
         if !is_data_word(self.image.data().len(), address) {
-            return Err(Refusal::Address);
+            return Err(SessionRefusal::Address);
         }
         if self.watches.contains(&address) {
             return Ok(());
         }
         if self.breaks.len() + self.watches.len() >= MOST_MARKS {
-            return Err(Refusal::TooManyMarks);
+            return Err(SessionRefusal::TooManyMarks);
         }
         self.watches.push(address)?;
         Ok(())

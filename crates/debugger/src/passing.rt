@@ -6,15 +6,15 @@ ghost use Rattle.memory.specs.Access.{most_words};
 ghost use Rattle.multi_hart.specs.Run.{KeepsShape, hart_at};
 ghost use Rattle.turn_log.specs.RunAt.{run_at};
 ghost use Rattle.turn_log.specs.TurnLog.{IsLog};
-ghost use Rattle.debugger_pages.specs.Pages.{Marks};
-ghost use Rattle.debugger_stores.specs.Stored.{store_in};
+ghost use Rattle.debugger_writes.specs.Pages.{Marks};
+ghost use Rattle.debugger_writes.specs.Stored.{store_in};
 ghost use Rattle.debugger.specs.Counts.{steps_from};
 ghost use Rattle.debugger.specs.inner.Passing.{First, Fits, IsPassed, Latest};
 ghost use Rattle.debugger.specs.inner.Steps.{steps_of};
 ghost use Rattle.debugger.specs.Places.{SessionState, state_at};
 ghost use Rattle.debugger.specs.Stops.{break_stops};
 
-use crate::turns::{Made, SetMarks, Way, make_until, up_to_kept};
+use crate::turns::{PassedTurns, SetMarks, TurnsAhead, make_until, up_to_kept};
 use hart_core::Status;
 use multi_hart::Machine;
 use rv_insn::Insn;
@@ -29,20 +29,20 @@ pub(crate) struct Passed {
     pub steps: u64,
     /// Marks stop at each place between the first and the last one; where it is false, at none of them.
     pub between: bool,
-    /// A mark stops behind the last turn.
+    /// A mark stops after the last turn.
     pub behind: bool,
 }
 
 impl Passed {
     /// The turns, as what was made of them.
-    pub(crate) fn made(self) -> Made {
-        Made {
+    pub(crate) fn made(self) -> PassedTurns {
+        PassedTurns {
             turns: self.turns,
             steps: self.steps,
         }
     }
 
-    /// The first stop behind the place, among those that the turns lead to.
+    /// The first stop after the place, among those that the turns lead to.
     pub(crate) fn first(self, place: u64) -> Option<u64>
         requires fits { place + self.turns < 2 ^ 64 }
         ensures { (session : SessionState) → IsPassed session place self
@@ -57,7 +57,7 @@ impl Passed {
         None
     }
 
-    /// The last stop from a place on up to the one behind the turns, where the one up to the place before them is
+    /// The last stop from a place on up to the one after the turns, where the one up to the place before them is
     /// given.
     pub(crate) fn latest(self, place: u64, last: Option<u64>) -> Option<u64>
         requires fits { place + self.turns < 2 ^ 64 }
@@ -76,7 +76,7 @@ impl Passed {
 }
 
 /// Passes at least one turn and at most those up to the limit, on a machine that stands at the place: those of a hart
-/// that runs up to one behind which a mark may stop or the state may have to be kept, or all of one that doesn't run,
+/// that runs up to one after which a mark may stop or the state may have to be kept, or all of one that doesn't run,
 /// which change nothing.
 pub(crate) fn pass(
     log: &TurnLog,
@@ -84,7 +84,7 @@ pub(crate) fn pass(
     machine: &mut Machine,
     insns: &[Option<Insn>],
     written: &mut [bool],
-    way: Way,
+    way: TurnsAhead,
 ) -> Passed
     requires harts { length machine.old.harts ≡ log.now.harts }
     requires meant { insns.now ≡ map store_in machine.old.text }

@@ -6,7 +6,7 @@ ghost use Rattle.multi_hart.specs.Run.{hart_at, word_in};
 ghost use Rattle.debugger.specs.Places.{state_here};
 ghost use Rattle.debugger.specs.Refusals.{or_address};
 
-use crate::refusals::Refusal;
+use crate::refusals::SessionRefusal;
 use crate::sessions::Session;
 use hart_core::Status;
 use rv_insn::{Reg, VReg};
@@ -77,12 +77,12 @@ impl Session {
 
     /// The word at an address, refused where the address is no multiple of 4 or not all four bytes are
     /// text or data.
-    pub fn word(&self, address: u32) -> Result<u32, Refusal>
+    pub fn word(&self, address: u32) -> Result<u32, SessionRefusal>
         ensures { result ≡ or_address (word_in (state_here self.now.state) address) }
     {
         match self.machine.word(address) {
             Some(word) => Ok(word),
-            None => Err(Refusal::Address),
+            None => Err(SessionRefusal::Address),
         }
     }
 }

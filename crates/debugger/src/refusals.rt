@@ -2,15 +2,15 @@
 
 ghost use Rattle.std.specs.Prelude.{◌≡◌};
 ghost use Rattle.debugger.specs.Refusals.{number_of};
-ghost use Rattle.debugger.specs.declared.refusals.Refusal.TheVariants.{OutOfMemory};
+ghost use Rattle.debugger.specs.declared.refusals.SessionRefusal.TheVariants.{OutOfMemory};
 
 use std::alloc::{AllocError, AllocFailed};
 use thiserror::Error;
 
 /// Why a session refuses a call. It is then as it was.
 #[derive(Clone, Copy, Debug, PartialEq, Eq, Error)]
-pub enum Refusal {
-    /// The place is behind the log's last turn.
+pub enum SessionRefusal {
+    /// The place is after the log's last turn.
     #[error("the place is past the end of the log")]
     PastEnd,
 
@@ -35,34 +35,34 @@ pub enum Refusal {
     OutOfMemory,
 }
 
-impl Refusal {
+impl SessionRefusal {
     /// The refusal's number, from 1 to 5; a lack of memory has none.
     pub fn number(self) -> Option<u8>
         ensures { result ≡ number_of self }
     {
         match self {
-            Refusal::PastEnd => Some(1),
-            Refusal::BeforeStart => Some(2),
-            Refusal::Address => Some(3),
-            Refusal::TooManyMarks => Some(4),
-            Refusal::NoStop => Some(5),
-            Refusal::OutOfMemory => None,
+            SessionRefusal::PastEnd => Some(1),
+            SessionRefusal::BeforeStart => Some(2),
+            SessionRefusal::Address => Some(3),
+            SessionRefusal::TooManyMarks => Some(4),
+            SessionRefusal::NoStop => Some(5),
+            SessionRefusal::OutOfMemory => None,
         }
     }
 }
 
-impl From<AllocError> for Refusal {
+impl From<AllocError> for SessionRefusal {
     ghost from_gives = { λ _ e. e ≡ OutOfMemory };
 
-    fn from(_e: AllocError) -> Refusal {
-        Refusal::OutOfMemory
+    fn from(_e: AllocError) -> SessionRefusal {
+        SessionRefusal::OutOfMemory
     }
 }
 
-impl<T: Drop> From<AllocFailed<T>> for Refusal {
+impl<T: Drop> From<AllocFailed<T>> for SessionRefusal {
     ghost from_gives = { λ _ e. e ≡ OutOfMemory };
 
-    fn from(_e: AllocFailed<T>) -> Refusal {
-        Refusal::OutOfMemory
+    fn from(_e: AllocFailed<T>) -> SessionRefusal {
+        SessionRefusal::OutOfMemory
     }
 }

@@ -5,9 +5,9 @@ ghost use Rattle.debugger.specs.Counts.{Walked};
 ghost use Rattle.debugger.specs.Places.{opened, moved};
 ghost use Rattle.debugger.specs.Refusals.{UnlessMemory};
 
-use crate::kept::{Kept, keep_none};
-use crate::refusals::Refusal;
-use debugger_stores::stores_of;
+use crate::kept::{KeptPlaces, keep_none};
+use crate::refusals::SessionRefusal;
+use debugger_writes::stores_of;
 use hart_core::Hart;
 use loader::Image;
 use multi_hart::Machine;
@@ -31,7 +31,7 @@ pub struct Session {
     /// The harts at the start of the log.
     pub(crate) opening: Vec<Hart>,
     /// The last states that were kept on the way.
-    pub(crate) kept: Kept,
+    pub(crate) kept: KeptPlaces,
     /// How many turns of running harts were made one by one.
     pub(crate) steps: u64,
 }
@@ -114,50 +114,50 @@ impl Session {
 
     /// Goes to a place, refused where the log has fewer turns. Backwards the turns are made again from the nearest kept
     /// place before it. It needs no memory: a place for which there is none isn't kept.
-    pub fn goto(&mut self, alloc: Global, k: u64) -> Result<(), Refusal>
+    pub fn goto(&mut self, alloc: Global, k: u64) -> Result<(), SessionRefusal>
         ensures ok { OnOk result (self.new.state ≡ moved self.old.state k) }
         ensures within { OnOk result (k ≤ length self.old.state.log.turns) }
         ensures steps { OnOk result (Walked self.old self.new k) }
-        ensures err { IfErr result (λ refusal. UnlessMemory refusal ((refusal ≡ Refusal.PastEnd)
+        ensures err { IfErr result (λ refusal. UnlessMemory refusal ((refusal ≡ SessionRefusal.PastEnd)
             × (length self.old.state.log.turns < k))) }
         ensures unchanged { OnErr result (self.new ≡ self.old) }
-        ensures memory { result ≢ Err Refusal.OutOfMemory }
+        ensures memory { result ≢ Err SessionRefusal.OutOfMemory }
     {
         if k > self.log.len() {
-            return Err(Refusal::PastEnd);
+            return Err(SessionRefusal::PastEnd);
         }
         self.stand_at(alloc, k);
         Ok(())
     }
 
     /// Makes one more turn, refused at the end of the log.
-    pub fn next(&mut self, alloc: Global) -> Result<(), Refusal>
+    pub fn next(&mut self, alloc: Global) -> Result<(), SessionRefusal>
         ensures ok { OnOk result (self.new.state ≡ moved self.old.state (self.old.state.place + 1)) }
         ensures before_end { OnOk result (self.old.state.place < length self.old.state.log.turns) }
         ensures steps { OnOk result (Walked self.old self.new (self.old.state.place + 1)) }
-        ensures err { IfErr result (λ refusal. (refusal ≡ Refusal.PastEnd)
+        ensures err { IfErr result (λ refusal. (refusal ≡ SessionRefusal.PastEnd)
             × (self.old.state.place ≡ length self.old.state.log.turns)) }
         ensures unchanged { OnErr result (self.new ≡ self.old) }
     {
         if self.place >= self.log.len() {
-            return Err(Refusal::PastEnd);
+            return Err(SessionRefusal::PastEnd);
         }
         self.goto(alloc, self.place + 1)?;
         Ok(())
     }
 
     /// Goes back by one turn, refused at the start of the log.
-    pub fn back(&mut self, alloc: Global) -> Result<(), Refusal>
+    pub fn back(&mut self, alloc: Global) -> Result<(), SessionRefusal>
         ensures ok { OnOk result (self.new.state ≡ moved self.old.state (self.old.state.place - 1)) }
         ensures behind_start { OnOk result (1 ≤ self.old.state.place) }
         ensures steps { OnOk result (Walked self.old self.new (self.old.state.place - 1)) }
-        ensures err { IfErr result (λ refusal. UnlessMemory refusal ((refusal ≡ Refusal.BeforeStart)
+        ensures err { IfErr result (λ refusal. UnlessMemory refusal ((refusal ≡ SessionRefusal.BeforeStart)
             × (self.old.state.place ≡ 0))) }
         ensures unchanged { OnErr result (self.new ≡ self.old) }
-        ensures memory { result ≢ Err Refusal.OutOfMemory }
+        ensures memory { result ≢ Err SessionRefusal.OutOfMemory }
     {
         if self.place == 0 {
-            return Err(Refusal::BeforeStart);
+            return Err(SessionRefusal::BeforeStart);
         }
         self.goto(alloc, self.place - 1)?;
         Ok(())

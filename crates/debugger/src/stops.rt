@@ -8,21 +8,21 @@ ghost use Rattle.debugger.specs.Stops.{stops, IsNextStop, NoNextStop, IsPrevious
 ghost use Rattle.debugger.specs.inner.Passing.{Latest};
 
 use crate::passing::is_on_break;
-use crate::refusals::Refusal;
+use crate::refusals::SessionRefusal;
 use crate::sessions::Session;
 use std::alloc::Global;
 
 impl Session {
     /// Goes to the least place after this one at which a mark stops. Refused where there is none.
-    pub fn forward(&mut self, alloc: Global) -> Result<(), Refusal>
+    pub fn forward(&mut self, alloc: Global) -> Result<(), SessionRefusal>
         ensures ok { OnOk result (IsNextStop self.old.state self.new.state.place) }
         ensures marks_stay { OnOk result (self.new.state ≡ moved self.old.state self.new.state.place) }
-        ensures err { IfErr result (λ refusal. UnlessMemory refusal ((refusal ≡ Refusal.NoStop)
+        ensures err { IfErr result (λ refusal. UnlessMemory refusal ((refusal ≡ SessionRefusal.NoStop)
             × NoNextStop self.old.state)) }
         ensures unchanged { OnErr result (self.new.state ≡ self.old.state) }
         // How much a search adds isn't said.
         ensures steps { self.old.steps ≤ self.new.steps }
-        ensures memory { result ≢ Err Refusal.OutOfMemory }
+        ensures memory { result ≢ Err SessionRefusal.OutOfMemory }
     {
         let from = self.place();
         match self.next_stop(alloc) {
@@ -32,21 +32,21 @@ impl Session {
             }
             None => {
                 self.stand_at(alloc, from);
-                Err(Refusal::NoStop)
+                Err(SessionRefusal::NoStop)
             }
         }
     }
 
     /// Goes to the greatest place before this one at which a mark stops. Refused where there is none.
-    pub fn reverse(&mut self, alloc: Global) -> Result<(), Refusal>
+    pub fn reverse(&mut self, alloc: Global) -> Result<(), SessionRefusal>
         ensures ok { OnOk result (IsPreviousStop self.old.state self.new.state.place) }
         ensures marks_stay { OnOk result (self.new.state ≡ moved self.old.state self.new.state.place) }
-        ensures err { IfErr result (λ refusal. UnlessMemory refusal ((refusal ≡ Refusal.NoStop)
+        ensures err { IfErr result (λ refusal. UnlessMemory refusal ((refusal ≡ SessionRefusal.NoStop)
             × NoPreviousStop self.old.state)) }
         ensures unchanged { OnErr result (self.new.state ≡ self.old.state) }
         // How much a search adds isn't said.
         ensures steps { self.old.steps ≤ self.new.steps }
-        ensures memory { result ≢ Err Refusal.OutOfMemory }
+        ensures memory { result ≢ Err SessionRefusal.OutOfMemory }
     {
         let from = self.place();
         match self.previous_stop(alloc) {
@@ -56,12 +56,12 @@ impl Session {
             }
             None => {
                 self.stand_at(alloc, from);
-                Err(Refusal::NoStop)
+                Err(SessionRefusal::NoStop)
             }
         }
     }
 
-    /// The least stop after the place. The session is then at that stop or behind it, or at the end where there is
+    /// The least stop after the place. The session is then at that stop or after it, or at the end where there is
     /// none.
     fn next_stop(&mut self, alloc: Global) -> Option<u64>
         ensures state { self.new.state ≡ moved self.old.state self.new.state.place }
@@ -92,7 +92,7 @@ impl Session {
         if place == 0 {
             return None;
         }
-        // Behind this one and before the place there is none.
+        // After this one and before the place there is none.
         let mut last_place = place - 1;
         while last_place > 0 {
             self.approach(last_place - 1);
@@ -119,7 +119,7 @@ impl Session {
         }
     }
 
-    /// The greatest stop behind the place up to a later one, to which the session goes.
+    /// The greatest stop after the place up to a later one, to which the session goes.
     fn last_stop(&mut self, alloc: Global, last_place: u64) -> Option<u64>
         requires after { self.old.state.place < last_place }
         requires within { last_place ≤ length self.old.state.log.turns }

@@ -5,8 +5,8 @@ ghost use Rattle.std.specs.List.{list_any};
 ghost use Rattle.memory.specs.Access.{most_words};
 ghost use Rattle.multi_hart.specs.Run.{KeepsShape, State, hart_at, outcome, run, turn};
 ghost use Rattle.turn_log.specs.RunAt.{run_at};
-ghost use Rattle.debugger_pages.specs.Pages.{Marks};
-ghost use Rattle.debugger_stores.specs.Stored.{store_in};
+ghost use Rattle.debugger_writes.specs.Pages.{Marks};
+ghost use Rattle.debugger_writes.specs.Stored.{store_in};
 ghost use Rattle.debugger.specs.Counts.{steps_from};
 ghost use Rattle.debugger.specs.Places.{SessionState, state_at};
 ghost use Rattle.debugger.specs.inner.Steps.{IsQuietUntil, steps_of};
@@ -14,7 +14,7 @@ ghost use Rattle.debugger.specs.Stops.{differs};
 
 use crate::kept::KEPT_EVERY;
 use crate::watches::may_write;
-use debugger_pages::turn_marking;
+use debugger_writes::turn_marking;
 use hart_core::Status;
 use multi_hart::Machine;
 use rv_insn::{Insn, Outcome};
@@ -22,21 +22,21 @@ use turn_log::TurnLog;
 
 /// A place of a log, and a later one up to which turns may be made.
 #[derive(Clone, Copy, Debug)]
-pub(crate) struct Way {
+pub(crate) struct TurnsAhead {
     pub place: u64,
     pub limit: u64,
 }
 
 /// Turns that were made.
 #[derive(Clone, Copy, Debug)]
-pub(crate) struct Made {
+pub(crate) struct PassedTurns {
     /// How many they are.
     pub turns: u64,
     /// How many of them were made one by one.
     pub steps: u64,
 }
 
-impl Made {
+impl PassedTurns {
     /// Whether no two turns were passed at once.
     pub(crate) fn is_turn_by_turn(self) -> bool {
         self.turns == 1 || self.steps == self.turns
@@ -76,8 +76,8 @@ pub(crate) fn make_some(
     machine: &mut Machine,
     insns: &[Option<Insn>],
     written: &mut [bool],
-    way: Way,
-) -> Made
+    way: TurnsAhead,
+) -> PassedTurns
     requires harts { length machine.old.harts ≡ log.now.harts }
     requires meant { insns.now ≡ map store_in machine.old.text }
     requires few { length insns.now ≤ most_words }
@@ -101,7 +101,7 @@ pub(crate) fn make_some(
     };
     let turns = at_most(machine, hart, way.place, count.min(way.limit - way.place));
     let steps = make_counted(machine, insns, written, hart, turns);
-    Made { turns, steps }
+    PassedTurns { turns, steps }
 }
 
 /// How many of a hart's next turns are made before the state may have to be kept: those up to the next place at which
@@ -125,12 +125,12 @@ pub(crate) fn up_to_kept(place: u64) -> u64
     KEPT_EVERY - place % KEPT_EVERY
 }
 
-/// Turns that were made up to one behind which a mark may stop.
+/// Turns that were made up to one after which a mark may stop.
 #[derive(Clone, Copy, Debug)]
 pub(crate) struct Until {
     /// How many they are.
     pub turns: u64,
-    /// A word that is watched is another behind the last of them than before it.
+    /// A word that is watched is another after the last of them than before it.
     pub changed: bool,
 }
 
@@ -141,7 +141,7 @@ pub(crate) struct SetMarks<'a> {
     pub watches: &'a [u32],
 }
 
-/// Makes turns of a hart that runs, at least one and at most so many, in each of which it runs: up to the first behind
+/// Makes turns of a hart that runs, at least one and at most so many, in each of which it runs: up to the first after
 /// which it stands on a break, which changes a word at one of the watched addresses, or which doesn't step. It takes no
 /// memory.
 pub(crate) fn make_until(
@@ -178,7 +178,7 @@ pub(crate) fn make_until(
     }
 }
 
-/// Whether no mark stops behind a turn that stepped, where the hart now stands at this address and its turn is the next
+/// Whether no mark stops after a turn that stepped, where the hart now stands at this address and its turn is the next
 /// one.
 fn goes_on(told: Watched, pc: u32, breaks: &[u32]) -> bool
     ensures stepped { result ≡ true → told.outcome ≡ Outcome.Stepped }

@@ -8,7 +8,7 @@ ghost use Rattle.debugger.specs.inner.Passing.{IsPassed};
 use crate::kept::{KEPT_EVERY, copy_of, is_kept, keep_last, nearest, put_at_start, put_back};
 use crate::passing::{Passed, pass};
 use crate::sessions::Session;
-use crate::turns::{SetMarks, Way, make_some};
+use crate::turns::{SetMarks, TurnsAhead, make_some};
 use std::alloc::Global;
 
 impl Session {
@@ -64,7 +64,7 @@ impl Session {
         ensures steps { self.new.steps ≡ counted self.old.steps
             (steps_from self.old.state self.old.state.place (self.new.state.place - self.old.state.place)) }
     {
-        let way = Way {
+        let way = TurnsAhead {
             place: self.place,
             limit,
         };
@@ -94,7 +94,7 @@ impl Session {
         ensures steps { self.new.steps ≡ counted self.old.steps
             (steps_from self.old.state self.old.state.place result.turns) }
     {
-        let way = Way {
+        let way = TurnsAhead {
             place: self.place,
             limit,
         };

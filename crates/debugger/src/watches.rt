@@ -6,11 +6,11 @@ ghost use Rattle.memory.specs.Access.{bytes_in, most_words, touched};
 ghost use Rattle.hart_core.specs.VectorRows.{accesses_at, size_of};
 ghost use Rattle.hart_core.specs.Scalar.{illegal_fault};
 ghost use Rattle.multi_hart.specs.Run.{turn};
-ghost use Rattle.debugger_stores.specs.Stored.{places_stored, store_in};
+ghost use Rattle.debugger_writes.specs.Stored.{places_stored, store_in};
 ghost use Rattle.debugger.specs.Stops.{differs};
 ghost use Rattle.debugger.specs.inner.Watching.{LeavesWord};
 
-use debugger_stores::{StoredNumber, number_stored, store_at};
+use debugger_writes::{StoredNumber, number_stored, store_at};
 use hart_core::Hart;
 use multi_hart::Machine;
 use rv_insn::{ElementWidth, Insn};

@@ -3,7 +3,7 @@ use Rattle.std.proofs.Common.{◌≡◌, ◌∙◌, ◌+◌, ℕ, zero, suc, Boo
 use Rattle.std.proofs.Common.{append_assoc, take, Option, Some, None}
 use Rattle.std.specs.Prelude.{if◌then◌else◌, option_and_then, slice_get}
 use Rattle.multi_hart.specs.Run.{State, hart_at, run, turn, is_in}
-use Rattle.vector_codegen_sharing.specs.Turns.{is_word_in, last_writer, written_next}
+use Rattle.work_sharing.specs.Turns.{is_word_in, last_writer, written_next}
 use Rattle.debugger_blame.specs.declared.writes.Write.{Write}
 use Rattle.debugger_blame.specs.LastWrites.{Blames, HartsAreLastWriters, IsLastWrite, held, last_turn, last_turn_of_word}
 

@@ -6,7 +6,7 @@ use Rattle.hart_core.specs.declared.harts.Status.TheVariants.{Running}
 use Rattle.multi_hart.specs.Run.{KeepsShape, State, hart_at, run, turn}
 use Rattle.multi_hart.proofs.Resting.{run-append, turn-resting}
 use Rattle.multi_hart.proofs.TurnByTurn.{shape-then}
-use Rattle.vector_codegen_sharing.specs.Turns.{is_word_in, written_next}
+use Rattle.work_sharing.specs.Turns.{is_word_in, written_next}
 use Rattle.debugger_blame.specs.LastWrites.{last_turn, last_turn_of_word}
 use Rattle.debugger_blame.specs.Marks.{AreMarks, mark_of}
 use Rattle.debugger_blame.specs.inner.Marked.{Marked}

@@ -8,9 +8,9 @@ use Rattle.rv_encoding.specs.Decoding.{decoded}
 use Rattle.memory.specs.Access.{fetched}
 use Rattle.hart_core.specs.Scalar.{illegal_fault}
 use Rattle.multi_hart.specs.Run.{State, hart_at, outcome}
-use Rattle.vector_codegen_sharing.specs.Turns.{is_word_in, written_by_one, written_next}
-use Rattle.debugger_stores.specs.Stored.{places_stored, store_in, written}
-use Rattle.debugger_stores.proofs.Outcomes as stores
+use Rattle.work_sharing.specs.Turns.{is_word_in, written_by_one, written_next}
+use Rattle.debugger_writes.specs.Stored.{places_stored, store_in, written}
+use Rattle.debugger_writes.proofs.Outcomes as stores
 
 -- the places that the next turn writes of a hart that is there
 pub written_there : (state : State) (number : ℕ) → slice_get state.harts number ≡ Some (hart_at state number) → written_next state number ≡ written state number

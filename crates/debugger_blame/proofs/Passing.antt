@@ -13,7 +13,7 @@ use Rattle.multi_hart.specs.Run.{writes, KeepsShape, State, hart_at, run, turn}
 use Rattle.multi_hart.proofs.Resting.{run-append, turn-resting}
 use Rattle.multi_hart.proofs.TurnByTurn.{shape-turn}
 use Rattle.turn_log.specs.RunAt.{Stand}
-use Rattle.vector_codegen_sharing.specs.Turns.{is_word_in, written_by_one, written_next}
+use Rattle.work_sharing.specs.Turns.{is_word_in, written_by_one, written_next}
 use Rattle.debugger_blame.specs.declared.writes.Write.{Write}
 use Rattle.debugger_blame.specs.LastWrites.{Blames}
 use Rattle.debugger_blame.proofs.LastTurns.{not_blamed}
@@ -93,10 +93,10 @@ turn_added begin done made hart word last blames =
     subst (λ (ts : List ℕ). Blames begin ts word last)
     (append_assoc done (replicate made hart) (hart ∷ []) ∙ ap (λ xs. done ++ xs) (sym (one_more made hart))) blames
 
--- the turns up to behind a stretch
-pub stretch_taken : (turns : List ℕ) (place hart count : ℕ) → Stand turns place hart count → take (place + count) turns ≡ take place turns
+-- the turns up to after a stretch
+pub hart_turns_taken : (turns : List ℕ) (place hart count : ℕ) → Stand turns place hart count → take (place + count) turns ≡ take place turns
     ++ replicate count hart
-stretch_taken turns place hart count stand =
+hart_turns_taken turns place hart count stand =
     take-add place count turns
     ∙ ap (λ xs. take place turns ++ xs) (ap (take count) stand.parts
     ∙ take-append-le count (replicate count hart) (drop (place + count) turns) (omega (arith, length-replicate count hart))

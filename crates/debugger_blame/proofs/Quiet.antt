@@ -1,4 +1,4 @@
--- Turns of words that store nothing, one behind the other.
+-- Turns of words that store nothing, one after the other.
 use Rattle.std.proofs.Common.{◌≡◌, ◌∙◌, ◌+◌, ◌-◌, ◌*◌, ◌/◌, ◌%◌, ◌^◌, ◌<◌, ◌≤◌, ◌||◌, ℕ, zero, suc, true, false, refl, sym, ap, subst, arith, List, [], ◌∷◌}
 use Rattle.std.proofs.Common.{◌++◌, length, append_assoc, append-nil, replicate, Option, Some, None, inl, inr, nat_lt, if◌then◌else◌}
 use Rattle.std.specs.Prelude.{is_some, map, option_and_then, slice_get, slice_index, slice_set}
@@ -17,12 +17,12 @@ use Rattle.hart_core.specs.Scalar.{after}
 use Rattle.hart_core.specs.VectorRows.{computed_by, vector_after_turn, with_scalar}
 use Rattle.hart_core.specs.Turn.{Next, Rests, Traps, Does, made, next_of, numbers_read, step}
 use Rattle.multi_hart.specs.Run.{State, hart_at, outcome, run, turn, turned}
-use Rattle.multi_hart.specs.Stretches.{StepsOn}
+use Rattle.multi_hart.specs.TurnsInARow.{StepsOn}
 use Rattle.multi_hart.proofs.Resting.{run-append, run-same-more}
 use Rattle.multi_hart.proofs.TurnByTurn.{shape-run}
-use Rattle.vector_codegen_sharing.specs.Turns.{written_next}
-use Rattle.debugger_stores.specs.Stored.{store_in}
-use Rattle.debugger_stores.proofs.Outcomes.{does_meant}
+use Rattle.work_sharing.specs.Turns.{written_next}
+use Rattle.debugger_writes.specs.Stored.{store_in}
+use Rattle.debugger_writes.proofs.Outcomes.{does_meant}
 use Rattle.debugger_blame.specs.Marks.{AreMarks}
 use Rattle.debugger_blame.specs.declared.marks.Marking.{Marking}
 use Rattle.debugger_blame.specs.inner.Quiet.{AreCounts, AreQuiet, IsQuietFrom, goes_on, some_goes_on}
@@ -108,7 +108,7 @@ few_words insns text is few =
     let same = ap (λ (l : List (Option Insn)). length l) is ∙ length-map text store_in in
     omega (arith, same, few)
 
--- ---- where a hart stands behind a turn
+-- ---- where a hart stands after a turn
 
 scalar_pc : (hart : HartState) (scalar : Option (ℕ × ℕ)) → (with_scalar hart scalar).pc ≡ hart.pc
 scalar_pc hart None = refl
@@ -158,7 +158,7 @@ pc_after state hart below stepped goes =
     let same : insn ≡ meant_so.insn = cc in
     ap goes_on same ∙ ap some_goes_on (sym meant_so.meant_is) ∙ goes))
 
--- ---- turns one behind the other
+-- ---- turns one after the other
 
 fetched_at : (text : List ℕ) (place : ℕ) → fetched text (text_start + 4 * place) ≡ slice_get text place
 fetched_at text place =
@@ -219,13 +219,13 @@ quiet_then state hart count made way k below =
     quiet_without_store now hart (hart_there now hart (omega (arith, shape.harts, way.below))) none
 
 -- turns that write nothing leave the marks
-pub stretch_marked : (marking : Marking) (first : ℕ) (begin : State) (done : List ℕ) (now : State) (hart n : ℕ) (marks : List ℕ) → now ≡ run begin done
+pub hart_turns_marked : (marking : Marking) (first : ℕ) (begin : State) (done : List ℕ) (now : State) (hart n : ℕ) (marks : List ℕ) → now ≡ run begin done
     → ((k : ℕ) → k < n → written_next (run now (replicate k hart)) hart ≡ []) → AreMarks marking first begin done marks
     → AreMarks marking first begin (done ++ replicate n hart) marks
-stretch_marked marking first begin done now hart zero marks state quiet are =
+hart_turns_marked marking first begin done now hart zero marks state quiet are =
     subst (λ (ts : List ℕ). AreMarks marking first begin ts marks) (sym (append-nil done)) are
-stretch_marked marking first begin done now hart (suc n) marks state quiet are =
+hart_turns_marked marking first begin done now hart (suc n) marks state quiet are =
     let one = quiet_marked marking first begin done now hart marks state (quiet 0 (omega arith)) are in
     let next : turn now hart ≡ run begin (done ++ hart ∷ []) = ap (λ s. turn s hart) state ∙ sym (run-append begin done (hart ∷ [])) in
-    let more = stretch_marked marking first begin (done ++ hart ∷ []) (turn now hart) hart n marks next (λ k below. quiet (suc k) (omega (arith, below))) one in
+    let more = hart_turns_marked marking first begin (done ++ hart ∷ []) (turn now hart) hart n marks next (λ k below. quiet (suc k) (omega (arith, below))) one in
     subst (λ (ts : List ℕ). AreMarks marking first begin ts marks) (append_assoc done (hart ∷ []) (replicate n hart)) more

@@ -8,7 +8,7 @@ use Rattle.memory.specs.Access.{access_at, places_of, touched}
 use Rattle.rv_insn.specs.declared.vector_operations.ElementWidth.{ElementWidth}
 use Rattle.hart_core.specs.VectorRows.{accesses_at, size_of}
 use Rattle.multi_hart.specs.Run.{is_in}
-use Rattle.vector_codegen_sharing.specs.Turns.{is_word_in}
+use Rattle.work_sharing.specs.Turns.{is_word_in}
 use Rattle.debugger_blame.specs.inner.Marked.{Marked, is_byte_of_word}
 use Rattle.debugger_blame.proofs.Storing.{in_both}
 
@@ -102,7 +102,7 @@ both_marked first xs ys mark old between new as_many once again =
 pub none_marked : (first mark : ℕ) (words : List ℕ) → Marked first (λ word. is_word_in word []) mark words words
 none_marked first mark words = record { each = λ k below. refl }
 
--- the first of numbers, and those behind it
+-- the first of numbers, and those after it
 pub numbers_marked : (first : ℕ) (width : ElementWidth) (addresses : List ℕ) (mark : ℕ) (old between new : List ℕ) → 1 ≤ length addresses
     → length between ≡ length old
     → Marked first (λ word. is_word_in word (places_of (access_at (size_of width) (get_or addresses 0 0)))) mark old between

@@ -2,7 +2,7 @@
 -- This project's own.
 use Rattle.std.specs.Prelude.{◌≡◌, ℕ, ◌+◌, Bool, if◌then◌else◌, option_and_then, slice_get, take, unwrap_or, List, [], ◌∷◌, Option, Some, None}
 use Rattle.multi_hart.specs.Run.{State, hart_at, run, turn, word_in, is_in}
-use Rattle.vector_codegen_sharing.specs.Turns.{is_word_in, last_writer, written_next}
+use Rattle.work_sharing.specs.Turns.{is_word_in, last_writer, written_next}
 use Rattle.debugger_blame.specs.declared.writes.Write.{Write}
 
 -- the number of the last of the turns whose places pass the test, where so many turns came before the first; where none do, what was
@@ -29,7 +29,7 @@ abbrev pub held : State → ℕ → ℕ
 held state word = unwrap_or (word_in state word) 0
 
 -- The turn is the last of the turns that writes a byte of the word; its hart, where that stood, and what the word held before it and
--- behind it.
+-- after it.
 pub record IsLastWrite (begin : State) (turns : List ℕ) (word : ℕ) (w : Write) : Type 0 where
   pub is_last : last_turn_of_word word begin turns ≡ Some w.turn
   pub hart_is : slice_get turns w.turn ≡ Some w.hart

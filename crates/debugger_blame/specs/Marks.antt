@@ -13,7 +13,7 @@ mark_of marking turns None = 4294967295
 mark_of Harts turns (Some number) = unwrap_or (slice_get turns number) 0
 mark_of Turns turns (Some number) = number % 2147483648
 
--- the mark of the word at an address behind turns
+-- the mark of the word at an address after turns
 abbrev pub mark_at : Marking → State → List ℕ → ℕ → ℕ
 mark_at marking begin turns word = mark_of marking turns (last_turn_of_word word begin turns)
 

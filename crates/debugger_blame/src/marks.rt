@@ -6,15 +6,15 @@ ghost use Rattle.hart_core.specs.VectorRows.{accesses_at, size_of};
 ghost use Rattle.memory.specs.Access.{access_at, places_of, touched};
 ghost use Rattle.memory.specs.Access.{fetched, most_words};
 ghost use Rattle.multi_hart.specs.Run.{KeepsShape, State, hart_at, run, turn};
-ghost use Rattle.vector_codegen_sharing.specs.Turns.{is_word_in, written_next};
+ghost use Rattle.work_sharing.specs.Turns.{is_word_in, written_next};
 ghost use Rattle.debugger_blame.specs.Marks.{AreMarks};
-ghost use Rattle.debugger_stores.specs.Stored.{places_in, store_in};
+ghost use Rattle.debugger_writes.specs.Stored.{places_in, store_in};
 ghost use Rattle.debugger_blame.specs.inner.Marked.{Marked, is_byte_of_word};
 ghost use Rattle.debugger_blame.specs.inner.Quiet.{AreCounts};
 
-use crate::passes::Stretch;
+use crate::passes::HartTurns;
 use crate::quiets::{quiet_at, quiets_of};
-use debugger_stores::{Stored, number_stored, numbers_stored, store_at, stores_of};
+use debugger_writes::{Stored, number_stored, numbers_stored, store_at, stores_of};
 use hart_core::Status;
 use multi_hart::Machine;
 use rv_insn::{ElementWidth, Insn, Outcome};
@@ -85,8 +85,8 @@ fn mark_all(
     let _length = log.len();
     let mut place = 0;
     'runs: while let Some((hart, count)) = log.run_at(place) {
-        let stretch = Stretch { hart, count, place };
-        mark_run(machine, insns, quiets, stretch, range, marks);
+        let hart_turns = HartTurns { hart, count, place };
+        mark_run(machine, insns, quiets, hart_turns, range, marks);
         place += count;
     }
 }
@@ -96,29 +96,29 @@ fn mark_run(
     machine: &mut Machine,
     insns: &[Option<Insn>],
     quiets: &[u32],
-    stretch: Stretch,
+    hart_turns: HartTurns,
     range: MarkedRange,
     marks: &mut [u32],
 )
-    requires there { stretch.hart < length machine.old.harts }
+    requires there { hart_turns.hart < length machine.old.harts }
     requires eight { length machine.old.harts ≤ 8 }
     requires meant { insns.now ≡ map store_in machine.old.text }
     requires few { length insns.now ≤ most_words }
     requires quiet { AreCounts machine.old.text quiets.now }
-    requires fits { stretch.place + stretch.count < 2 ^ 64 }
-    ensures state { machine.new ≡ run machine.old (replicate stretch.count stretch.hart) }
-    ensures marks { (begin : State) (done : List ℕ) → machine.old ≡ run begin done → length done ≡ stretch.place
+    requires fits { hart_turns.place + hart_turns.count < 2 ^ 64 }
+    ensures state { machine.new ≡ run machine.old (replicate hart_turns.count hart_turns.hart) }
+    ensures marks { (begin : State) (done : List ℕ) → machine.old ≡ run begin done → length done ≡ hart_turns.place
         → AreMarks range.marking range.first begin done marks.old
-        → AreMarks range.marking range.first begin (done ++ replicate stretch.count stretch.hart) marks.new }
+        → AreMarks range.marking range.first begin (done ++ replicate hart_turns.count hart_turns.hart) marks.new }
 {
-    let Stretch { hart, count, place } = stretch;
+    let HartTurns { hart, count, place } = hart_turns;
     let mut made = 0;
     'turns: while made < count {
         let Status::Running = machine.status(hart) else {
             let _ = machine.run_same(hart, count - made);
             return;
         };
-        let rest = Stretch {
+        let rest = HartTurns {
             hart,
             count: count - made,
             place: place + made,
@@ -127,32 +127,32 @@ fn mark_run(
     }
 }
 
-/// Makes turns of one hart and marks what they write, and says how many it made: all up to a word that stores or behind
+/// Makes turns of one hart and marks what they write, and says how many it made: all up to a word that stores or after
 /// one that may go on elsewhere, which mark nothing, or else one.
 #[inline(always)]
 fn mark_some(
     machine: &mut Machine,
     insns: &[Option<Insn>],
     quiets: &[u32],
-    stretch: Stretch,
+    hart_turns: HartTurns,
     range: MarkedRange,
     marks: &mut [u32],
 ) -> u64
-    requires there { stretch.hart < length machine.old.harts }
+    requires there { hart_turns.hart < length machine.old.harts }
     requires eight { length machine.old.harts ≤ 8 }
     requires meant { insns.now ≡ map store_in machine.old.text }
     requires few { length insns.now ≤ most_words }
     requires quiet { AreCounts machine.old.text quiets.now }
-    requires some { 1 ≤ stretch.count }
+    requires some { 1 ≤ hart_turns.count }
     ensures some { 1 ≤ result }
-    ensures within { result ≤ stretch.count }
-    ensures state { machine.new ≡ run machine.old (replicate result stretch.hart) }
+    ensures within { result ≤ hart_turns.count }
+    ensures state { machine.new ≡ run machine.old (replicate result hart_turns.hart) }
     ensures shape { KeepsShape machine.old machine.new }
-    ensures marks { (begin : State) (done : List ℕ) → machine.old ≡ run begin done → length done ≡ stretch.place
+    ensures marks { (begin : State) (done : List ℕ) → machine.old ≡ run begin done → length done ≡ hart_turns.place
         → AreMarks range.marking range.first begin done marks.old
-        → AreMarks range.marking range.first begin (done ++ replicate result stretch.hart) marks.new }
+        → AreMarks range.marking range.first begin (done ++ replicate result hart_turns.hart) marks.new }
 {
-    let Stretch { hart, count, place } = stretch;
+    let HartTurns { hart, count, place } = hart_turns;
     let quiet = u64::from(quiet_at(quiets, machine.pc(hart)));
     if quiet > 0 {
         return machine.step_on(hart, quiet.min(count)).made;

@@ -7,14 +7,14 @@ ghost use Rattle.memory.specs.Access.{fetched, most_words};
 ghost use Rattle.rv_encoding.specs.Decoding.{decoded};
 ghost use Rattle.hart_core.specs.Scalar.{illegal_fault};
 ghost use Rattle.multi_hart.specs.Run.{State, hart_at, run, turn, word_in};
-ghost use Rattle.vector_codegen_sharing.specs.Turns.{is_word_in};
-ghost use Rattle.debugger_stores.specs.Stored.{places_stored, store_in};
+ghost use Rattle.work_sharing.specs.Turns.{is_word_in};
+ghost use Rattle.debugger_writes.specs.Stored.{places_stored, store_in};
 ghost use Rattle.debugger_blame.specs.LastWrites.{Blames, held};
 ghost use Rattle.rv_insn.specs.declared.instructions.Insn.{Insn};
 
 use crate::stores::stores_to;
 use crate::writes::Write;
-use debugger_stores::{store_at, stores_of};
+use debugger_writes::{store_at, stores_of};
 use hart_core::Status;
 use multi_hart::Machine;
 use rv_insn::{Insn, Outcome};
@@ -52,8 +52,8 @@ fn pass(machine: &mut Machine, insns: &[Option<Insn>], log: &TurnLog, address: u
     let mut last = None;
     let mut place = 0;
     'runs: while let Some((hart, count)) = log.run_at(place) {
-        let stretch = Stretch { hart, count, place };
-        last = pass_run(machine, insns, stretch, address, last);
+        let hart_turns = HartTurns { hart, count, place };
+        last = pass_run(machine, insns, hart_turns, address, last);
         place += count;
     }
     last
@@ -61,7 +61,7 @@ fn pass(machine: &mut Machine, insns: &[Option<Insn>], log: &TurnLog, address: u
 
 /// Turns of one hart that stand in a row in a log.
 #[derive(Clone, Copy, Debug)]
-pub(crate) struct Stretch {
+pub(crate) struct HartTurns {
     pub(crate) hart: usize,
     pub(crate) count: u64,
     /// How many turns came before them.
@@ -73,20 +73,20 @@ pub(crate) struct Stretch {
 fn pass_run(
     machine: &mut Machine,
     insns: &[Option<Insn>],
-    stretch: Stretch,
+    hart_turns: HartTurns,
     address: u32,
     last: Option<Write>,
 ) -> Option<Write>
-    requires there { stretch.hart < length machine.old.harts }
+    requires there { hart_turns.hart < length machine.old.harts }
     requires meant { insns.now ≡ map store_in machine.old.text }
     requires few { length insns.now ≤ most_words }
-    requires fits { stretch.place + stretch.count < 2 ^ 64 }
-    ensures state { machine.new ≡ run machine.old (replicate stretch.count stretch.hart) }
-    ensures blames { (begin : State) (done : List ℕ) → machine.old ≡ run begin done → length done ≡ stretch.place
+    requires fits { hart_turns.place + hart_turns.count < 2 ^ 64 }
+    ensures state { machine.new ≡ run machine.old (replicate hart_turns.count hart_turns.hart) }
+    ensures blames { (begin : State) (done : List ℕ) → machine.old ≡ run begin done → length done ≡ hart_turns.place
         → Blames begin done address last
-        → Blames begin (done ++ replicate stretch.count stretch.hart) address result }
+        → Blames begin (done ++ replicate hart_turns.count hart_turns.hart) address result }
 {
-    let Stretch { hart, count, place } = stretch;
+    let HartTurns { hart, count, place } = hart_turns;
     let mut last = last;
     let mut made = 0;
     'turns: while made < count {

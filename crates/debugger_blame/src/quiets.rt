@@ -1,10 +1,10 @@
-//! Words of text that store nothing and are executed one behind the other, counted once.
+//! Words of text that store nothing and are executed one after the other, counted once.
 
 ghost use Rattle.std.specs.Prelude.{◌≡◌, ◌+◌, ◌≤◌, ℕ, List, Some, length, slice_get, IfOk};
 ghost use Rattle.rv_encoding.specs.Decoding.{decoded};
 ghost use Rattle.debugger_blame.specs.inner.Quiet.{AreCounts, AreQuiet, IsQuietFrom, goes_on, some_goes_on};
 
-use debugger_stores::store_of;
+use debugger_writes::store_of;
 use memory::TEXT_START;
 use rv_encoding::decode;
 use rv_insn::Insn;
@@ -13,7 +13,7 @@ use std::alloc::{AllocError, Global};
 /// How far words are counted.
 const MOST_QUIET: u32 = 1024;
 
-/// For each of the words how many from it on store nothing and are executed one behind the other, up to the first that
+/// For each of the words how many from it on store nothing and are executed one after the other, up to the first that
 /// may go on elsewhere.
 pub(crate) fn quiets_of(alloc: Global, words: &[u32]) -> Result<Vec<u32>, AllocError>
     ensures { IfOk result (λ counts. AreCounts words.now counts.items) }
@@ -52,7 +52,7 @@ fn count_from(word: u32, next: u32) -> u32
     next.min(MOST_QUIET) + 1
 }
 
-/// Whether the next word is due behind a turn of this one.
+/// Whether the next word is due after a turn of this one.
 fn word_goes_on(word: u32) -> bool
     ensures { result ≡ some_goes_on (decoded word) }
 {
@@ -62,7 +62,7 @@ fn word_goes_on(word: u32) -> bool
     }
 }
 
-/// Whether the next word is due behind a turn of the instruction.
+/// Whether the next word is due after a turn of the instruction.
 fn goes_on(insn: &Insn) -> bool
     ensures { result ≡ goes_on insn.now }
 {
@@ -74,7 +74,7 @@ fn goes_on(insn: &Insn) -> bool
     }
 }
 
-/// How many of the words from an address on are executed one behind the other and store nothing, by what was counted.
+/// How many of the words from an address on are executed one after the other and store nothing, by what was counted.
 #[inline(always)]
 pub(crate) fn quiet_at(counts: &[u32], pc: u32) -> u32
     ensures { (text : List ℕ) → AreCounts text counts.now → 1 ≤ result → IsQuietFrom text pc result }

@@ -6,10 +6,10 @@ ghost use Rattle.hart_core.specs.HartState.{register};
 ghost use Rattle.hart_core.specs.Scalar.{illegal_fault};
 ghost use Rattle.hart_core.specs.VectorRows.{accesses_at, size_of};
 ghost use Rattle.multi_hart.specs.Run.{is_in};
-ghost use Rattle.vector_codegen_sharing.specs.Turns.{is_word_in};
-ghost use Rattle.debugger_stores.specs.Stored.{places_in, places_stored};
+ghost use Rattle.work_sharing.specs.Turns.{is_word_in};
+ghost use Rattle.debugger_writes.specs.Stored.{places_in, places_stored};
 
-use debugger_stores::{Stored, number_stored, numbers_stored};
+use debugger_writes::{Stored, number_stored, numbers_stored};
 use hart_core::Hart;
 use rv_insn::{ElementWidth, Insn};
 

@@ -9,7 +9,7 @@ pub struct Write {
     pub hart: usize,
     /// Where the hart stood.
     pub pc: u32,
-    /// What the word held before the turn, and behind it.
+    /// What the word held before the turn, and after it.
     pub before: u32,
     pub after: u32,
 }

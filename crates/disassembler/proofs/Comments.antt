@@ -1,11 +1,11 @@
--- A comment behind a line leaves its tokens.
+-- A comment after a line leaves its tokens.
 use Rattle.std.proofs.Common.{◌≡◌, ◌∙◌, ◌⊎◌, ℕ, zero, suc, ◌+◌, ◌<◌, ◌==◌, Bool, true, false, List, [], ◌∷◌, ◌++◌, length, take, drop, refl, sym, ap, ap₂}
 use Rattle.std.proofs.Common.{subst, inl, inr, arith, length-append}
 use Rattle.std.specs.Prelude.{if◌then◌else◌}
 use Rattle.std.specs.List.{prefix_len}
 use Rattle.line_text.specs.Lines.{ends, is_blank, is_digit, skip_blanks}
-use Rattle.assembler_syntax.specs.declared.tokens.Token.{Token}
-use Rattle.assembler_syntax.specs.declared.tokens.Token.TheVariants as t
+use Rattle.assembler_syntax.specs.declared.tokens.AssemblyToken.{AssemblyToken}
+use Rattle.assembler_syntax.specs.declared.tokens.AssemblyToken.TheVariants as t
 use Rattle.assembler_syntax.specs.Tokens.{begins_word, continues_word, front_token, mark, negative_token, number_token, span, tokens_from, tokens_of}
 use Rattle.disassembler.proofs.Tokens.{Reads}
 
@@ -16,7 +16,7 @@ behind comment = 32 ∷ 35 ∷ comment
 -- ---- what is skipped, and what a word spans
 
 module _ (comment : List ℕ) where
-  -- what is left of a line behind its blanks: the comment alone, or what was left of it and the comment
+  -- what is left of a line after its blanks: the comment alone, or what was left of it and the comment
   abbrev Skipped : List ℕ → Type 0
   Skipped line = ((skip_blanks line ≡ []) × (skip_blanks (line ++ behind comment) ≡ 35 ∷ comment))
       ⊎ ((byte : ℕ) × (rest : List ℕ) × (skip_blanks line ≡ byte ∷ rest) × (skip_blanks (line ++ behind comment) ≡ byte ∷ (rest ++ behind comment)))
@@ -69,24 +69,24 @@ module _ (comment : List ℕ) where
   -- ---- tokens
 
   -- the token at the front, by the class of the first byte
-  abbrev front_by : Bool → Bool → Bool → ℕ → List ℕ → Token × List ℕ
+  abbrev front_by : Bool → Bool → Bool → ℕ → List ℕ → AssemblyToken × List ℕ
   front_by begins digit minus byte rest =
       if begins then (t.Word (take (span (byte ∷ rest)) (byte ∷ rest)), drop (span (byte ∷ rest)) (byte ∷ rest))
       else if digit then (number_token (take (span (byte ∷ rest)) (byte ∷ rest)), drop (span (byte ∷ rest)) (byte ∷ rest))
       else if minus then (negative_token (take (span rest) rest), drop (span rest) rest)
       else (mark byte, rest)
 
-  abbrev followed : Token × List ℕ → Token × List ℕ
+  abbrev followed : AssemblyToken × List ℕ → AssemblyToken × List ℕ
   followed front = (front.0, front.1 ++ behind comment)
 
   front_kept_by : (begins digit minus : Bool) (byte : ℕ) (rest : List ℕ)
       → front_by begins digit minus byte (rest ++ behind comment) ≡ followed (front_by begins digit minus byte rest)
   front_kept_by true digit minus byte rest =
-      ap₂ (λ (bytes others : List ℕ). let pair : Token × List ℕ = (t.Word bytes, others) in pair) (taken (byte ∷ rest)) (left_over (byte ∷ rest))
+      ap₂ (λ (bytes others : List ℕ). let pair : AssemblyToken × List ℕ = (t.Word bytes, others) in pair) (taken (byte ∷ rest)) (left_over (byte ∷ rest))
   front_kept_by false true minus byte rest =
-      ap₂ (λ (bytes others : List ℕ). let pair : Token × List ℕ = (number_token bytes, others) in pair) (taken (byte ∷ rest)) (left_over (byte ∷ rest))
+      ap₂ (λ (bytes others : List ℕ). let pair : AssemblyToken × List ℕ = (number_token bytes, others) in pair) (taken (byte ∷ rest)) (left_over (byte ∷ rest))
   front_kept_by false false true byte rest =
-      ap₂ (λ (bytes others : List ℕ). let pair : Token × List ℕ = (negative_token bytes, others) in pair) (taken rest) (left_over rest)
+      ap₂ (λ (bytes others : List ℕ). let pair : AssemblyToken × List ℕ = (negative_token bytes, others) in pair) (taken rest) (left_over rest)
   front_kept_by false false false byte rest = refl
 
   front_kept : (byte : ℕ) (rest : List ℕ) → front_token (byte ∷ (rest ++ behind comment)) ≡ followed (front_token (byte ∷ rest))
@@ -94,10 +94,10 @@ module _ (comment : List ℕ) where
   front_kept byte rest = front_kept_by (begins_word byte) (is_digit byte) (byte == 45) byte rest
 
   -- the tokens of bytes that begin with no blank
-  abbrev tokens_at : ℕ → List ℕ → List Token
+  abbrev tokens_at : ℕ → List ℕ → List AssemblyToken
   tokens_at n bytes = if ends bytes then [] else (front_token bytes).0 ∷ tokens_from n (front_token bytes).1
 
-  -- one more token is the same, where those behind it are
+  -- one more token is the same, where those after it are
   one_token : (n : ℕ) (line : List ℕ) → ((rest : List ℕ) → tokens_from n (rest ++ behind comment) ≡ tokens_from n rest) → Skipped line
       → tokens_at n (skip_blanks (line ++ behind comment)) ≡ tokens_at n (skip_blanks line)
   one_token n line more (inl none) = ap (tokens_at n) none.1 ∙ sym (ap (tokens_at n) none.0)
@@ -111,7 +111,7 @@ module _ (comment : List ℕ) where
           ≡ (if b then [] else (front_token (some.0 ∷ some.1)).0 ∷ tokens_from n (front_token (some.0 ∷ some.1)).1)
       by_end true = refl
       by_end false =
-          ap (λ (front : Token × List ℕ). front.0 ∷ tokens_from n front.1) kept
+          ap (λ (front : AssemblyToken × List ℕ). front.0 ∷ tokens_from n front.1) kept
           ∙ ap (λ tokens. (front_token (some.0 ∷ some.1)).0 ∷ tokens) (more (front_token (some.0 ∷ some.1)).1)
 
   pub same_tokens : (n : ℕ) (line : List ℕ) → tokens_from n (line ++ behind comment) ≡ tokens_from n line
@@ -119,8 +119,8 @@ module _ (comment : List ℕ) where
   same_tokens zero line = refl
   same_tokens (suc n) line = one_token n line (λ rest. same_tokens n rest) (skipped line)
 
--- a line that has tokens has the same with a comment behind it
-pub commented : (line comment : List ℕ) (tokens : List Token) → Reads line tokens → tokens_of (line ++ behind comment) ≡ tokens
+-- a line that has tokens has the same with a comment after it
+pub commented : (line comment : List ℕ) (tokens : List AssemblyToken) → Reads line tokens → tokens_of (line ++ behind comment) ≡ tokens
 unfolding tokens_of
 commented line comment tokens reads =
     same_tokens comment (suc (length (line ++ behind comment))) line

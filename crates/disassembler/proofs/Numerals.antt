@@ -10,8 +10,8 @@ use Rattle.std.proofs.lemmas.Bool.Decides.{nat_tests}
 use Rattle.std.proofs.lemmas.Int.{ints}
 use Rattle.line_text.specs.Lines.{is_digit, is_hexadecimal, decimal_number, hexadecimal_number, hexadecimal_value}
 use Rattle.line_text.proofs.Numerals.{decimal_digits, decimal_value}
-use Rattle.assembler_syntax.specs.declared.tokens.Token.{Token}
-use Rattle.assembler_syntax.specs.declared.tokens.Token.TheVariants as t
+use Rattle.assembler_syntax.specs.declared.tokens.AssemblyToken.{AssemblyToken}
+use Rattle.assembler_syntax.specs.declared.tokens.AssemblyToken.TheVariants as t
 use Rattle.assembler_syntax.specs.Tokens.{begins_word, continues_word, span, capped, prefixed, number_token, negative_token}
 use Rattle.disassembler.specs.Listing.{hexadecimal_digit, last_digits, hexadecimal_text}
 use Rattle.disassembler.proofs.Tokens.{Reads, is_word, both_true, both, digit_continues, number_reads, negative_reads}
@@ -38,7 +38,7 @@ unfolding negative_token
 negative_is [] n some all value small = absurd (omega (arith, some))
 negative_is (byte ∷ digits) n some all value small = rw (all, value, capped_small n small) refl
 
-digits_read : (digits rest : List ℕ) (token : Token) (tokens : List Token) → 0 < length digits → list_all is_digit digits ≡ true → number_token digits ≡ token
+digits_read : (digits rest : List ℕ) (token : AssemblyToken) (tokens : List AssemblyToken) → 0 < length digits → list_all is_digit digits ≡ true → number_token digits ≡ token
     → span rest ≡ 0 → Reads rest tokens → Reads (digits ++ rest) (token ∷ tokens)
 digits_read [] rest token tokens some all means stops reads = absurd (omega (arith, some))
 digits_read (byte ∷ digits) rest token tokens some all means stops reads =
@@ -48,7 +48,7 @@ digits_read (byte ∷ digits) rest token tokens some all means stops reads =
 below_zero : (n : ℕ) → pos 0 -ℤ pos (suc n) ≡ negsuc n
 below_zero n = grind (arith, ints, nat_tests)
 
-pub signed_reads : (number : ℤ) (rest : List ℕ) (tokens : List Token) → negsuc 4294967295 ≤ℤ number → number ≤ℤ pos 4294967296 → span rest ≡ 0
+pub signed_reads : (number : ℤ) (rest : List ℕ) (tokens : List AssemblyToken) → negsuc 4294967295 ≤ℤ number → number ≤ℤ pos 4294967296 → span rest ≡ 0
     → Reads rest tokens
     → Reads (signed_decimal number ++ rest) (t.Number number ∷ tokens)
 signed_reads (pos n) rest tokens least most stops reads =
@@ -104,7 +104,7 @@ unfolding number_token prefixed
 prefixed_token [] n some all value small = absurd (omega (arith, some))
 prefixed_token (byte ∷ digits) n some all value small = rw (all, value, capped_small n small) refl
 
-pub hexadecimal_reads : (count number : ℕ) (rest : List ℕ) (tokens : List Token) → 0 < count → number < 16 ^ count → number ≤ 2 ^ 32 → span rest ≡ 0
+pub hexadecimal_reads : (count number : ℕ) (rest : List ℕ) (tokens : List AssemblyToken) → 0 < count → number < 16 ^ count → number ≤ 2 ^ 32 → span rest ≡ 0
     → Reads rest tokens
     → Reads (hexadecimal_text count number ++ rest) (t.Number (pos number) ∷ tokens)
 unfolding hexadecimal_text
@@ -115,7 +115,7 @@ hexadecimal_reads count number rest tokens some short small stops reads =
     (digits_value count number short) small) reads
 
 -- the same of a number that isn't negative
-pub natural_reads : (count : ℕ) (number : ℤ) (rest : List ℕ) (tokens : List Token) → 0 < count → pos 0 ≤ℤ number → unsigned_abs number < 16 ^ count
+pub natural_reads : (count : ℕ) (number : ℤ) (rest : List ℕ) (tokens : List AssemblyToken) → 0 < count → pos 0 ≤ℤ number → unsigned_abs number < 16 ^ count
     → unsigned_abs number ≤ 2 ^ 32
     → span rest ≡ 0 → Reads rest tokens → Reads (hexadecimal_text count (unsigned_abs number) ++ rest) (t.Number number ∷ tokens)
 natural_reads count (pos n) rest tokens some least short small stops reads = hexadecimal_reads count n rest tokens some short small stops reads

@@ -10,8 +10,8 @@ use Rattle.assembler_mnemonics.specs.Configuration.{width_names, group_names, ta
 use Rattle.assembler_mnemonics.specs.Configuration.{name_at}
 use Rattle.assembler_mnemonics.specs.declared.slots.Slot.{Slot}
 use Rattle.assembler_mnemonics.specs.declared.slots.Slot.TheVariants.{Integer, Vector, MaskRegister, Number, Upper, Based, Address, Target, Configuration, Mask}
-use Rattle.assembler_syntax.specs.declared.tokens.Token.{Token}
-use Rattle.assembler_syntax.specs.declared.tokens.Token.TheVariants as t
+use Rattle.assembler_syntax.specs.declared.tokens.AssemblyToken.{AssemblyToken}
+use Rattle.assembler_syntax.specs.declared.tokens.AssemblyToken.TheVariants as t
 use Rattle.assembler_syntax.specs.declared.statements.Operand.{Operand}
 use Rattle.assembler_syntax.specs.Tokens.{span}
 use Rattle.disassembler.specs.Listing.{register_in, bracketed, names_text, vtype_text, operand_text, is_written, later_text, operands_text}
@@ -22,12 +22,12 @@ use Rattle.disassembler.proofs.Numerals.{signed_reads, hexadecimal_reads, natura
 use Rattle.disassembler.proofs.Statements.{first_append}
 
 -- the same bytes in other brackets
-moved : (written grouped : List ℕ) (tokens : List Token) → written ≡ grouped → Reads grouped tokens → Reads written tokens
+moved : (written grouped : List ℕ) (tokens : List AssemblyToken) → written ≡ grouped → Reads grouped tokens → Reads written tokens
 moved written grouped tokens same reads = subst (λ bytes. Reads bytes tokens) (sym same) reads
 
 -- ---- brackets
 
-bracket_reads : (word rest : List ℕ) (tokens : List Token) → is_word word ≡ true → Reads rest tokens
+bracket_reads : (word rest : List ℕ) (tokens : List AssemblyToken) → is_word word ≡ true → Reads rest tokens
     → Reads (bracketed word ++ rest) (t.Open ∷ t.Word word ∷ t.Close ∷ tokens)
 bracket_reads word rest tokens is reads =
     moved (bracketed word ++ rest) (40 ∷ (word ++ 41 ∷ rest)) (t.Open ∷ t.Word word ∷ t.Close ∷ tokens)
@@ -59,7 +59,7 @@ mask_word (suc zero) small = refl
 mask_word (suc (suc code)) small = absurd (omega (arith, small))
 
 -- four words with commas between them
-four_reads : (a b c d rest : List ℕ) (tokens : List Token) → is_word a ≡ true → is_word b ≡ true → is_word c ≡ true → is_word d ≡ true → span rest ≡ 0
+four_reads : (a b c d rest : List ℕ) (tokens : List AssemblyToken) → is_word a ≡ true → is_word b ≡ true → is_word c ≡ true → is_word d ≡ true → span rest ≡ 0
     → Reads rest tokens
     → Reads ((a ++ 44 ∷ b ++ 44 ∷ c ++ 44 ∷ d) ++ rest) (t.Word a ∷ t.Comma ∷ t.Word b ∷ t.Comma ∷ t.Word c ∷ t.Comma ∷ t.Word d ∷ tokens)
 four_reads a b c d rest tokens first second third fourth stops reads =
@@ -83,7 +83,7 @@ names_are_words vtype named =
       mask_word (mask_code vtype) (omega arith),
     )
 
-names_read : (vtype : ℕ) (rest : List ℕ) (tokens : List Token) → has_names vtype ≡ true → span rest ≡ 0 → Reads rest tokens
+names_read : (vtype : ℕ) (rest : List ℕ) (tokens : List AssemblyToken) → has_names vtype ≡ true → span rest ≡ 0 → Reads rest tokens
     → Reads (vtype_text vtype ++ rest) (operands_tokens (vtype_shown vtype) ++ tokens)
 unfolding vtype_text names_text vtype_shown operands_tokens later_tokens
 names_read vtype rest tokens named stops reads = let words = names_are_words vtype named in
@@ -91,13 +91,13 @@ names_read vtype rest tokens named stops reads = let words = names_are_words vty
     (name_at mask_names (mask_code vtype))
     rest tokens words.0 words.1 words.2 words.3 stops reads)
 
-digits_read : (vtype : ℕ) (rest : List ℕ) (tokens : List Token) → has_names vtype ≡ false → vtype < 4096 → span rest ≡ 0 → Reads rest tokens
+digits_read : (vtype : ℕ) (rest : List ℕ) (tokens : List AssemblyToken) → has_names vtype ≡ false → vtype < 4096 → span rest ≡ 0 → Reads rest tokens
     → Reads (vtype_text vtype ++ rest) (operands_tokens (vtype_shown vtype) ++ tokens)
 unfolding vtype_text vtype_shown operands_tokens later_tokens
 digits_read vtype rest tokens unnamed small stops reads =
     rw unnamed (hexadecimal_reads 3 vtype rest tokens (omega arith) small (omega (arith, small)) stops reads)
 
-vtype_reads : (vtype : ℕ) (rest : List ℕ) (tokens : List Token) → vtype < 4096 → span rest ≡ 0 → Reads rest tokens
+vtype_reads : (vtype : ℕ) (rest : List ℕ) (tokens : List AssemblyToken) → vtype < 4096 → span rest ≡ 0 → Reads rest tokens
     → Reads (vtype_text vtype ++ rest) (operands_tokens (vtype_shown vtype) ++ tokens)
 vtype_reads vtype rest tokens small stops reads = elim (has_names vtype) as (λ named. has_names vtype ≡ named
     → Reads (vtype_text vtype ++ rest) (operands_tokens (vtype_shown vtype) ++ tokens)) [
@@ -116,7 +116,7 @@ upper_small (negsuc n) least most = absurd (omega (arith, ints, least))
 
 -- ---- a slot whose operand is written
 
-pub slot_reads : (slot : Slot) (fields : List ℤ) (count : ℕ) (rest : List ℕ) (tokens : List Token) → is_written slot fields ≡ true → Reaches count slot
+pub slot_reads : (slot : Slot) (fields : List ℤ) (count : ℕ) (rest : List ℕ) (tokens : List AssemblyToken) → is_written slot fields ≡ true → Reaches count slot
     → FitsSlot fields slot → span rest ≡ 0 → Reads rest tokens
     → Reads (operand_text slot fields ++ rest) (operands_tokens (shown slot fields) ++ tokens)
 unfolding operand_text shown operands_tokens later_tokens

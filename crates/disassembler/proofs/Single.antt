@@ -15,7 +15,7 @@ use Rattle.assembler_mnemonics.specs.Slots.{shape, blank, field_at, FitsSlot, Fi
 use Rattle.assembler_mnemonics.specs.Registers.{integer_letter, vector_letter}
 use Rattle.assembler_mnemonics.specs.Configuration.{width_names, group_names, tail_names, mask_names, width_code, group_code, tail_code, mask_code, has_names}
 use Rattle.assembler_mnemonics.specs.Configuration.{name_at}
-use Rattle.assembler_mnemonics.specs.declared.forms.Form.{Form}
+use Rattle.assembler_mnemonics.specs.declared.forms.MnemonicForm.{MnemonicForm}
 use Rattle.assembler_mnemonics.specs.declared.slots.Slot.{Slot}
 use Rattle.assembler_mnemonics.specs.declared.slots.Slot.TheVariants.{Integer, Vector, MaskRegister, Number, Upper, Based, Address, Target, Configuration, Mask}
 use Rattle.assembler_syntax.specs.Tokens.{continues_word}
@@ -122,7 +122,7 @@ operands_in_line (slot ∷ slots) fields count reach fits =
     appended (operand_text slot fields) (later_text slots fields) (slot_in_line slot fields count reach.0 fits.0) (later_in_line slots fields count reach.1
     fits.1)
 
-word_line : (word : ℕ) (meant : Option Insn) → ((form : Form) → IsFound form) → ((insn : Insn) → meant ≡ Some insn
+word_line : (word : ℕ) (meant : Option Insn) → ((form : MnemonicForm) → IsFound form) → ((insn : Insn) → meant ≡ Some insn
     → FitsSlots (fields_of insn) (shape (form_of insn))) → InLine (word_text word meant)
 unfolding word_text instruction_text
 word_line word None found fits = hexadecimal_in_line 8 word
@@ -130,7 +130,7 @@ word_line word (Some insn) found fits = let form = form_of insn in
     appended (mnemonic form) (operands_text (shape form) (fields_of insn)) (word_in_line (mnemonic form) (mnemonic_word form (found form)))
     (operands_in_line (shape form) (fields_of insn) (length (blank form)) (form_reaches form) (fits insn refl))
 
-pub is_line : (word : ℕ) (meant : Option Insn) → ((form : Form) → IsFound form) → ((insn : Insn) → meant ≡ Some insn
+pub is_line : (word : ℕ) (meant : Option Insn) → ((form : MnemonicForm) → IsFound form) → ((insn : Insn) → meant ≡ Some insn
     → FitsSlots (fields_of insn) (shape (form_of insn))) → IsLine (word_text word meant)
 is_line word meant found fits = line_is (word_text word meant) (word_line word meant found fits)
 

@@ -1,14 +1,14 @@
 -- The tokens of a mnemonic and operands are a statement.
 use Rattle.std.proofs.Common.{◌≡◌, ℕ, List, [], ◌∷◌, ◌++◌, Some, None, refl, sym, ap, ◌∙◌, append_assoc}
-use Rattle.assembler_syntax.specs.declared.tokens.Token.{Token}
-use Rattle.assembler_syntax.specs.declared.tokens.Token.TheVariants as t
+use Rattle.assembler_syntax.specs.declared.tokens.AssemblyToken.{AssemblyToken}
+use Rattle.assembler_syntax.specs.declared.tokens.AssemblyToken.TheVariants as t
 use Rattle.assembler_syntax.specs.declared.statements.Operand.{Operand}
 use Rattle.assembler_syntax.specs.declared.statements.Operand.TheVariants as o
 use Rattle.assembler_syntax.specs.Statements.{operand_of, pieces_of, all_operands, operands_of, commanded, statement_of}
 use Rattle.disassembler.specs.Reading.{operand_tokens, later_tokens, operands_tokens, commanding}
 
 -- the pieces of later operands
-abbrev pieces : List Operand → List (List Token)
+abbrev pieces : List Operand → List (List AssemblyToken)
 pieces [] = []
 pieces (operand ∷ operands) = operand_tokens operand ∷ pieces operands
 
@@ -25,7 +25,7 @@ all_back [] = refl
 all_back (operand ∷ operands) = rw (operand_back operand, all_back operands) refl
 
 -- an operand's tokens in front of the end or of a comma are a piece
-piece_and : (operand : Operand) (others : List (List Token)) (rest : List Token) → pieces_of rest ≡ [] ∷ others → pieces_of (operand_tokens operand ++ rest)
+piece_and : (operand : Operand) (others : List (List AssemblyToken)) (rest : List AssemblyToken) → pieces_of rest ≡ [] ∷ others → pieces_of (operand_tokens operand ++ rest)
     ≡ operand_tokens operand ∷ others
 unfolding pieces_of
 piece_and (o.Word word) others rest e = rw e refl
@@ -33,7 +33,7 @@ piece_and (o.Number number) others rest e = rw e refl
 piece_and (o.Based number base) others rest e = rw e refl
 piece_and (o.Bracketed base) others rest e = rw e refl
 
-comma_pieces : (tokens : List Token) → pieces_of (t.Comma ∷ tokens) ≡ [] ∷ pieces_of tokens
+comma_pieces : (tokens : List AssemblyToken) → pieces_of (t.Comma ∷ tokens) ≡ [] ∷ pieces_of tokens
 unfolding pieces_of
 comma_pieces tokens = refl
 
@@ -42,14 +42,14 @@ unfolding later_tokens pieces_of
 later_pieces [] = refl
 later_pieces (operand ∷ operands) =
     comma_pieces (operand_tokens operand ++ later_tokens operands)
-    ∙ ap (λ (others : List (List Token)). [] ∷ others) (piece_and operand (pieces operands) (later_tokens operands) (later_pieces operands))
+    ∙ ap (λ (others : List (List AssemblyToken)). [] ∷ others) (piece_and operand (pieces operands) (later_tokens operands) (later_pieces operands))
 
 -- tokens that are some are pieces
-some_operands : (tokens : List Token) (token : Token) (others : List Token) → tokens ≡ token ∷ others → operands_of tokens ≡ all_operands (pieces_of tokens)
+some_operands : (tokens : List AssemblyToken) (token : AssemblyToken) (others : List AssemblyToken) → tokens ≡ token ∷ others → operands_of tokens ≡ all_operands (pieces_of tokens)
 unfolding operands_of
 some_operands tokens token others e = rw e refl
 
-first_some : (operand : Operand) (rest : List Token) → operands_of (operand_tokens operand ++ rest) ≡ all_operands (pieces_of (operand_tokens operand ++ rest))
+first_some : (operand : Operand) (rest : List AssemblyToken) → operands_of (operand_tokens operand ++ rest) ≡ all_operands (pieces_of (operand_tokens operand ++ rest))
 first_some (o.Word word) rest = some_operands _ _ _ refl
 first_some (o.Number number) rest = some_operands _ _ _ refl
 first_some (o.Based number base) rest = some_operands _ _ _ refl
@@ -63,7 +63,7 @@ operands_back (operand ∷ operands) =
     ∙ ap all_operands (piece_and operand (pieces operands) (later_tokens operands) (later_pieces operands))
     ∙ all_back (operand ∷ operands)
 
--- no colon stands behind the mnemonic
+-- no colon stands after the mnemonic
 no_label : (mnemonic : List ℕ) (operands : List Operand) → statement_of (t.Word mnemonic ∷ operands_tokens operands)
     ≡ commanded None mnemonic (operands_of (operands_tokens operands))
 unfolding statement_of operands_tokens

@@ -6,15 +6,15 @@ use Rattle.std.proofs.lemmas.Bool.{eqb-true}
 use Rattle.std.proofs.lemmas.Bool.Decides.{nat_tests}
 use Rattle.line_text.specs.Lines.{is_blank, is_digit, skip_blanks, ends, begins_name}
 use Rattle.line_text.proofs.SpanLaws.{prefix_len-front}
-use Rattle.assembler_syntax.specs.declared.tokens.Token.{Token}
-use Rattle.assembler_syntax.specs.declared.tokens.Token.TheVariants as t
+use Rattle.assembler_syntax.specs.declared.tokens.AssemblyToken.{AssemblyToken}
+use Rattle.assembler_syntax.specs.declared.tokens.AssemblyToken.TheVariants as t
 use Rattle.assembler_syntax.specs.Tokens.{begins_word, continues_word, span, number_token, negative_token, front_token, tokens_from, tokens_of}
 
 -- the bytes have these tokens, however many more are asked for
-abbrev pub Reads : List ℕ → List Token → Type 0
+abbrev pub Reads : List ℕ → List AssemblyToken → Type 0
 Reads bytes tokens = (n : ℕ) → length bytes < n → tokens_from n bytes ≡ tokens
 
-pub whole : (line : List ℕ) (tokens : List Token) → Reads line tokens → tokens_of line ≡ tokens
+pub whole : (line : List ℕ) (tokens : List AssemblyToken) → Reads line tokens → tokens_of line ≡ tokens
 unfolding tokens_of
 whole line tokens reads = reads (suc (length line)) (omega arith)
 
@@ -25,12 +25,12 @@ unfolding tokens_from
 nothing_reads zero room = absurd (omega (arith, room))
 nothing_reads (suc n) room = refl
 
-front_taken : (n : ℕ) (bytes rest : List ℕ) (token : Token) → ends (skip_blanks bytes) ≡ false → front_token (skip_blanks bytes) ≡ (token, rest)
+front_taken : (n : ℕ) (bytes rest : List ℕ) (token : AssemblyToken) → ends (skip_blanks bytes) ≡ false → front_token (skip_blanks bytes) ≡ (token, rest)
     → tokens_from (suc n) bytes ≡ token ∷ tokens_from n rest
 unfolding tokens_from
 front_taken n bytes rest token goes front = rw (goes, front) refl
 
-token_reads : (bytes rest : List ℕ) (token : Token) (tokens : List Token) → ends (skip_blanks bytes) ≡ false → front_token (skip_blanks bytes) ≡ (token, rest)
+token_reads : (bytes rest : List ℕ) (token : AssemblyToken) (tokens : List AssemblyToken) → ends (skip_blanks bytes) ≡ false → front_token (skip_blanks bytes) ≡ (token, rest)
     → length rest < length bytes → Reads rest tokens → Reads bytes (token ∷ tokens)
 token_reads bytes rest token tokens goes front less reads zero room = absurd (omega (arith, room))
 token_reads bytes rest token tokens goes front less reads (suc n) room =
@@ -45,21 +45,21 @@ same_front : (n : ℕ) (rest : List ℕ) → tokens_from (suc n) (32 ∷ rest) �
 unfolding tokens_from
 same_front n rest = rw (blank_skipped rest) refl
 
-pub blank_reads : (rest : List ℕ) (tokens : List Token) → Reads rest tokens → Reads (32 ∷ rest) tokens
+pub blank_reads : (rest : List ℕ) (tokens : List AssemblyToken) → Reads rest tokens → Reads (32 ∷ rest) tokens
 blank_reads rest tokens reads zero room = absurd (omega (arith, room))
 blank_reads rest tokens reads (suc n) room = same_front n rest ∙ reads (suc n) (omega (arith, room))
 
 -- ---- marks
 
-pub comma_reads : (rest : List ℕ) (tokens : List Token) → Reads rest tokens → Reads (44 ∷ rest) (t.Comma ∷ tokens)
+pub comma_reads : (rest : List ℕ) (tokens : List AssemblyToken) → Reads rest tokens → Reads (44 ∷ rest) (t.Comma ∷ tokens)
 unfolding front_token
 comma_reads rest tokens reads = token_reads (44 ∷ rest) rest t.Comma tokens refl refl (omega arith) reads
 
-pub open_reads : (rest : List ℕ) (tokens : List Token) → Reads rest tokens → Reads (40 ∷ rest) (t.Open ∷ tokens)
+pub open_reads : (rest : List ℕ) (tokens : List AssemblyToken) → Reads rest tokens → Reads (40 ∷ rest) (t.Open ∷ tokens)
 unfolding front_token
 open_reads rest tokens reads = token_reads (40 ∷ rest) rest t.Open tokens refl refl (omega arith) reads
 
-pub close_reads : (rest : List ℕ) (tokens : List Token) → Reads rest tokens → Reads (41 ∷ rest) (t.Close ∷ tokens)
+pub close_reads : (rest : List ℕ) (tokens : List AssemblyToken) → Reads rest tokens → Reads (41 ∷ rest) (t.Close ∷ tokens)
 unfolding front_token
 close_reads rest tokens reads = token_reads (41 ∷ rest) rest t.Close tokens refl refl (omega arith) reads
 
@@ -151,14 +151,14 @@ shorter : (byte : ℕ) (front rest : List ℕ) → length rest < length (byte �
 shorter byte front rest = omega (arith, length-append front rest)
 
 -- what begins with a byte of a word is taken from there
-front_reads : (byte : ℕ) (front rest : List ℕ) (token : Token) (tokens : List Token) → continues_word byte ≡ true
+front_reads : (byte : ℕ) (front rest : List ℕ) (token : AssemblyToken) (tokens : List AssemblyToken) → continues_word byte ≡ true
     → front_token (byte ∷ (front ++ rest)) ≡ (token, rest) → Reads rest tokens → Reads (byte ∷ (front ++ rest)) (token ∷ tokens)
 front_reads byte front rest token tokens is taken reads =
     token_reads (byte ∷ (front ++ rest)) rest token tokens
     (rw (no_blanks byte (front ++ rest) is) (no_comment byte (front ++ rest) is))
     (ap front_token (no_blanks byte (front ++ rest) is) ∙ taken) (shorter byte front rest) reads
 
-pub word_reads : (word rest : List ℕ) (tokens : List Token) → is_word word ≡ true → span rest ≡ 0 → Reads rest tokens
+pub word_reads : (word rest : List ℕ) (tokens : List AssemblyToken) → is_word word ≡ true → span rest ≡ 0 → Reads rest tokens
     → Reads (word ++ rest) (t.Word word ∷ tokens)
 word_reads [] rest tokens is stops reads = absurd cc
 word_reads (byte ∷ word) rest tokens is stops reads =
@@ -167,7 +167,7 @@ word_reads (byte ∷ word) rest tokens is stops reads =
     front_reads byte word rest (t.Word (byte ∷ word)) tokens first
     (word_front byte word rest parts.0 (both (continues_word byte) (list_all continues_word word) first parts.1) stops) reads
 
-pub number_reads : (byte : ℕ) (digits rest : List ℕ) (token : Token) (tokens : List Token) → is_digit byte ≡ true → list_all continues_word digits ≡ true
+pub number_reads : (byte : ℕ) (digits rest : List ℕ) (token : AssemblyToken) (tokens : List AssemblyToken) → is_digit byte ≡ true → list_all continues_word digits ≡ true
     → span rest ≡ 0
     → number_token (byte ∷ digits) ≡ token → Reads rest tokens → Reads (byte ∷ (digits ++ rest)) (token ∷ tokens)
 number_reads byte digits rest token tokens is all stops means reads =
@@ -175,7 +175,7 @@ number_reads byte digits rest token tokens is all stops means reads =
     front_reads byte digits rest token tokens first
     (number_front byte digits rest is (both (continues_word byte) (list_all continues_word digits) first all) stops ∙ ap (λ token. (token, rest)) means) reads
 
-pub negative_reads : (digits rest : List ℕ) (token : Token) (tokens : List Token) → list_all continues_word digits ≡ true → span rest ≡ 0
+pub negative_reads : (digits rest : List ℕ) (token : AssemblyToken) (tokens : List AssemblyToken) → list_all continues_word digits ≡ true → span rest ≡ 0
     → negative_token digits ≡ token → Reads rest tokens → Reads (45 ∷ (digits ++ rest)) (token ∷ tokens)
 negative_reads digits rest token tokens all stops means reads =
     token_reads (45 ∷ (digits ++ rest)) rest token tokens refl

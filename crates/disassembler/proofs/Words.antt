@@ -7,8 +7,8 @@ use Rattle.rv_insn.specs.declared.instructions.Insn.{Insn}
 use Rattle.assembler_mnemonics.specs.Forms.{form_of, mnemonic}
 use Rattle.assembler_mnemonics.specs.Named.{forms, vector_forms, form_among, form_named}
 use Rattle.assembler_mnemonics.specs.Slots.{shape, vector_shape, blank, FitsSlots}
-use Rattle.assembler_mnemonics.specs.declared.forms.Form.{Form}
-use Rattle.assembler_syntax.specs.declared.tokens.Token.TheVariants as t
+use Rattle.assembler_mnemonics.specs.declared.forms.MnemonicForm.{MnemonicForm}
+use Rattle.assembler_syntax.specs.declared.tokens.AssemblyToken.TheVariants as t
 use Rattle.assembler_syntax.specs.declared.statements.Operand.TheVariants as o
 use Rattle.disassembler.specs.Listing.{hexadecimal_text, operands_text, instruction_text, word_text}
 use Rattle.disassembler.specs.Reading.{all_shown, operands_tokens, later_tokens, mnemonic_said, operands_said}
@@ -19,7 +19,7 @@ use Rattle.disassembler.proofs.Slots.{form_reaches}
 
 -- ---- mnemonics are words: a test on the list of all forms
 
-found_passes : (wanted passes : Form → Bool) (some : List Form) (form : Form) → find wanted some ≡ Some form → list_all passes some ≡ true → passes form ≡ true
+found_passes : (wanted passes : MnemonicForm → Bool) (some : List MnemonicForm) (form : MnemonicForm) → find wanted some ≡ Some form → list_all passes some ≡ true → passes form ≡ true
 found_passes wanted passes [] form found all = absurd cc
 found_passes wanted passes (first ∷ others) form found all =
     let parts = both_true (passes first) (list_all passes others) all in
@@ -32,16 +32,16 @@ all_words : list_all (λ form. is_word (mnemonic form)) forms ≡ true
 unfolding forms vector_forms
 all_words = refl
 
-abbrev pub IsFound : Form → Type 0
+abbrev pub IsFound : MnemonicForm → Type 0
 IsFound form = form_named (mnemonic form) ≡ Some form
 
-pub mnemonic_word : (form : Form) → IsFound form → is_word (mnemonic form) ≡ true
+pub mnemonic_word : (form : MnemonicForm) → IsFound form → is_word (mnemonic form) ≡ true
 unfolding form_among
 mnemonic_word form found = found_passes _ (λ form. is_word (mnemonic form)) forms form found all_words
 
 -- ---- the first operand of each form is written
 
-form_first : (form : Form) → first_is_written (shape form) ≡ true
+form_first : (form : MnemonicForm) → first_is_written (shape form) ≡ true
 unfolding shape vector_shape
 form_first form = grind arith
 
@@ -66,7 +66,7 @@ number_reads word small =
     word_reads (codes ".word") (32 ∷ hexadecimal_text 8 word) (t.Number (pos word) ∷ []) refl refl (blank_reads (hexadecimal_text 8 word) (t.Number (pos word)
     ∷ []) (last_read word small))
 
-pub line_reads : (word : ℕ) (meant : Option Insn) → word < 2 ^ 32 → ((form : Form) → IsFound form)
+pub line_reads : (word : ℕ) (meant : Option Insn) → word < 2 ^ 32 → ((form : MnemonicForm) → IsFound form)
     → ((insn : Insn) → meant ≡ Some insn → FitsSlots (fields_of insn) (shape (form_of insn)))
     → Reads (word_text word meant) (t.Word (mnemonic_said meant) ∷ operands_tokens (operands_said word meant))
 unfolding word_text

@@ -68,12 +68,12 @@ abbrev pub is_written : Slot → List ℤ → Bool
 is_written (Mask field) fields = unsigned_abs (field_at fields field) == 0
 is_written slot fields = true
 
--- later operands, each behind a comma
+-- later operands, each after a comma
 unfoldable pub later_text : List Slot → List ℤ → List ℕ
 later_text [] fields = []
 later_text (slot ∷ slots) fields = (if is_written slot fields then 44 ∷ operand_text slot fields else []) ++ later_text slots fields
 
--- what stands behind a mnemonic: nothing, or a space, the first operand and the later ones
+-- what stands after a mnemonic: nothing, or a space, the first operand and the later ones
 unfoldable pub operands_text : List Slot → List ℤ → List ℕ
 operands_text [] fields = []
 operands_text (slot ∷ slots) fields = 32 ∷ operand_text slot fields ++ later_text slots fields
@@ -96,14 +96,14 @@ line_of word = word_text word (decoded word)
 abbrev pub listed : ℕ → List ℕ
 listed word = line_of word ++ 10 ∷ []
 
--- the lines of words, one behind the other
+-- the lines of words, one after the other
 unfoldable pub listing : List ℕ → List ℕ
 listing [] = []
 listing (word ∷ words) = listed word ++ listing words
 
 -- ---- lines that say where their words stand
 
--- the line of a word, and behind it a comment with its address, without a line feed
+-- the line of a word, and after it a comment with its address, without a line feed
 abbrev pub addressed_line : ℕ → ℕ → List ℕ
 addressed_line address word = line_of word ++ codes " # " ++ hexadecimal_text 8 address
 

@@ -11,8 +11,8 @@ use Rattle.assembler_mnemonics.specs.Configuration.{name_at}
 use Rattle.assembler_mnemonics.specs.Registers.{integer_letter, vector_letter}
 use Rattle.assembler_mnemonics.specs.declared.slots.Slot.{Slot}
 use Rattle.assembler_mnemonics.specs.declared.slots.Slot.TheVariants.{Integer, Vector, MaskRegister, Number, Upper, Based, Address, Target, Configuration, Mask}
-use Rattle.assembler_syntax.specs.declared.tokens.Token.{Token}
-use Rattle.assembler_syntax.specs.declared.tokens.Token.TheVariants as t
+use Rattle.assembler_syntax.specs.declared.tokens.AssemblyToken.{AssemblyToken}
+use Rattle.assembler_syntax.specs.declared.tokens.AssemblyToken.TheVariants as t
 use Rattle.assembler_syntax.specs.declared.statements.Operand.{Operand}
 use Rattle.assembler_syntax.specs.declared.statements.Operand.TheVariants as o
 use Rattle.assembler_syntax.specs.declared.statements.Statement.{Statement}
@@ -62,20 +62,20 @@ statement_said word = commanding (mnemonic_said (decoded word)) (operands_said w
 
 -- ---- its tokens
 
-abbrev pub operand_tokens : Operand → List Token
+abbrev pub operand_tokens : Operand → List AssemblyToken
 operand_tokens (o.Word word) = t.Word word ∷ []
 operand_tokens (o.Number number) = t.Number number ∷ []
 operand_tokens (o.Based number base) = t.Number number ∷ t.Open ∷ t.Word base ∷ t.Close ∷ []
 operand_tokens (o.Bracketed base) = t.Open ∷ t.Word base ∷ t.Close ∷ []
 
--- those of later operands, each behind a comma
-unfoldable pub later_tokens : List Operand → List Token
+-- those of later operands, each after a comma
+unfoldable pub later_tokens : List Operand → List AssemblyToken
 later_tokens [] = []
 later_tokens (operand ∷ operands) = t.Comma ∷ operand_tokens operand ++ later_tokens operands
 
-unfoldable pub operands_tokens : List Operand → List Token
+unfoldable pub operands_tokens : List Operand → List AssemblyToken
 operands_tokens [] = []
 operands_tokens (operand ∷ operands) = operand_tokens operand ++ later_tokens operands
 
-abbrev pub tokens_said : ℕ → List Token
+abbrev pub tokens_said : ℕ → List AssemblyToken
 tokens_said word = t.Word (mnemonic_said (decoded word)) ∷ operands_tokens (operands_said word (decoded word))

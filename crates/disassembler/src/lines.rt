@@ -9,7 +9,7 @@ ghost use Rattle.disassembler.specs.Listing.{addressed_line, instruction_text, w
 use crate::numbers::push_hexadecimal;
 use crate::operands::push_operands;
 use assembler_mnemonics::laws::fields_fit;
-use assembler_mnemonics::{Fields, Form};
+use assembler_mnemonics::{Fields, MnemonicForm};
 use rv_encoding::decode;
 use rv_insn::Insn;
 use std::alloc::AllocError;
@@ -30,7 +30,7 @@ pub fn write_line(word: u32, out: &mut Vec<u8>) -> Result<(), AllocError>
     Ok(())
 }
 
-/// Appends the line of a word, behind it a comment with the address at which the word stands, and a line feed. An `Err`
+/// Appends the line of a word, after it a comment with the address at which the word stands, and a line feed. An `Err`
 /// says that there was no memory, and leaves what stands in `out` as it was.
 pub(crate) fn write_addressed_line(
     word: u32,
@@ -79,7 +79,7 @@ fn push_instruction(text: &mut String, insn: &Insn) -> Result<(), AllocError>
     ensures { OnOk result (string_bytes text.new ≡ string_bytes text.old ++ instruction_text insn.now) }
 {
     fields_fit();
-    let form = Form::of(insn);
+    let form = MnemonicForm::of(insn);
     text.push_str(form.mnemonic())?;
     push_operands(text, form.shape(), &Fields::of(insn))?;
     Ok(())

@@ -6,7 +6,7 @@ ghost use Rattle.disassembler.specs.Listing.{addressed_listing, listing};
 use crate::lines::{write_addressed_line, write_line};
 use std::alloc::AllocError;
 
-/// Appends the lines of words, one behind the other. An `Err` says that there was no memory, and leaves what stands in
+/// Appends the lines of words, one after the other. An `Err` says that there was no memory, and leaves what stands in
 /// `out` as it was.
 pub fn write_lines(words: &[u32], out: &mut Vec<u8>) -> Result<(), AllocError>
     ensures appended { OnOk result (out.new.items ≡ out.old.items ++ listing words.now) }

@@ -13,7 +13,7 @@ use crate::numbers::push_hexadecimal;
 use assembler_mnemonics::{Fields, Slot};
 use std::alloc::AllocError;
 
-/// What stands behind a mnemonic: nothing where there are no slots, else a space and the operands with
+/// What stands after a mnemonic: nothing where there are no slots, else a space and the operands with
 /// commas between them.
 #[tactic(auto, unfolding(crate::specs::Listing::operands_text))]
 pub fn push_operands(text: &mut String, slots: &[Slot], fields: &Fields) -> Result<(), AllocError>
@@ -30,7 +30,7 @@ pub fn push_operands(text: &mut String, slots: &[Slot], fields: &Fields) -> Resu
     Ok(())
 }
 
-/// Later operands, each behind a comma.
+/// Later operands, each after a comma.
 #[tactic(auto, unfolding(crate::specs::Listing::later_text))]
 fn push_later(text: &mut String, slots: &[Slot], fields: &Fields) -> Result<(), AllocError>
     requires within { AllReach (length fields.now) slots.now }

@@ -14,8 +14,8 @@ use Rattle.halide_parser_syntax.specs.declared.faults.ParseFault.TheVariants as 
 use Rattle.halide_parser_syntax.specs.declared.tokens.Token.{Token}
 use Rattle.halide_parser_syntax.specs.declared.lines.Change.{Change}
 use Rattle.halide_parser_syntax.specs.declared.lines.Definition.{Definition}
-use Rattle.halide_parser_syntax.specs.declared.lines.Line.{Line}
-use Rattle.halide_parser_syntax.specs.declared.lines.Line.TheVariants as line
+use Rattle.halide_parser_syntax.specs.declared.lines.AlgorithmLine.{AlgorithmLine}
+use Rattle.halide_parser_syntax.specs.declared.lines.AlgorithmLine.TheVariants as line
 use Rattle.halide_parser_syntax.specs.inner.Algebra.{made, made_index}
 use Rattle.halide_parser_syntax.specs.inner.LineReading.{line_of, or_syntax}
 use Rattle.halide_parser_syntax.specs.Grammar.{Written, has_part, nesting}
@@ -24,8 +24,8 @@ use Rattle.halide_parser_syntax.specs.Tokens.{tokens_of}
 use Rattle.halide_parser_syntax.proofs.Refusals.{line_or_syntax, agree, follows}
 use Rattle.halide_parser.specs.declared.judging.Judged.{Judged}
 use Rattle.halide_parser.specs.declared.judging.Marks.{Marks}
-use Rattle.halide_parser.specs.declared.readers.Reader.{Reader}
-use Rattle.halide_parser.specs.declared.scopes.Scope.{Scope}
+use Rattle.halide_parser.specs.declared.readers.AlgorithmReader.{AlgorithmReader}
+use Rattle.halide_parser.specs.declared.scopes.NameScope.{NameScope}
 use Rattle.halide_parser.specs.inner.Judging as j
 use Rattle.halide_parser.specs.inner.JudgedLines as lines
 use Rattle.halide_parser.specs.Expressions as asked
@@ -48,7 +48,7 @@ least_cut n m false e = lt-leb (min n (m + 1)) m (omega (arith, leb-false n m e)
 fits_cut : (n m a b : ℕ) → a ≡ min n 513 → b ≡ min m 65 → fits a b ≡ fits n m
 fits_cut n m a b e f = rw (e, f) (rw (least_cut n 512 (nat_le n 512) refl, least_cut m 64 (nat_le m 64) refl) refl)
 
-module _ (reader : Reader) (scope : Scope) where
+module _ (reader : AlgorithmReader) (scope : NameScope) where
   abbrev judge : Written → Judged
   judge = made (j.judging reader scope)
 
@@ -131,7 +131,7 @@ limits_agree false false false false false true g h k same = refl
 limits_agree false false false false false false true h k same = refl
 limits_agree false false false false false false false h k same = ap (λ (x : Bool). cond x (Some fault.Limit) None) (same refl refl refl)
 
-definition_faults : (reader : Reader) (tokens : List Token) (d : Definition Written) → lines.fault_of reader tokens (lines.judged_line reader (line.Func d))
+definition_faults : (reader : AlgorithmReader) (tokens : List Token) (d : Definition Written) → lines.fault_of reader tokens (lines.judged_line reader (line.Func d))
     ≡ r.fault_of reader tokens (line.Func d)
 unfolding lines.fault_of r.fault_of
 definition_faults reader tokens d =
@@ -149,7 +149,7 @@ definition_faults reader tokens d =
     ∙ λ i. chain (r.is_behind_output reader.output l) (unknown i) (r.is_taken reader l) (counts i) (divisors i) (r.has_large tokens) false
     (r.is_over_limit (asked.exceeds reader scope) reader tokens l)
 
-change_faults : (reader : Reader) (tokens : List Token) (u : Change Written) → lines.fault_of reader tokens (lines.judged_line reader (line.Update u))
+change_faults : (reader : AlgorithmReader) (tokens : List Token) (u : Change Written) → lines.fault_of reader tokens (lines.judged_line reader (line.Update u))
     ≡ r.fault_of reader tokens (line.Update u)
 unfolding lines.fault_of r.fault_of
 change_faults reader tokens u =
@@ -176,7 +176,7 @@ change_faults reader tokens u =
     (r.has_large tokens) (below || moved i)
     (r.is_over_limit (asked.exceeds reader scope) reader tokens l)
 
-same_fault : (reader : Reader) (tokens : List Token) (l : Line Written) → lines.fault_of reader tokens (lines.judged_line reader l) ≡ r.fault_of reader tokens l
+same_fault : (reader : AlgorithmReader) (tokens : List Token) (l : AlgorithmLine Written) → lines.fault_of reader tokens (lines.judged_line reader l) ≡ r.fault_of reader tokens l
 unfolding lines.fault_of r.fault_of
 same_fault reader tokens line.Blank = refl
 same_fault reader tokens (line.Input e is_bytes) = refl
@@ -186,14 +186,14 @@ same_fault reader tokens (line.Output e) = refl
 
 -- ---- what is added
 
-module _ (reader : Reader) (scope : Scope) where
+module _ (reader : AlgorithmReader) (scope : NameScope) where
   index_tree : (index : Option Written) → IsPlain (lines.marks_of (made_index (j.judging reader scope) index))
       → r.second_exceeds lines.exceeds (made_index (j.judging reader scope) index) ≡ false
       → second_tree lines.tree_of (made_index (j.judging reader scope) index) ≡ second_tree (asked.tree reader scope) index
   index_tree None plain within = refl
   index_tree (Some w) plain within = ap Some (tree_is reader scope w plain within)
 
-  abbrev with_change : Change Written → Expr → Option Expr → Expr → Reader
+  abbrev with_change : Change Written → Expr → Option Expr → Expr → AlgorithmReader
   with_change u x y right = record {
     alloc = reader.alloc;
     is_oversized = reader.is_oversized;
@@ -225,7 +225,7 @@ module _ (reader : Reader) (scope : Scope) where
       let z = tree_is reader scope u.right all.1 sizes.2 in
       λ i. with_change u (x i) (y i) (z i)
 
-same_added : (reader : Reader) (tokens : List Token) (l : Line Written) → IsFaultless reader tokens (lines.judged_line reader l)
+same_added : (reader : AlgorithmReader) (tokens : List Token) (l : AlgorithmLine Written) → IsFaultless reader tokens (lines.judged_line reader l)
     → applied lines.tree_of reader (lines.judged_line reader l) ≡ applied (asked.tree reader (scope_of reader l)) reader l
 same_added reader tokens line.Blank right = refl
 same_added reader tokens (line.Input e is_bytes) right = refl
@@ -245,39 +245,39 @@ same_added reader tokens (line.Output e) right = refl
 
 -- ---- a line from its tokens
 
-by_fault : (reader : Reader) (tokens : List Token) (l : Line Written) (found : Option ParseFault) → lines.fault_of reader tokens (lines.judged_line reader l)
+by_fault : (reader : AlgorithmReader) (tokens : List Token) (l : AlgorithmLine Written) (found : Option ParseFault) → lines.fault_of reader tokens (lines.judged_line reader l)
     ≡ found
     → lines.settled_as reader (lines.judged_line reader l) found ≡ parsing.settled_as reader l found
 by_fault reader tokens l None e = ap Ok (same_added reader tokens l (faultless reader tokens (lines.judged_line reader l) e))
 by_fault reader tokens l (Some fault) e = refl
 
-settled_is : (reader : Reader) (tokens : List Token) (l : Line Written) → lines.settled reader tokens (lines.judged_line reader l)
+settled_is : (reader : AlgorithmReader) (tokens : List Token) (l : AlgorithmLine Written) → lines.settled reader tokens (lines.judged_line reader l)
     ≡ parsing.settled reader tokens l
 settled_is reader tokens l = by_fault reader tokens l (lines.fault_of reader tokens (lines.judged_line reader l)) refl
     ∙ ap (parsing.settled_as reader l) (same_fault reader tokens l)
 
-by_line : (reader : Reader) (tokens : List Token) (given : Option (Line Written))
+by_line : (reader : AlgorithmReader) (tokens : List Token) (given : Option (AlgorithmLine Written))
     → ((or_syntax given >>= λ l. Ok (lines.judged_line reader l)) >>= λ l. lines.settled reader tokens l) ≡ parsing.settled_if reader tokens given
 by_line reader tokens None = refl
 by_line reader tokens (Some l) = settled_is reader tokens l
 
-by_tokens : (reader : Reader) (given : Result (List Token) ParseFault) → (given >>= λ tokens. lines.judged reader tokens >>= λ l. lines.settled reader tokens l)
+by_tokens : (reader : AlgorithmReader) (given : Result (List Token) ParseFault) → (given >>= λ tokens. lines.judged reader tokens >>= λ l. lines.settled reader tokens l)
     ≡ (given >>= λ tokens. parsing.settled_if reader tokens (line_of tokens))
 unfolding lines.judged
 by_tokens reader (Err fault) = refl
 by_tokens reader (Ok tokens) =
-    ap (λ (given : Result (Line Written) ParseFault). (given >>= λ l. Ok (lines.judged_line reader l)) >>= λ l. lines.settled reader tokens l)
+    ap (λ (given : Result (AlgorithmLine Written) ParseFault). (given >>= λ l. Ok (lines.judged_line reader l)) >>= λ l. lines.settled reader tokens l)
     (line_or_syntax tokens)
     ∙ by_line reader tokens (line_of tokens)
 
-taken_is : (reader : Reader) (line : List ℕ) → lines.taken reader line ≡ parsing.taken_by line_of reader line
+taken_is : (reader : AlgorithmReader) (line : List ℕ) → lines.taken reader line ≡ parsing.taken_by line_of reader line
 unfolding lines.taken parsing.taken_by
 taken_is reader line = by_tokens reader (tokens_of line)
 
 -- ---- a text
 
 abbrev Takes : Type 0
-Takes = Reader → List ℕ → Result Reader ParseFault
+Takes = AlgorithmReader → List ℕ → Result AlgorithmReader ParseFault
 
 pub parsed_is : (alloc : Global) (text : List ℕ)
     → parsing.parsed alloc text ≡ (taken_from lines.taken 1 (parsing.start alloc text) (lines_of text) >>= λ reader. parsing.finished (length (lines_of text))
@@ -290,8 +290,8 @@ parsed_is alloc text =
 
 -- whatever reads lines by the grammar
 pub by_reading : (P : Result Pipeline (ℕ × ParseFault) → Type 0) (alloc : Global) (text : List ℕ) → P (parsing.parsed alloc text)
-    → (read : List Token → Option (Line Written)) → FollowsGrammar read → P (parsing.parsed_by read alloc text)
+    → (read : List Token → Option (AlgorithmLine Written)) → FollowsGrammar read → P (parsing.parsed_by read alloc text)
 unfolding parsing.parsed
 by_reading P alloc text given read is =
     let same : line_of ≡ read = λ i tokens. agree line_of read follows is tokens i in
-    subst (λ (f : List Token → Option (Line Written)). P (parsing.parsed_by f alloc text)) same given
+    subst (λ (f : List Token → Option (AlgorithmLine Written)). P (parsing.parsed_by f alloc text)) same given

@@ -5,10 +5,10 @@ use Rattle.std.specs.Prelude.{◌||◌, is_some}
 use Rattle.halide_parser_syntax.specs.declared.faults.ParseFault.{ParseFault}
 use Rattle.halide_parser_syntax.specs.declared.faults.ParseFault.TheVariants as fault
 use Rattle.halide_parser_syntax.specs.declared.tokens.Token.{Token}
-use Rattle.halide_parser_syntax.specs.declared.lines.Line.{Line}
-use Rattle.halide_parser_syntax.specs.declared.lines.Line.TheVariants as line
+use Rattle.halide_parser_syntax.specs.declared.lines.AlgorithmLine.{AlgorithmLine}
+use Rattle.halide_parser_syntax.specs.declared.lines.AlgorithmLine.TheVariants as line
 use Rattle.halide_parser.specs.declared.judging.Judged.{Judged}
-use Rattle.halide_parser.specs.declared.readers.Reader.{Reader}
+use Rattle.halide_parser.specs.declared.readers.AlgorithmReader.{AlgorithmReader}
 use Rattle.halide_parser.specs.inner.JudgedLines.{fault_of, is_unknown, is_wrong_count, line_marks, is_misshapen, exceeds}
 use Rattle.halide_parser.specs.Rules.{is_behind_output, is_taken, has_large, is_over_limit, is_line_over_limit, has_long}
 use Rattle.halide_parser.specs.Meaning.{IsFree}
@@ -49,7 +49,7 @@ are_false false false false false false false false false is = record {
   h_is = refl;
 }
 
-pub record IsFaultless (reader : Reader) (tokens : List Token) (l : Line Judged) : Type 0 where
+pub record IsFaultless (reader : AlgorithmReader) (tokens : List Token) (l : AlgorithmLine Judged) : Type 0 where
   pub first : is_behind_output reader.output l ≡ false
   pub known : is_unknown reader l ≡ false
   pub free : is_taken reader l ≡ false
@@ -60,7 +60,7 @@ pub record IsFaultless (reader : Reader) (tokens : List Token) (l : Line Judged)
   pub shaped : is_misshapen reader l ≡ false
   pub within : is_line_over_limit exceeds reader l ≡ false
 
-pub faultless : (reader : Reader) (tokens : List Token) (l : Line Judged) → fault_of reader tokens l ≡ None → IsFaultless reader tokens l
+pub faultless : (reader : AlgorithmReader) (tokens : List Token) (l : AlgorithmLine Judged) → fault_of reader tokens l ≡ None → IsFaultless reader tokens l
 unfolding fault_of
 faultless reader tokens l e =
     let all = are_false (is_behind_output reader.output l) (is_unknown reader l) (is_taken reader l) (is_wrong_count reader l) (line_marks l).is_bad_divisor
@@ -82,12 +82,12 @@ none_of : {A : Type 0} (found : Option A) → is_some found ≡ false → found 
 none_of None e = refl
 none_of (Some a) e = cc
 
-is_free : (reader : Reader) (l : Line Judged) → is_taken reader l ≡ false → IsFree reader l
+is_free : (reader : AlgorithmReader) (l : AlgorithmLine Judged) → is_taken reader l ≡ false → IsFree reader l
 is_free reader line.Blank e = tt
 is_free reader (line.Input extents is_bytes) e = none_of _ e
 is_free reader (line.Func definition) e = none_of _ (or_parts _ _ e).0
 is_free reader (line.Update change) e = tt
 is_free reader (line.Output extents) e = tt
 
-pub free : (reader : Reader) (tokens : List Token) (l : Line Judged) → fault_of reader tokens l ≡ None → IsFree reader l
+pub free : (reader : AlgorithmReader) (tokens : List Token) (l : AlgorithmLine Judged) → fault_of reader tokens l ≡ None → IsFree reader l
 free reader tokens l e = is_free reader l (faultless reader tokens l e).free

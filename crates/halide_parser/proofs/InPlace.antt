@@ -26,8 +26,8 @@ use Rattle.halide_parser_syntax.specs.inner.Algebra.{made}
 use Rattle.halide_parser_syntax.specs.Grammar.{Written, Literal, Bare, Group, Minus, Call, CallTwo, Two, Three, Product, Sum, Comparison}
 use Rattle.halide_parser.specs.declared.judging.Judged.{Judged}
 use Rattle.halide_parser.specs.declared.judging.Marks.{Marks}
-use Rattle.halide_parser.specs.declared.readers.Reader.{Reader}
-use Rattle.halide_parser.specs.declared.scopes.Scope.{Scope}
+use Rattle.halide_parser.specs.declared.readers.AlgorithmReader.{AlgorithmReader}
+use Rattle.halide_parser.specs.declared.scopes.NameScope.{NameScope}
 use Rattle.halide_parser.specs.inner.Judging as j
 use Rattle.halide_parser.specs.inner.JudgedLines.{tree_or_zero}
 use Rattle.halide_parser.specs.Expressions as asked
@@ -288,7 +288,7 @@ own_place : (own : Option ℕ) (place : ℕ) (s : Source) → own ≡ Some place
 own_place own place (sources.Func other) e = rw e refl
 own_place own place (sources.Input other) e = rw e refl
 
-module _ (place : ℕ) (first second : Bool) (reader : Reader) (scope : Scope) (own : scope.own ≡ Some place) where
+module _ (place : ℕ) (first second : Bool) (reader : AlgorithmReader) (scope : NameScope) (own : scope.own ≡ Some place) where
   abbrev pub IsPlaced : Judged → Type 0
   IsPlaced judged = Calm first second judged.marks → StaysIn place first second judged.tree judged.alone
 

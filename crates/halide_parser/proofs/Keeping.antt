@@ -13,8 +13,8 @@ use Rattle.halide_pipeline.specs.declared.expressions.Source.TheVariants as sour
 use Rattle.halide_pipeline.specs.WellFormed.{dimensions, are_names, IsFunc, is_input, is_output, is_width, is_height, are_dimensions, is_source, is_func_of}
 use Rattle.halide_pipeline.specs.WellFormed.{is_read}
 use Rattle.halide_pipeline.specs.Pipelines.{lookup, Named}
-use Rattle.halide_parser.specs.declared.readers.Reader.{Reader}
-use Rattle.halide_parser.specs.declared.scopes.Scope.{Scope}
+use Rattle.halide_parser.specs.declared.readers.AlgorithmReader.{AlgorithmReader}
+use Rattle.halide_parser.specs.declared.scopes.NameScope.{NameScope}
 use Rattle.halide_parser.specs.Expressions as asked
 use Rattle.halide_parser.specs.Expressions.{source, with_dimensions, func_place, place_of, func_at}
 use Rattle.halide_parser.specs.Rules.{is_bad_box, is_bad_extent, height_of, count_with}
@@ -26,7 +26,7 @@ pub record IsDrawn (funcs : List Func) (o : Output) : Type 0 where
   pub drawn : is_func_of (slice_get funcs o.func) o.dimensions ≡ true
   pub dimensions : are_dimensions o.dimensions o.height ≡ true
 
-pub record IsKept (reader : Reader) : Type 0 where
+pub record IsKept (reader : AlgorithmReader) : Type 0 where
   pub few_inputs : nat_le (length reader.inputs) 4 ≡ true
   pub few_funcs : nat_le (length reader.funcs) 12 ≡ true
   pub inputs : (place : ℕ) (input : Input) → slice_get reader.inputs place ≡ Some input → is_input input ≡ true
@@ -64,7 +64,7 @@ some_of None e = cc
 some_of (Some x) e = (x, refl)
 
 -- a source that is there may be read with as many indexes as it has dimensions
-may_read : (reader : Reader) (s : Source) → is_source reader.inputs reader.funcs s ≡ true
+may_read : (reader : AlgorithmReader) (s : Source) → is_source reader.inputs reader.funcs s ≡ true
     → is_read reader.inputs reader.funcs (length reader.funcs) s (asked.dimensions reader s) ≡ true
 may_read reader (sources.Input place) e =
     let found = some_of (slice_get reader.inputs place) e in
@@ -77,18 +77,18 @@ may_read reader (sources.Func place) e =
     and_from (nat_lt place (length reader.funcs)) (is_func_of (slice_get reader.funcs place) (asked.func_dimensions (slice_get reader.funcs place))) below equal
 
 -- each source that a name stands for
-may_by : (reader : Reader) (scope : Scope) (found : Option Source) → ((s : Source) → found ≡ Some s → is_source reader.inputs reader.funcs s ≡ true)
+may_by : (reader : AlgorithmReader) (scope : NameScope) (found : Option Source) → ((s : Source) → found ≡ Some s → is_source reader.inputs reader.funcs s ≡ true)
     → MayRead (is_read reader.inputs reader.funcs (length reader.funcs)) false scope (with_dimensions reader found)
 may_by reader scope None there = tt
 may_by reader scope (Some s) there = λ own. may_read reader s (there s refl)
 
-pub may : (reader : Reader) (scope : Scope) → IsKept reader → (name : List ℕ) → MayRead (is_read reader.inputs reader.funcs (length reader.funcs)) false scope
+pub may : (reader : AlgorithmReader) (scope : NameScope) → IsKept reader → (name : List ℕ) → MayRead (is_read reader.inputs reader.funcs (length reader.funcs)) false scope
     (source reader name)
 unfolding source
 may reader scope kept name = may_by reader scope (lookup name reader.names) (kept.names name)
 
 -- and of those the Funcs before the last, where that is the own one
-before_last : (reader : Reader) (place : ℕ) (s : Source) (n : ℕ) → suc place ≡ length reader.funcs → asked.is_own_place (Some place) s ≡ false
+before_last : (reader : AlgorithmReader) (place : ℕ) (s : Source) (n : ℕ) → suc place ≡ length reader.funcs → asked.is_own_place (Some place) s ≡ false
     → is_read reader.inputs reader.funcs (length reader.funcs) s n ≡ true → is_read reader.inputs reader.funcs place s n ≡ true
 before_last reader place (sources.Input at) n last other e = e
 before_last reader place (sources.Func at) n last other e =
@@ -98,14 +98,14 @@ before_last reader place (sources.Func at) n last other e =
     let before : nat_lt at place ≡ true = lt-ltb at place (grind (arith, last, below, apart)) in
     and_from (nat_lt at place) (is_func_of (slice_get reader.funcs at) n) before parts.1
 
-before_by : (reader : Reader) (scope : Scope) (place : ℕ) (found : Option Source) → scope.own ≡ Some place → suc place ≡ length reader.funcs
+before_by : (reader : AlgorithmReader) (scope : NameScope) (place : ℕ) (found : Option Source) → scope.own ≡ Some place → suc place ≡ length reader.funcs
     → ((s : Source) → found ≡ Some s → is_source reader.inputs reader.funcs s ≡ true)
     → MayRead (is_read reader.inputs reader.funcs place) true scope (with_dimensions reader found)
 before_by reader scope place None own last there = tt
 before_by reader scope place (Some s) own last there = λ other. before_last reader place s (asked.dimensions reader s) last (rw own at other)
     (may_read reader s (there s refl))
 
-pub may_before : (reader : Reader) (scope : Scope) (place : ℕ) → IsKept reader → scope.own ≡ Some place → suc place ≡ length reader.funcs → (name : List ℕ)
+pub may_before : (reader : AlgorithmReader) (scope : NameScope) (place : ℕ) → IsKept reader → scope.own ≡ Some place → suc place ≡ length reader.funcs → (name : List ℕ)
     → MayRead (is_read reader.inputs reader.funcs place) true scope (source reader name)
 unfolding source
 may_before reader scope place kept own last name = before_by reader scope place (lookup name reader.names) own last (kept.names name)
@@ -151,14 +151,14 @@ counted (Some height) = refl
 
 -- ---- the Func with a name
 
-pub record IsNamed (reader : Reader) (name : List ℕ) : Type 0 where
+pub record IsNamed (reader : AlgorithmReader) (name : List ℕ) : Type 0 where
   pub place : ℕ
   pub func : Func
   pub place_is : func_place reader name ≡ Some place
   pub found : slice_get reader.funcs place ≡ Some func
   pub func_is : asked.func reader name ≡ Some func
 
-named_by : (reader : Reader) (name : List ℕ) (s : Option Source) → lookup name reader.names ≡ s → ((t : Source) → s ≡ Some t
+named_by : (reader : AlgorithmReader) (name : List ℕ) (s : Option Source) → lookup name reader.names ≡ s → ((t : Source) → s ≡ Some t
     → is_source reader.inputs reader.funcs t ≡ true) → is_some (place_of s) ≡ true
     → IsNamed reader name
 unfolding asked.func func_place
@@ -175,6 +175,6 @@ named_by reader name (Some (sources.Func place)) is there e =
           ∙ found.1;
     }
 
-pub named : (reader : Reader) (name : List ℕ) → IsKept reader → not (is_some (func_place reader name)) ≡ false → IsNamed reader name
+pub named : (reader : AlgorithmReader) (name : List ℕ) → IsKept reader → not (is_some (func_place reader name)) ≡ false → IsNamed reader name
 unfolding func_place
 named reader name kept e = named_by reader name (lookup name reader.names) refl (kept.names name) (not-false (is_some (place_of (lookup name reader.names))) e)

@@ -14,14 +14,14 @@ use Rattle.halide_pipeline.specs.WellFormed.{dimensions, count_arguments, is_nam
 use Rattle.halide_pipeline.specs.WellFormed.{is_source, is_func_of, is_read, is_argument}
 use Rattle.halide_pipeline.proofs.Keeping.{keeps-grows}
 use Rattle.halide_parser_syntax.specs.declared.lines.Definition.{Definition}
-use Rattle.halide_parser_syntax.specs.declared.lines.Extents.{Extents}
-use Rattle.halide_parser_syntax.specs.declared.lines.Line.TheVariants as line
+use Rattle.halide_parser_syntax.specs.declared.lines.NamedExtents.{NamedExtents}
+use Rattle.halide_parser_syntax.specs.declared.lines.AlgorithmLine.TheVariants as line
 use Rattle.halide_parser_syntax.specs.declared.tokens.Token.{Token}
 use Rattle.halide_parser_syntax.specs.inner.Algebra.{made}
 use Rattle.halide_parser_syntax.specs.Grammar.{Written, IsRight}
 use Rattle.halide_parser.specs.declared.judging.Judged.{Judged}
-use Rattle.halide_parser.specs.declared.readers.Reader.{Reader}
-use Rattle.halide_parser.specs.declared.scopes.Scope.{Scope}
+use Rattle.halide_parser.specs.declared.readers.AlgorithmReader.{AlgorithmReader}
+use Rattle.halide_parser.specs.declared.scopes.NameScope.{NameScope}
 use Rattle.halide_parser.specs.inner.Judging as j
 use Rattle.halide_parser.specs.inner.JudgedLines.{tree_of, tree_or_zero}
 use Rattle.halide_parser.specs.inner.JudgedLines as lines
@@ -47,16 +47,16 @@ one_more xs x most e = le-leb (length (xs ++ x ∷ [])) most (omega (arith, leng
 
 -- ---- an input
 
-abbrev new_input : Extents → Bool → Input
+abbrev new_input : NamedExtents → Bool → Input
 new_input e is_bytes = record { width = e.width; height = r.height_of e.height; dimensions = r.count_with e.height; is_bytes = is_bytes }
 
-input_is : (e : Extents) (is_bytes : Bool) → r.is_bad_box e.width (r.height_of e.height) ≡ false → is_input (new_input e is_bytes) ≡ true
+input_is : (e : NamedExtents) (is_bytes : Bool) → r.is_bad_box e.width (r.height_of e.height) ≡ false → is_input (new_input e is_bytes) ≡ true
 input_is e is_bytes good =
     let sizes = box e.width (r.height_of e.height) good in
     all_of_three (is_width e.width) (is_height e.width (r.height_of e.height)) (are_dimensions (r.count_with e.height) (r.height_of e.height)) sizes.0 sizes.1
     (counted e.height)
 
-pub input_keeps : (reader : Reader) (tokens : List Token) (e : Extents) (is_bytes : Bool) → is_name e.name ≡ true → IsKept reader
+pub input_keeps : (reader : AlgorithmReader) (tokens : List Token) (e : NamedExtents) (is_bytes : Bool) → is_name e.name ≡ true → IsKept reader
     → IsFaultless reader tokens (line.Input e is_bytes)
     → IsKept (with_input reader e is_bytes)
 input_keeps reader tokens e is_bytes short kept right =
@@ -80,7 +80,7 @@ input_keeps reader tokens e is_bytes short kept right =
       output = kept.output;
     }
 
--- ---- no line but blanks stands behind the output
+-- ---- no line but blanks stands after the output
 
 pub no_output : (output : Option Output) (o : Output) → (is_some output && true) ≡ false → output ≡ Some o → ⊥
 no_output None o e is = cc
@@ -115,7 +115,7 @@ argument_known first second name v e =
     picked (is_argument (count_arguments second)) (is_named (Some first) name) (is_named second name) false false v e refl (two_arguments second name)
     (λ never. cc) (λ never. cc)
 
-abbrev func_scope : Definition Written → Scope
+abbrev func_scope : Definition Written → NameScope
 func_scope d = record {
   first_argument = Some d.first_argument;
   second_argument = d.second_argument;
@@ -125,7 +125,7 @@ func_scope d = record {
       None;
 }
 
-abbrev judged_definition : Reader → Definition Written → Definition Judged
+abbrev judged_definition : AlgorithmReader → Definition Written → Definition Judged
 judged_definition reader d = record {
   name = d.name;
   first_argument = d.first_argument;
@@ -134,7 +134,7 @@ judged_definition reader d = record {
       made (j.judging reader (func_scope d)) d.right;
 }
 
-abbrev new_func : Reader → Definition Written → Func
+abbrev new_func : AlgorithmReader → Definition Written → Func
 new_func reader d = record {
   first_argument = d.first_argument;
   second_argument = d.second_argument;
@@ -143,7 +143,7 @@ new_func reader d = record {
   updates = [];
 }
 
-func_is : (reader : Reader) (tokens : List Token) (d : Definition Written) → IsKept reader → IsSmall d.right → IsRight d.right → ShortDefinition d
+func_is : (reader : AlgorithmReader) (tokens : List Token) (d : Definition Written) → IsKept reader → IsSmall d.right → IsRight d.right → ShortDefinition d
     → IsFaultless reader tokens (line.Func (judged_definition reader d))
     → IsFunc reader.inputs (reader.funcs ++ new_func reader d ∷ []) (length reader.funcs) (new_func reader d)
 func_is reader tokens d kept is_small written short right =
@@ -164,7 +164,7 @@ func_is reader tokens d kept is_small written short right =
       reductions = λ at update found. cc;
     }
 
-pub func_keeps : (reader : Reader) (tokens : List Token) (d : Definition Written) → IsKept reader → IsSmall d.right → IsRight d.right → ShortDefinition d
+pub func_keeps : (reader : AlgorithmReader) (tokens : List Token) (d : Definition Written) → IsKept reader → IsSmall d.right → IsRight d.right → ShortDefinition d
     → IsFaultless reader tokens (line.Func (judged_definition reader d)) → IsKept (with_func tree_of reader (judged_definition reader d))
 func_keeps reader tokens d kept is_small written short right =
     let parts = or_parts (nat_le 12 (length reader.funcs)) (lines.exceeds (judged_definition reader d).right) right.within in
@@ -190,10 +190,10 @@ func_keeps reader tokens d kept is_small written short right =
 
 -- ---- the output
 
-abbrev new_output : Extents → ℕ → Output
+abbrev new_output : NamedExtents → ℕ → Output
 new_output e place = record { func = place; width = e.width; height = r.height_of e.height; dimensions = r.count_with e.height }
 
-pub output_keeps : (reader : Reader) (tokens : List Token) (e : Extents) → IsKept reader → IsFaultless reader tokens (line.Output e)
+pub output_keeps : (reader : AlgorithmReader) (tokens : List Token) (e : NamedExtents) → IsKept reader → IsFaultless reader tokens (line.Output e)
     → IsKept (with_output reader e)
 output_keeps reader tokens e kept right =
     let is = named reader e.name kept (or_parts (not (r.is_func reader e.name)) false right.known).0 in

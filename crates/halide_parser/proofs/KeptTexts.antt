@@ -8,8 +8,8 @@ use Rattle.halide_pipeline.specs.WellFormed.{IsWellFormed}
 use Rattle.halide_parser_syntax.specs.declared.faults.ParseFault.{ParseFault}
 use Rattle.halide_parser_syntax.specs.declared.tokens.Token.{Token}
 use Rattle.halide_parser_syntax.specs.declared.tokens.Token.TheVariants as t
-use Rattle.halide_parser_syntax.specs.declared.lines.Line.{Line}
-use Rattle.halide_parser_syntax.specs.declared.lines.Line.TheVariants as line
+use Rattle.halide_parser_syntax.specs.declared.lines.AlgorithmLine.{AlgorithmLine}
+use Rattle.halide_parser_syntax.specs.declared.lines.AlgorithmLine.TheVariants as line
 use Rattle.halide_parser_syntax.specs.declared.lines.Change.{Change}
 use Rattle.halide_parser_syntax.specs.inner.Algebra.{writing}
 use Rattle.halide_parser_syntax.specs.Grammar.{Written, spell}
@@ -17,7 +17,7 @@ use Rattle.halide_parser_syntax.specs.LineGrammar.{IsRightLine, spell_line, spel
 use Rattle.halide_parser_syntax.specs.inner.LineReading.{read_line}
 use Rattle.halide_parser_syntax.specs.Tokens.{tokens_of}
 use Rattle.halide_parser_syntax.proofs.LinesBack.{line_written}
-use Rattle.halide_parser.specs.declared.readers.Reader.{Reader}
+use Rattle.halide_parser.specs.declared.readers.AlgorithmReader.{AlgorithmReader}
 use Rattle.halide_parser.specs.inner.JudgedLines.{fault_of, tree_of, IsFinishable, pipeline_of, judged, judged_line, settled, settled_as, taken}
 use Rattle.halide_parser.specs.Meaning.{applied}
 use Rattle.halide_parser.specs.Parsing.{start, finished, finished_as, parsed}
@@ -52,7 +52,7 @@ small_change u e =
 
 -- ---- a line
 
-line_keeps : (reader : Reader) (tokens : List Token) (w : Line Written) → IsRightLine w → tokens ≡ spell_line w → IsKept reader → AreSmall tokens
+line_keeps : (reader : AlgorithmReader) (tokens : List Token) (w : AlgorithmLine Written) → IsRightLine w → tokens ≡ spell_line w → IsKept reader → AreSmall tokens
     → AreShort tokens → IsFaultless reader tokens (judged_line reader w) → IsKept (applied tree_of reader (judged_line reader w))
 line_keeps reader tokens line.Blank written is kept few short right = kept
 line_keeps reader tokens (line.Input e is_bytes) written is kept few short right = input_keeps reader tokens e is_bytes
@@ -72,7 +72,7 @@ are_short : (tokens : List Token) → has_long tokens ≡ false → AreShort tok
 unfolding has_long
 are_short tokens e = e
 
-by_fault : (reader : Reader) (tokens : List Token) (w : Line Written) (fault : Option ParseFault) (next : Reader) → IsRightLine w → tokens ≡ spell_line w
+by_fault : (reader : AlgorithmReader) (tokens : List Token) (w : AlgorithmLine Written) (fault : Option ParseFault) (next : AlgorithmReader) → IsRightLine w → tokens ≡ spell_line w
     → IsKept reader → fault_of reader tokens (judged_line reader w) ≡ fault
     → settled_as reader (judged_line reader w) fault ≡ Ok next → IsKept next
 by_fault reader tokens w (Some fault) next written is kept faulty e = cc
@@ -81,32 +81,32 @@ by_fault reader tokens w None next written is kept faulty e =
     let same : applied tree_of reader (judged_line reader w) ≡ next = cc in
     subst IsKept same (line_keeps reader tokens w written is kept (are_small tokens right.small) (are_short tokens right.short) right)
 
-by_written : (reader : Reader) (tokens : List Token) (given : Result (Line Written) ParseFault) (next : Reader) → read_line writing tokens ≡ given
+by_written : (reader : AlgorithmReader) (tokens : List Token) (given : Result (AlgorithmLine Written) ParseFault) (next : AlgorithmReader) → read_line writing tokens ≡ given
     → IsKept reader
     → ((given >>= λ w. Ok (judged_line reader w)) >>= λ l. settled reader tokens l) ≡ Ok next → IsKept next
 by_written reader tokens (Err fault) next is kept e = cc
 by_written reader tokens (Ok w) next is kept e =
     by_fault reader tokens w (fault_of reader tokens (judged_line reader w)) next (line_written tokens w is).0 (line_written tokens w is).1 kept refl e
 
-by_tokens : (reader : Reader) (given : Result (List Token) ParseFault) (next : Reader) → IsKept reader
+by_tokens : (reader : AlgorithmReader) (given : Result (List Token) ParseFault) (next : AlgorithmReader) → IsKept reader
     → (given >>= λ tokens. judged reader tokens >>= λ l. settled reader tokens l) ≡ Ok next → IsKept next
 unfolding judged
 by_tokens reader (Err fault) next kept e = cc
 by_tokens reader (Ok tokens) next kept e = by_written reader tokens (read_line writing tokens) next refl kept e
 
-taken_keeps : (reader : Reader) (line : List ℕ) (next : Reader) → IsKept reader → taken reader line ≡ Ok next → IsKept next
+taken_keeps : (reader : AlgorithmReader) (line : List ℕ) (next : AlgorithmReader) → IsKept reader → taken reader line ≡ Ok next → IsKept next
 unfolding taken
 taken_keeps reader line next kept e = by_tokens reader (tokens_of line) next kept e
 
 -- ---- all lines
 
-by_taken : (given : Result Reader ParseFault) (number : ℕ) (lines : List (List ℕ)) (last : Reader) → ((next : Reader) → given ≡ Ok next → IsKept next)
-    → ((next : Reader) → IsKept next → taken_from taken (number + 1) next lines ≡ Ok last → IsKept last)
+by_taken : (given : Result AlgorithmReader ParseFault) (number : ℕ) (lines : List (List ℕ)) (last : AlgorithmReader) → ((next : AlgorithmReader) → given ≡ Ok next → IsKept next)
+    → ((next : AlgorithmReader) → IsKept next → taken_from taken (number + 1) next lines ≡ Ok last → IsKept last)
     → located number given (λ next. taken_from taken (number + 1) next lines) ≡ Ok last → IsKept last
 by_taken (Err fault) number lines last one others e = cc
 by_taken (Ok next) number lines last one others e = others next (one next refl) e
 
-lines_keep : (number : ℕ) (reader : Reader) (lines : List (List ℕ)) (last : Reader) → IsKept reader → taken_from taken number reader lines ≡ Ok last
+lines_keep : (number : ℕ) (reader : AlgorithmReader) (lines : List (List ℕ)) (last : AlgorithmReader) → IsKept reader → taken_from taken number reader lines ≡ Ok last
     → IsKept last
 unfolding taken_from
 lines_keep number reader [] last kept e = let same : reader ≡ last = cc in subst IsKept same kept
@@ -127,7 +127,7 @@ start_kept alloc text = record {
 
 -- ---- the whole
 
-finishable : (reader : Reader) → IsKept reader → IsFinishable reader
+finishable : (reader : AlgorithmReader) → IsKept reader → IsFinishable reader
 finishable reader kept o is =
     let drawn = kept.output o is in
     record {
@@ -143,15 +143,15 @@ finishable reader kept o is =
     }
 
 -- what is left after the last line
-pub lines_finish : (alloc : Global) (text : List ℕ) (reader : Reader) → taken_from taken 1 (start alloc text) (lines_of text) ≡ Ok reader → IsFinishable reader
+pub lines_finish : (alloc : Global) (text : List ℕ) (reader : AlgorithmReader) → taken_from taken 1 (start alloc text) (lines_of text) ≡ Ok reader → IsFinishable reader
 lines_finish alloc text reader e = finishable reader (lines_keep 1 (start alloc text) (lines_of text) reader (start_kept alloc text) e)
 
-by_output : (count : ℕ) (reader : Reader) (output : Option Output) (pipeline : Pipeline) → reader.output ≡ output → IsFinishable reader
+by_output : (count : ℕ) (reader : AlgorithmReader) (output : Option Output) (pipeline : Pipeline) → reader.output ≡ output → IsFinishable reader
     → finished_as count reader output ≡ Ok pipeline → IsWellFormed pipeline
 by_output count reader None pipeline is kept e = cc
 by_output count reader (Some o) pipeline is kept e = let same : pipeline_of reader o ≡ pipeline = cc in subst IsWellFormed same (kept o is)
 
-by_reader : (count : ℕ) (given : Result Reader (ℕ × ParseFault)) (pipeline : Pipeline) → ((reader : Reader) → given ≡ Ok reader → IsFinishable reader)
+by_reader : (count : ℕ) (given : Result AlgorithmReader (ℕ × ParseFault)) (pipeline : Pipeline) → ((reader : AlgorithmReader) → given ≡ Ok reader → IsFinishable reader)
     → (given >>= λ reader. finished count reader) ≡ Ok pipeline → IsWellFormed pipeline
 by_reader count (Err fault) pipeline kept e = cc
 by_reader count (Ok reader) pipeline kept e = by_output count reader reader.output pipeline refl (kept reader refl) e

@@ -19,8 +19,8 @@ use Rattle.halide_parser_syntax.specs.inner.Algebra.{made}
 use Rattle.halide_parser_syntax.specs.Grammar.{Written, Literal, Bare, Group, Minus, Call, CallTwo, Two, Three, Product, Sum, Comparison}
 use Rattle.halide_parser.specs.declared.judging.Judged.{Judged}
 use Rattle.halide_parser.specs.declared.judging.Marks.{Marks}
-use Rattle.halide_parser.specs.declared.readers.Reader.{Reader}
-use Rattle.halide_parser.specs.declared.scopes.Scope.{Scope}
+use Rattle.halide_parser.specs.declared.readers.AlgorithmReader.{AlgorithmReader}
+use Rattle.halide_parser.specs.declared.scopes.NameScope.{NameScope}
 use Rattle.halide_parser.specs.inner.Judging as j
 use Rattle.halide_parser.specs.inner.JudgedLines.{tree_or_zero}
 use Rattle.halide_parser.specs.Expressions as asked
@@ -119,11 +119,11 @@ clean_parts s a b clean =
     (record { counts = counts.0; own = own.0 }, record { counts = counts.1; own = own.1 })
 
 -- the source may be read, unless it is the own Func where that is not to be called
-abbrev pub MayRead : (Source → ℕ → Bool) → Bool → Scope → Option (Source × ℕ) → Type 0
+abbrev pub MayRead : (Source → ℕ → Bool) → Bool → NameScope → Option (Source × ℕ) → Type 0
 MayRead reads is_strict scope None = Unit {0}
 MayRead reads is_strict scope (Some callee) = (is_strict && asked.is_own scope (Some callee)) ≡ false → reads callee.0 callee.1 ≡ true
 
-module _ (reads : Source → ℕ → Bool) (has : Variable → Bool) (is_strict : Bool) (reader : Reader) (scope : Scope)
+module _ (reads : Source → ℕ → Bool) (has : Variable → Bool) (is_strict : Bool) (reader : AlgorithmReader) (scope : NameScope)
     (may : (name : List ℕ) → MayRead reads is_strict scope (source reader name))
     (known : (name : List ℕ) (v : Variable) → variable scope name ≡ Some v → has v ≡ true) where
   abbrev Sound : Judged → Type 0

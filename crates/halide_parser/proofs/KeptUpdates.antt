@@ -14,17 +14,17 @@ use Rattle.halide_pipeline.specs.WellFormed.{is_update_variable, keeps, keeps_in
 use Rattle.halide_pipeline.specs.Expressions.{uses}
 use Rattle.halide_pipeline.specs.Words.{subtract}
 use Rattle.halide_pipeline.specs.WellFormed as w
-use Rattle.halide_parser_syntax.specs.declared.lines.Bounds.{Bounds}
+use Rattle.halide_parser_syntax.specs.declared.lines.ReductionBounds.{ReductionBounds}
 use Rattle.halide_parser_syntax.specs.declared.lines.Change.{Change}
-use Rattle.halide_parser_syntax.specs.declared.lines.Line.TheVariants as line
+use Rattle.halide_parser_syntax.specs.declared.lines.AlgorithmLine.TheVariants as line
 use Rattle.halide_parser_syntax.specs.declared.tokens.Token.{Token}
 use Rattle.halide_parser_syntax.specs.inner.Algebra.{made}
 use Rattle.halide_parser_syntax.specs.Grammar.{Written, IsRight}
 use Rattle.halide_parser_syntax.specs.LineGrammar.{IsRightIndex}
 use Rattle.halide_parser_syntax.specs.inner.Algebra.{made_index}
 use Rattle.halide_parser.specs.declared.judging.Judged.{Judged}
-use Rattle.halide_parser.specs.declared.readers.Reader.{Reader}
-use Rattle.halide_parser.specs.declared.scopes.Scope.{Scope}
+use Rattle.halide_parser.specs.declared.readers.AlgorithmReader.{AlgorithmReader}
+use Rattle.halide_parser.specs.declared.scopes.NameScope.{NameScope}
 use Rattle.halide_parser.specs.inner.Judging as j
 use Rattle.halide_parser.specs.inner.JudgedLines.{tree_of}
 use Rattle.halide_parser.specs.inner.JudgedLines as lines
@@ -46,7 +46,7 @@ use Rattle.halide_parser.proofs.Wholeness.{IsPlain, plain_parts, fits_is, some_t
 
 -- ---- variables
 
-second_there : (second : Option Bounds) (name : List ℕ) → is_named (bounds_name second) name ≡ true → is_some (second_reduction second) ≡ true
+second_there : (second : Option ReductionBounds) (name : List ℕ) → is_named (bounds_name second) name ≡ true → is_some (second_reduction second) ≡ true
 second_there None name e = cc
 second_there (Some bounds) name e = refl
 
@@ -72,14 +72,14 @@ word_of true (suc n) near =
     rw word (or_right (nat_le (0x100000000 - suc n) 0x1000000) _ (and_from (nat_le 0xff000000 (0x100000000 - suc n)) (nat_le (0x100000000 - suc n) 0xffffffff)
     (le-leb 0xff000000 (0x100000000 - suc n) (omega (arith, few))) (le-leb (0x100000000 - suc n) 0xffffffff (omega (arith, few)))))
 
-minimum_is : (b : Bounds) → nat_lt 0x1000000 b.minimum ≡ false → is_minimum (reduction_of b).minimum ≡ true
+minimum_is : (b : ReductionBounds) → nat_lt 0x1000000 b.minimum ≡ false → is_minimum (reduction_of b).minimum ≡ true
 minimum_is b near = word_of b.is_negative b.minimum near
 
-second_minimum_is : (second : Option Bounds) → r.is_second_far second ≡ false → is_second_minimum (second_reduction second) ≡ true
+second_minimum_is : (second : Option ReductionBounds) → r.is_second_far second ≡ false → is_second_minimum (second_reduction second) ≡ true
 second_minimum_is None near = refl
 second_minimum_is (Some b) near = minimum_is b near
 
-box_is : (first : Bounds) (second : Option Bounds) → r.is_bad_box first.extent (r.second_extent second) ≡ false
+box_is : (first : ReductionBounds) (second : Option ReductionBounds) → r.is_bad_box first.extent (r.second_extent second) ≡ false
     → (is_width first.extent && is_height first.extent (w.second_extent (second_reduction second))) ≡ true
 box_is first None e = let sizes = box first.extent 1 e in and_from (is_width first.extent) (is_height first.extent 1) sizes.0 sizes.1
 box_is first (Some b) e = let sizes = box first.extent b.extent e in and_from (is_width first.extent) (is_height first.extent b.extent) sizes.0 sizes.1
@@ -100,7 +100,7 @@ same_last : (last : Option ℕ) (place : ℕ) → r.same_place last (Some place)
 same_last None place e = cc
 same_last (Some p) place e = ap Some (eqb-true p place e)
 
-abbrev judged_change : Reader → Scope → Change Written → Change Judged
+abbrev judged_change : AlgorithmReader → NameScope → Change Written → Change Judged
 judged_change reader scope u = record {
   name = u.name;
   left_x = made (j.judging reader scope) u.left_x;
@@ -124,7 +124,7 @@ pub record IsSmallChange (u : Change Written) : Type 0 where
   pub left_y : IsSmallIndex u.left_y
   pub right : IsSmall u.right
 
-module _ (reader : Reader) (scope : Scope) (u : Change Written) (kept : IsKept reader) (is : IsNamed reader u.name) (scope_is : scope
+module _ (reader : AlgorithmReader) (scope : NameScope) (u : Change Written) (kept : IsKept reader) (is : IsNamed reader u.name) (scope_is : scope
     ≡ known_scope is.func (Some is.place) u)
     (last : suc is.place ≡ length reader.funcs) where
   abbrev has : Variable → Bool
@@ -134,7 +134,7 @@ module _ (reader : Reader) (scope : Scope) (u : Change Written) (kept : IsKept r
   known name v e = update_known is.func (Some is.place) u name v (rw scope_is at e)
 
   own : scope.own ≡ Some is.place
-  own = ap (λ (s : Scope). s.own) scope_is
+  own = ap (λ (s : NameScope). s.own) scope_is
 
   abbrev judge : Written → Judged
   judge = made (j.judging reader scope)
@@ -263,7 +263,7 @@ module _ (reader : Reader) (scope : Scope) (u : Change Written) (kept : IsKept r
       (and_from (w.is_name u.first.name) (not (w.is_argument_name is.func.first_argument is.func.second_argument u.first.name)) short.first (ap not first))
       (second_apart u.second short.second taken.1)
     where
-      second_apart : (second : Option Bounds) → w.is_second_name (bounds_name second) ≡ true → r.is_second_taken reader u.name u.first.name second ≡ false
+      second_apart : (second : Option ReductionBounds) → w.is_second_name (bounds_name second) ≡ true → r.is_second_taken reader u.name u.first.name second ≡ false
           → w.is_second_reduction is.func.first_argument is.func.second_argument u.first.name (second_reduction second) ≡ true
       second_apart None short e = refl
       second_apart (Some b) short e =
@@ -307,7 +307,7 @@ module _ (reader : Reader) (scope : Scope) (u : Change Written) (kept : IsKept r
 
 -- ---- the Func with its update
 
-updates_of : (reader : Reader) (f : Func) (place : ℕ) (update : Update) → IsFunc reader.inputs reader.funcs place f → nat_le 4 (length f.updates) ≡ false
+updates_of : (reader : AlgorithmReader) (f : Func) (place : ℕ) (update : Update) → IsFunc reader.inputs reader.funcs place f → nat_le 4 (length f.updates) ≡ false
     → IsUpdate reader.inputs reader.funcs place (dimensions f) update
     → w.are_reductions f.first_argument f.second_argument update ≡ true → IsFunc reader.inputs (with_update reader.funcs update) place (updated f update)
 updates_of reader f place update is few new apart =
@@ -329,14 +329,14 @@ updates_of reader f place update is few new apart =
       ];
     }
 
-same_func : (reader : Reader) (place k : ℕ) (f g : Func) → suc place ≡ length reader.funcs → suc k ≡ length reader.funcs → slice_get reader.funcs place ≡ Some f
+same_func : (reader : AlgorithmReader) (place k : ℕ) (f g : Func) → suc place ≡ length reader.funcs → suc k ≡ length reader.funcs → slice_get reader.funcs place ≡ Some f
     → slice_get reader.funcs k ≡ Some g → (place ≡ k) × (f ≡ g)
 same_func reader place k f g last last' found found' =
     let e : place ≡ k = omega (arith, last, last') in
     let is : Some f ≡ Some g = sym found ∙ ap (slice_get reader.funcs) e ∙ found' in
     (e, cc)
 
-pub update_keeps : (reader : Reader) (tokens : List Token) (u : Change Written) → IsKept reader → IsSmallChange u → IsRightChange u → ShortChange u
+pub update_keeps : (reader : AlgorithmReader) (tokens : List Token) (u : Change Written) → IsKept reader → IsSmallChange u → IsRightChange u → ShortChange u
     → IsFaultless reader tokens (line.Update (judged_change reader (change_scope reader u) u))
     → IsKept (applied tree_of reader (line.Update (judged_change reader (change_scope reader u) u)))
 update_keeps reader tokens u kept is_small written short right =

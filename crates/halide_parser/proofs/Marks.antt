@@ -15,8 +15,8 @@ use Rattle.halide_parser_syntax.specs.inner.Algebra.{made}
 use Rattle.halide_parser_syntax.specs.Grammar.{Written, Literal, Bare, Group, Minus, Call, CallTwo, Two, Three, Product, Sum, Comparison, has_part, nesting}
 use Rattle.halide_parser.specs.declared.judging.Judged.{Judged}
 use Rattle.halide_parser.specs.declared.judging.Marks.{Marks}
-use Rattle.halide_parser.specs.declared.readers.Reader.{Reader}
-use Rattle.halide_parser.specs.declared.scopes.Scope.{Scope}
+use Rattle.halide_parser.specs.declared.readers.AlgorithmReader.{AlgorithmReader}
+use Rattle.halide_parser.specs.declared.scopes.NameScope.{NameScope}
 use Rattle.halide_parser.specs.inner.Judging as j
 use Rattle.halide_parser.specs.Expressions as asked
 use Rattle.halide_parser.specs.Expressions.{source}
@@ -56,7 +56,7 @@ max_joined a b c = omega arith
 max_zero : (a : ℕ) → max 0 a ≡ a
 max_zero a = omega arith
 
-module _ (reader : Reader) (scope : Scope) where
+module _ (reader : AlgorithmReader) (scope : NameScope) where
   abbrev judge : Written → Judged
   judge = made (j.judging reader scope)
 

@@ -5,18 +5,18 @@ use Rattle.halide_pipeline.specs.declared.definitions.Func.{Func}
 use Rattle.halide_parser_syntax.specs.declared.faults.ParseFault.{ParseFault}
 use Rattle.halide_parser_syntax.specs.declared.tokens.Token.{Token}
 use Rattle.halide_parser_syntax.specs.declared.tokens.Token.TheVariants as t
-use Rattle.halide_parser_syntax.specs.declared.lines.Bounds.{Bounds}
+use Rattle.halide_parser_syntax.specs.declared.lines.ReductionBounds.{ReductionBounds}
 use Rattle.halide_parser_syntax.specs.declared.lines.Change.{Change}
-use Rattle.halide_parser_syntax.specs.declared.lines.Line.{Line}
-use Rattle.halide_parser_syntax.specs.declared.lines.Line.TheVariants as line
+use Rattle.halide_parser_syntax.specs.declared.lines.AlgorithmLine.{AlgorithmLine}
+use Rattle.halide_parser_syntax.specs.declared.lines.AlgorithmLine.TheVariants as line
 use Rattle.halide_parser_syntax.specs.inner.Algebra.{writing, made_line}
 use Rattle.halide_parser_syntax.specs.Grammar.{Written, Literal, Bare, Group, Minus, Call, CallTwo, Two, Three, Product, Sum, Comparison, spell}
 use Rattle.halide_parser_syntax.specs.LineGrammar.{spell_sign, spell_bounds, spell_second_bounds, spell_argument, spell_index, spell_line}
 use Rattle.halide_parser_syntax.specs.inner.LineReading.{read_line, read_or_none, line_of, with_made}
 use Rattle.halide_parser_syntax.proofs.MakingLines.{read_line as made}
 use Rattle.halide_parser_syntax.proofs.Refusals.{follows}
-use Rattle.halide_parser.specs.declared.readers.Reader.{Reader}
-use Rattle.halide_parser.specs.declared.scopes.Scope.{Scope}
+use Rattle.halide_parser.specs.declared.readers.AlgorithmReader.{AlgorithmReader}
+use Rattle.halide_parser.specs.declared.scopes.NameScope.{NameScope}
 use Rattle.halide_parser.specs.inner.Ahead.{behind_over, second_argument, second_name, arguments_of, with_ranges, update_scope, scope_ahead}
 use Rattle.halide_parser.specs.inner.Judging.{judging}
 use Rattle.halide_parser.specs.inner.JudgedLines.{judged, judged_line}
@@ -45,7 +45,7 @@ second_is : (second : Option (List ℕ)) (rest : List Token) → second_argument
 second_is None rest = refl
 second_is (Some name) rest = refl
 
-name_is : (is_negative : Bool) (minimum extent : ℕ) (second : Option Bounds)
+name_is : (is_negative : Bool) (minimum extent : ℕ) (second : Option ReductionBounds)
     → second_name (spell_sign is_negative (t.Number minimum ∷ t.Number extent ∷ spell_second_bounds second)) ≡ bounds_name second
 name_is false minimum extent None = refl
 name_is false minimum extent (Some bounds) = refl
@@ -80,7 +80,7 @@ ranges_are u =
     ∙ past_index u.left_y (t.Close ∷ t.Assign ∷ spell u.right (t.Over ∷ ranges))
     ∙ past u.right (t.Over ∷ ranges)
 
-ahead_is : (reader : Reader) (w : Line Written) → scope_ahead reader (spell_line w) ≡ scope_of reader w
+ahead_is : (reader : AlgorithmReader) (w : AlgorithmLine Written) → scope_ahead reader (spell_line w) ≡ scope_of reader w
 ahead_is reader line.Blank = refl
 ahead_is reader (line.Input e is_bytes) = refl
 ahead_is reader (line.Func d) = ap (λ (second : Option (List ℕ)). record {
@@ -94,17 +94,17 @@ ahead_is reader (line.Func d) = ap (λ (second : Option (List ℕ)). record {
 ahead_is reader (line.Update u) = ap (update_scope reader u.name) (ranges_are u) ∙ change_is (func reader u.name) (func_place reader u.name) u
 ahead_is reader (line.Output e) = refl
 
-spelled : (tokens : List Token) (w : Line Written) → read_line writing tokens ≡ Ok w → tokens ≡ spell_line w
+spelled : (tokens : List Token) (w : AlgorithmLine Written) → read_line writing tokens ≡ Ok w → tokens ≡ spell_line w
 unfolding line_of
 spelled tokens w e = (follows.no_other tokens w (ap read_or_none e)).1
 
-by_written : (reader : Reader) (tokens : List Token) (given : Result (Line Written) ParseFault) → read_line writing tokens ≡ given
+by_written : (reader : AlgorithmReader) (tokens : List Token) (given : Result (AlgorithmLine Written) ParseFault) → read_line writing tokens ≡ given
     → with_made (judging reader (scope_ahead reader tokens)) given ≡ (given >>= λ w. Ok (judged_line reader w))
 by_written reader tokens (Err fault) e = refl
 by_written reader tokens (Ok w) e =
-    ap (λ (scope : Scope). Ok (made_line (judging reader scope) w)) (ap (scope_ahead reader) (spelled tokens w e) ∙ ahead_is reader w)
+    ap (λ (scope : NameScope). Ok (made_line (judging reader scope) w)) (ap (scope_ahead reader) (spelled tokens w e) ∙ ahead_is reader w)
 
 -- a line is read once
-pub once : (reader : Reader) (tokens : List Token) → read_line (judging reader (scope_ahead reader tokens)) tokens ≡ judged reader tokens
+pub once : (reader : AlgorithmReader) (tokens : List Token) → read_line (judging reader (scope_ahead reader tokens)) tokens ≡ judged reader tokens
 unfolding judged
 once reader tokens = made (judging reader (scope_ahead reader tokens)) tokens ∙ by_written reader tokens (read_line writing tokens) refl

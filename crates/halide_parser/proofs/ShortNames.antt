@@ -7,11 +7,11 @@ use Rattle.halide_pipeline.specs.Pipelines.{Named}
 use Rattle.halide_pipeline.specs.WellFormed.{is_name, is_second_name, are_names}
 use Rattle.halide_parser_syntax.specs.declared.tokens.Token.{Token}
 use Rattle.halide_parser_syntax.specs.declared.tokens.Token.TheVariants as t
-use Rattle.halide_parser_syntax.specs.declared.lines.Bounds.{Bounds}
+use Rattle.halide_parser_syntax.specs.declared.lines.ReductionBounds.{ReductionBounds}
 use Rattle.halide_parser_syntax.specs.declared.lines.Change.{Change}
 use Rattle.halide_parser_syntax.specs.declared.lines.Definition.{Definition}
-use Rattle.halide_parser_syntax.specs.declared.lines.Extents.{Extents}
-use Rattle.halide_parser_syntax.specs.declared.lines.Line.TheVariants as line
+use Rattle.halide_parser_syntax.specs.declared.lines.NamedExtents.{NamedExtents}
+use Rattle.halide_parser_syntax.specs.declared.lines.AlgorithmLine.TheVariants as line
 use Rattle.halide_parser_syntax.specs.Grammar.{Written, spell, Literal, Bare, Group, Minus, Call, CallTwo, Two, Three, Product, Sum, Comparison}
 use Rattle.halide_parser_syntax.specs.LineGrammar.{spell_line, spell_height, spell_kind, spell_argument, spell_index, spell_sign, spell_second_bounds}
 use Rattle.halide_parser.specs.Rules.{is_long}
@@ -23,11 +23,11 @@ AreShort tokens = list_any is_long tokens ≡ false
 short_name : (name : List ℕ) → nat_lt 32 (length name) ≡ false → is_name name ≡ true
 short_name name e = le-leb (length name) 32 (ltb-false 32 (length name) e)
 
--- the token in front, and those behind it
+-- the token in front, and those after it
 name_first : (name : List ℕ) (rest : List Token) → AreShort (t.Name name ∷ rest) → (is_name name ≡ true) × AreShort rest
 name_first name rest e = let parts = or_parts (nat_lt 32 (length name)) (list_any is_long rest) e in (short_name name parts.0, parts.1)
 
--- what stands behind an expression
+-- what stands after an expression
 behind : (w : Written) (rest : List Token) → AreShort (spell w rest) → AreShort rest
 behind (Literal n) rest e = e
 behind (Bare name) rest e = (name_first name rest e).1
@@ -46,7 +46,7 @@ behind (Comparison op a b) rest e = behind b rest (behind a (t.Compare op ∷ sp
 
 -- ---- lines
 
-pub short_input : (e : Extents) (is_bytes : Bool) → AreShort (spell_line (line.Input e is_bytes)) → is_name e.name ≡ true
+pub short_input : (e : NamedExtents) (is_bytes : Bool) → AreShort (spell_line (line.Input e is_bytes)) → is_name e.name ≡ true
 short_input e is_bytes is = (name_first e.name (t.Number e.width ∷ spell_height e.height (spell_kind is_bytes)) is).0
 
 pub record ShortDefinition (d : Definition Written) : Type 0 where
@@ -78,7 +78,7 @@ behind_sign : (is_negative : Bool) (rest : List Token) → AreShort (spell_sign 
 behind_sign false rest e = e
 behind_sign true rest e = e
 
-short_second : (second : Option Bounds) → AreShort (spell_second_bounds second) → is_second_name (bounds_name second) ≡ true
+short_second : (second : Option ReductionBounds) → AreShort (spell_second_bounds second) → is_second_name (bounds_name second) ≡ true
 short_second None e = refl
 short_second (Some b) e = (name_first b.name (spell_sign b.is_negative (t.Number b.minimum ∷ t.Number b.extent ∷ [])) e).0
 

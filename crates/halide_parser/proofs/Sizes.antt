@@ -21,8 +21,8 @@ use Rattle.halide_parser_syntax.specs.inner.Algebra.{made}
 use Rattle.halide_parser_syntax.specs.Grammar.{Written, Literal, Bare, Group, Minus, Call, CallTwo, Two, Three, Product, Sum, Comparison, IsRight, level}
 use Rattle.halide_parser_syntax.specs.Grammar.{nesting}
 use Rattle.halide_parser.specs.declared.judging.Judged.{Judged}
-use Rattle.halide_parser.specs.declared.readers.Reader.{Reader}
-use Rattle.halide_parser.specs.declared.scopes.Scope.{Scope}
+use Rattle.halide_parser.specs.declared.readers.AlgorithmReader.{AlgorithmReader}
+use Rattle.halide_parser.specs.declared.scopes.NameScope.{NameScope}
 use Rattle.halide_parser.specs.inner.Judging as j
 use Rattle.halide_parser.specs.inner.JudgedLines as lines
 use Rattle.halide_parser.specs.Expressions as asked
@@ -151,7 +151,7 @@ module _ (a b c : Brackets) (n m k : ℕ) where
 term_bounded : (a : Brackets) (l n m : ℕ) → Bounded a l n → l ≤ 1 → Bounded (bracketed 1 (within 1 a)) 1 (max n m)
 term_bounded a l n m in_a first = at_level 1 (within 1 a) (max n m) refl (omega (arith, placed_in a l 1 n in_a first))
 
-module _ (reader : Reader) (scope : Scope) where
+module _ (reader : AlgorithmReader) (scope : NameScope) where
   abbrev tree : Written → Expr
   tree = asked.tree reader scope
 

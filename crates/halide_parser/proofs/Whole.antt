@@ -4,7 +4,7 @@ use Rattle.line_text.specs.Lines.{lines_of, joined, taken_from, FailsAt}
 use Rattle.line_text.specs.declared.read_errors.LocatedError.{LocatedError}
 use Rattle.line_text.specs.declared.read_errors.LocatedError.TheVariants as places
 use Rattle.halide_parser_syntax.specs.declared.faults.ParseFault.{ParseFault}
-use Rattle.halide_parser.specs.declared.readers.Reader.{Reader}
+use Rattle.halide_parser.specs.declared.readers.AlgorithmReader.{AlgorithmReader}
 use Rattle.halide_parser.specs.inner.JudgedLines.{taken}
 use Rattle.halide_parser.specs.Parsing.{start, finished, parsed}
 use Rattle.halide_parser.proofs.Agreement.{parsed_is}
@@ -32,6 +32,6 @@ fails places.Memory alloc text e = tt
 fails (places.Fault number fault) alloc text e = rw (parsed_is alloc text, e) refl
 
 -- no line is
-pub ends : (alloc : Global) (text : List ℕ) (reader : Reader) → taken_from taken 1 (start alloc text) (lines_of text) ≡ Ok reader
+pub ends : (alloc : Global) (text : List ℕ) (reader : AlgorithmReader) → taken_from taken 1 (start alloc text) (lines_of text) ≡ Ok reader
     → parsed alloc text ≡ finished (length (lines_of text)) reader
 ends alloc text reader e = rw (parsed_is alloc text, e) refl

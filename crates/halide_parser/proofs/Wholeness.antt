@@ -19,8 +19,8 @@ use Rattle.halide_parser_syntax.specs.inner.Algebra.{made}
 use Rattle.halide_parser_syntax.specs.Grammar.{Written, Literal, Bare, Group, Minus, Call, CallTwo, Two, Three, Product, Sum, Comparison}
 use Rattle.halide_parser.specs.declared.judging.Judged.{Judged}
 use Rattle.halide_parser.specs.declared.judging.Marks.{Marks}
-use Rattle.halide_parser.specs.declared.readers.Reader.{Reader}
-use Rattle.halide_parser.specs.declared.scopes.Scope.{Scope}
+use Rattle.halide_parser.specs.declared.readers.AlgorithmReader.{AlgorithmReader}
+use Rattle.halide_parser.specs.declared.scopes.NameScope.{NameScope}
 use Rattle.halide_parser.specs.inner.Judging as j
 use Rattle.halide_parser.specs.Expressions as asked
 use Rattle.halide_parser.specs.Expressions.{source, variable}
@@ -247,7 +247,7 @@ select_whole c a b z x y in_c in_a in_b plain =
 unknown_none : IsPlain j.unknown_mark → ⊥
 unknown_none is = let never : true ≡ false = is.known in cc
 
-module _ (reader : Reader) (scope : Scope) where
+module _ (reader : AlgorithmReader) (scope : NameScope) where
   call_by : (callee : Option (Source × ℕ)) (a : Judged) (x : Expr) → IsWhole a x
       → IsWhole (j.call_as scope callee a) (trees.Call1 (asked.source_or_first callee) x)
   unfolding nodes

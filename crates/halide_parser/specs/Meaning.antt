@@ -8,13 +8,13 @@ use Rattle.halide_pipeline.specs.declared.definitions.Update.{Update}
 use Rattle.halide_pipeline.specs.declared.definitions.Reduction.{Reduction}
 use Rattle.halide_pipeline.specs.Pipelines.{lookup}
 use Rattle.halide_pipeline.specs.Words.{subtract}
-use Rattle.halide_parser_syntax.specs.declared.lines.Bounds.{Bounds}
+use Rattle.halide_parser_syntax.specs.declared.lines.ReductionBounds.{ReductionBounds}
 use Rattle.halide_parser_syntax.specs.declared.lines.Change.{Change}
 use Rattle.halide_parser_syntax.specs.declared.lines.Definition.{Definition}
-use Rattle.halide_parser_syntax.specs.declared.lines.Extents.{Extents}
-use Rattle.halide_parser_syntax.specs.declared.lines.Line.{Line}
-use Rattle.halide_parser_syntax.specs.declared.lines.Line.TheVariants as line
-use Rattle.halide_parser.specs.declared.readers.Reader.{Reader}
+use Rattle.halide_parser_syntax.specs.declared.lines.NamedExtents.{NamedExtents}
+use Rattle.halide_parser_syntax.specs.declared.lines.AlgorithmLine.{AlgorithmLine}
+use Rattle.halide_parser_syntax.specs.declared.lines.AlgorithmLine.TheVariants as line
+use Rattle.halide_parser.specs.declared.readers.AlgorithmReader.{AlgorithmReader}
 use Rattle.halide_parser.specs.Expressions.{func_place}
 use Rattle.halide_parser.specs.Rules.{height_of, count_with}
 
@@ -24,10 +24,10 @@ abbrev pub second_tree : {V : Type 0} → (V → Expr) → Option V → Option E
 second_tree tree None = None
 second_tree tree (Some index) = Some (tree index)
 
-abbrev pub reduction_of : Bounds → Reduction
+abbrev pub reduction_of : ReductionBounds → Reduction
 reduction_of bounds = record { name = bounds.name; minimum = if bounds.is_negative then subtract 0 bounds.minimum else bounds.minimum; extent = bounds.extent }
 
-abbrev pub second_reduction : Option Bounds → Option Reduction
+abbrev pub second_reduction : Option ReductionBounds → Option Reduction
 second_reduction None = None
 second_reduction (Some bounds) = Some (reduction_of bounds)
 
@@ -40,7 +40,7 @@ update_of tree change = record {
   second = second_reduction change.second;
 }
 
-abbrev pub with_input : Reader → Extents → Bool → Reader
+abbrev pub with_input : AlgorithmReader → NamedExtents → Bool → AlgorithmReader
 with_input reader extents is_bytes = record {
   alloc = reader.alloc;
   is_oversized = reader.is_oversized;
@@ -52,7 +52,7 @@ with_input reader extents is_bytes = record {
   last_func = None;
 }
 
-abbrev pub with_func : {V : Type 0} → (V → Expr) → Reader → Definition V → Reader
+abbrev pub with_func : {V : Type 0} → (V → Expr) → AlgorithmReader → Definition V → AlgorithmReader
 with_func tree reader definition = record {
   alloc = reader.alloc;
   is_oversized = reader.is_oversized;
@@ -80,7 +80,7 @@ abbrev pub place_or : Option ℕ → ℕ
 place_or None = 0
 place_or (Some place) = place
 
-abbrev pub with_output : Reader → Extents → Reader
+abbrev pub with_output : AlgorithmReader → NamedExtents → AlgorithmReader
 with_output reader extents = record {
   alloc = reader.alloc;
   is_oversized = reader.is_oversized;
@@ -98,7 +98,7 @@ with_output reader extents = record {
 }
 
 -- What is named with one more line. `tree` is the tree of an expression.
-abbrev pub applied : {V : Type 0} → (V → Expr) → Reader → Line V → Reader
+abbrev pub applied : {V : Type 0} → (V → Expr) → AlgorithmReader → AlgorithmLine V → AlgorithmReader
 applied tree reader line.Blank = reader
 applied tree reader (line.Input extents is_bytes) = with_input reader extents is_bytes
 applied tree reader (line.Func definition) = with_func tree reader definition
@@ -114,7 +114,7 @@ applied tree reader (line.Update change) = record {
 applied tree reader (line.Output extents) = with_output reader extents
 
 -- The name of an input or a Func is new.
-abbrev pub IsFree : {V : Type 0} → Reader → Line V → Type 0
+abbrev pub IsFree : {V : Type 0} → AlgorithmReader → AlgorithmLine V → Type 0
 IsFree reader (line.Input extents is_bytes) = lookup extents.name reader.names ≡ None
 IsFree reader (line.Func definition) = lookup definition.name reader.names ≡ None
 IsFree reader _ = Unit {0}

@@ -1,18 +1,18 @@
-//! The variables of a line, found in its tokens before its expressions are read. Those of an update stand behind
+//! The variables of a line, found in its tokens before its expressions are read. Those of an update stand after
 //! `over`.
 
 ghost use Rattle.std.specs.Prelude.{◌≡◌, IfOk};
 ghost use Rattle.std.specs.Option.{option_copied};
 ghost use Rattle.halide_parser.specs.inner.Ahead as spec;
 
-use crate::readers::{Reader, func, func_place};
-use crate::scopes::Scope;
+use crate::readers::{AlgorithmReader, func, func_place};
+use crate::scopes::NameScope;
 use halide_parser_syntax::{SumOperator, Token};
 use halide_pipeline::Func;
 use sqlite_items::Items;
 use std::alloc::{AllocError, Global};
 
-/// The tokens behind the first `over`.
+/// The tokens after the first `over`.
 fn behind_over(tokens: &[Token]) -> &[Token]
     ensures { result.now ≡ spec.behind_over tokens.now }
 {
@@ -36,7 +36,7 @@ fn first_name(tokens: &[Token]) -> Option<&Items<u8>>
     }
 }
 
-/// The second argument behind the first.
+/// The second argument after the first.
 fn second_argument(tokens: &[Token]) -> Option<&Items<u8>>
     ensures { option_copied result ≡ spec.second_argument tokens.now }
 {
@@ -46,7 +46,7 @@ fn second_argument(tokens: &[Token]) -> Option<&Items<u8>>
     }
 }
 
-/// The name of a second reduction variable, behind the numbers of the first.
+/// The name of a second reduction variable, after the numbers of the first.
 fn name_behind(tokens: &[Token]) -> Option<&Items<u8>>
     ensures { option_copied result ≡ spec.name_behind tokens.now }
 {
@@ -56,7 +56,7 @@ fn name_behind(tokens: &[Token]) -> Option<&Items<u8>>
     }
 }
 
-/// The name of a second reduction variable, behind the name of the first.
+/// The name of a second reduction variable, after the name of the first.
 fn second_name(tokens: &[Token]) -> Option<&Items<u8>>
     ensures { option_copied result ≡ spec.second_name tokens.now }
 {
@@ -75,40 +75,48 @@ fn copied(alloc: Global, name: Option<&Items<u8>>) -> Result<Option<Items<u8>>, 
     }
 }
 
-/// The variables of a definition, of the tokens behind its bracket.
-fn definition_scope(alloc: Global, tokens: &[Token]) -> Result<Scope, AllocError>
+/// The variables of a definition, of the tokens after its bracket.
+fn definition_scope(alloc: Global, tokens: &[Token]) -> Result<NameScope, AllocError>
     ensures { IfOk result (λ scope. scope ≡ spec.definition_scope tokens.now) }
 {
     match tokens {
-        [Token::Name(first), rest @ ..] => Ok(Scope {
+        [Token::Name(first), rest @ ..] => Ok(NameScope {
             first_argument: copied(alloc, Some(first))?,
             second_argument: copied(alloc, second_argument(rest))?,
-            ..Scope::empty()
+            ..NameScope::empty()
         }),
-        _ => Ok(Scope::empty()),
+        _ => Ok(NameScope::empty()),
     }
 }
 
 /// The arguments of a Func, in the update of one at a place.
-fn arguments_of(alloc: Global, func: Option<&Func>, own: Option<usize>) -> Result<Scope, AllocError>
+fn arguments_of(
+    alloc: Global,
+    func: Option<&Func>,
+    own: Option<usize>,
+) -> Result<NameScope, AllocError>
     ensures { IfOk result (λ scope. scope ≡ spec.arguments_of (option_copied func.entry) own) }
 {
     match func {
-        None => Ok(Scope {
+        None => Ok(NameScope {
             own,
-            ..Scope::empty()
+            ..NameScope::empty()
         }),
-        Some(func) => Ok(Scope {
+        Some(func) => Ok(NameScope {
             first_argument: copied(alloc, Some(&func.first_argument))?,
             second_argument: copied(alloc, func.second_argument.as_ref())?,
             own,
-            ..Scope::empty()
+            ..NameScope::empty()
         }),
     }
 }
 
-/// The variables of an update of a name, of the tokens behind its `over`.
-fn update_scope(reader: &Reader, name: &[u8], ranges: &[Token]) -> Result<Scope, AllocError>
+/// The variables of an update of a name, of the tokens after its `over`.
+fn update_scope(
+    reader: &AlgorithmReader,
+    name: &[u8],
+    ranges: &[Token],
+) -> Result<NameScope, AllocError>
     ensures { IfOk result (λ scope. scope ≡ spec.update_scope reader.now name.now ranges.now) }
 {
     let mut scope = arguments_of(reader.alloc, func(reader, name), func_place(reader, name))?;
@@ -120,7 +128,7 @@ fn update_scope(reader: &Reader, name: &[u8], ranges: &[Token]) -> Result<Scope,
 }
 
 /// The variables of the line that these tokens spell, if they spell one.
-pub fn scope_ahead(reader: &Reader, tokens: &[Token]) -> Result<Scope, AllocError>
+pub fn scope_ahead(reader: &AlgorithmReader, tokens: &[Token]) -> Result<NameScope, AllocError>
     ensures { IfOk result (λ scope. scope ≡ spec.scope_ahead reader.now tokens.now) }
 {
     match tokens {
@@ -130,6 +138,6 @@ pub fn scope_ahead(reader: &Reader, tokens: &[Token]) -> Result<Scope, AllocErro
         [Token::Update, Token::Name(name), Token::Open, rest @ ..] => {
             Ok(update_scope(reader, name.as_slice(), behind_over(rest))?)
         }
-        _ => Ok(Scope::empty()),
+        _ => Ok(NameScope::empty()),
     }
 }

@@ -6,9 +6,9 @@ ghost use Rattle.halide_parser.specs.Meaning as spec;
 ghost use Rattle.halide_parser.specs.inner.JudgedLines.{tree_of};
 
 use crate::judging::Judged;
-use crate::readers::{Reader, func_place};
+use crate::readers::{AlgorithmReader, func_place};
 use crate::rules::height_of;
-use halide_parser_syntax::{Bounds, Change, Definition, Extents, Line};
+use halide_parser_syntax::{AlgorithmLine, Change, Definition, NamedExtents, ReductionBounds};
 use halide_pipeline::{Expr, Func, Input, Output, Reduction, Source, Update};
 use sqlite_items::Items;
 use std::alloc::AllocError;
@@ -32,7 +32,7 @@ fn second_tree(index: Option<Judged>) -> Option<Expr>
     }
 }
 
-fn reduction_of(bounds: Bounds) -> Reduction
+fn reduction_of(bounds: ReductionBounds) -> Reduction
     ensures { result ≡ spec.reduction_of bounds }
 {
     let minimum = if bounds.is_negative {
@@ -47,7 +47,7 @@ fn reduction_of(bounds: Bounds) -> Reduction
     }
 }
 
-fn second_reduction(bounds: Option<Bounds>) -> Option<Reduction>
+fn second_reduction(bounds: Option<ReductionBounds>) -> Option<Reduction>
     ensures { result ≡ spec.second_reduction bounds }
 {
     match bounds {
@@ -77,7 +77,11 @@ fn update_of(change: Change<Judged>) -> Update
 }
 
 /// Adds an input.
-fn add_input(reader: &mut Reader, extents: Extents, is_bytes: bool) -> Result<(), AllocError>
+fn add_input(
+    reader: &mut AlgorithmReader,
+    extents: NamedExtents,
+    is_bytes: bool,
+) -> Result<(), AllocError>
     requires { lookup extents.name reader.old.names ≡ None }
     ensures { OnOk result (reader.new ≡ spec.with_input reader.old extents is_bytes) }
 {
@@ -99,7 +103,7 @@ fn add_input(reader: &mut Reader, extents: Extents, is_bytes: bool) -> Result<()
 }
 
 /// Adds a Func.
-fn add_func(reader: &mut Reader, definition: Definition<Judged>) -> Result<(), AllocError>
+fn add_func(reader: &mut AlgorithmReader, definition: Definition<Judged>) -> Result<(), AllocError>
     requires { lookup definition.name reader.old.names ≡ None }
     ensures { OnOk result (reader.new ≡ spec.with_func tree_of reader.old definition) }
 {
@@ -152,19 +156,19 @@ fn add_update(funcs: &mut Items<Func>, update: Update) -> Result<(), AllocError>
 }
 
 /// Adds what a faultless line says.
-pub fn apply(reader: &mut Reader, line: Line<Judged>) -> Result<(), AllocError>
+pub fn apply(reader: &mut AlgorithmReader, line: AlgorithmLine<Judged>) -> Result<(), AllocError>
     requires { spec.IsFree reader.old line }
     ensures { OnOk result (reader.new ≡ spec.applied tree_of reader.old line) }
 {
     match line {
-        Line::Blank => Ok(()),
-        Line::Input { extents, is_bytes } => Ok(add_input(reader, extents, is_bytes)?),
-        Line::Func(definition) => Ok(add_func(reader, definition)?),
-        Line::Update(change) => {
+        AlgorithmLine::Blank => Ok(()),
+        AlgorithmLine::Input { extents, is_bytes } => Ok(add_input(reader, extents, is_bytes)?),
+        AlgorithmLine::Func(definition) => Ok(add_func(reader, definition)?),
+        AlgorithmLine::Update(change) => {
             add_update(&mut reader.funcs, update_of(change))?;
             Ok(())
         }
-        Line::Output(extents) => {
+        AlgorithmLine::Output(extents) => {
             let height = height_of(&extents);
             let dimensions = if extents.height.is_some() { 2 } else { 1 };
             let func = match func_place(reader, extents.name.as_slice()) {

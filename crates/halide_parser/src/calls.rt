@@ -7,8 +7,8 @@ ghost use Rattle.halide_parser.specs.inner.Judging as spec;
 use crate::judging::{
     Judged, Marks, both_marks, boxed_both, deeper, fits, no_marks, node_sum, pair,
 };
-use crate::readers::{Reader, source};
-use crate::scopes::Scope;
+use crate::readers::{AlgorithmReader, source};
+use crate::scopes::NameScope;
 use halide_pipeline::{Expr, Source, Variable};
 use sqlite_items::Boxed;
 use std::alloc::{AllocError, Global};
@@ -44,7 +44,7 @@ fn callee_marks(callee: Option<(Source, usize)>, count: usize, own: Marks) -> Ma
 }
 
 /// Whether a source is the Func that the line updates.
-fn is_own(scope: &Scope, callee: Option<(Source, usize)>) -> bool
+fn is_own(scope: &NameScope, callee: Option<(Source, usize)>) -> bool
     ensures { result ≡ expressions.is_own scope.now callee }
 {
     match (scope.own, callee) {
@@ -92,7 +92,12 @@ fn call_two_tree(
 
 /// A call with one argument.
 #[tactic(auto, unfolding(crate::specs::inner::Judging::call))]
-pub fn call(reader: &Reader, scope: &Scope, name: &[u8], a: Judged) -> Result<Judged, AllocError>
+pub fn call(
+    reader: &AlgorithmReader,
+    scope: &NameScope,
+    name: &[u8],
+    a: Judged,
+) -> Result<Judged, AllocError>
     ensures { IfOk result (λ judged. judged ≡ spec.call reader.now scope.now name.now a) }
 {
     let callee = source(reader, name);
@@ -112,8 +117,8 @@ pub fn call(reader: &Reader, scope: &Scope, name: &[u8], a: Judged) -> Result<Ju
 /// A call with two arguments.
 #[tactic(auto, unfolding(crate::specs::inner::Judging::call_two))]
 pub fn call_two(
-    reader: &Reader,
-    scope: &Scope,
+    reader: &AlgorithmReader,
+    scope: &NameScope,
     name: &[u8],
     a: Judged,
     b: Judged,

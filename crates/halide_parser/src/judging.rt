@@ -5,8 +5,8 @@ ghost use Rattle.std.specs.Prelude.{◌≡◌, IfOk, if◌then◌else◌, None};
 ghost use Rattle.halide_pipeline.specs.WellFormed as limits;
 ghost use Rattle.halide_parser.specs.inner.Judging as spec;
 
-use crate::readers::{Reader, source};
-use crate::scopes::{Scope, variable};
+use crate::readers::{AlgorithmReader, source};
+use crate::scopes::{NameScope, variable};
 use halide_parser_syntax::{
     CompareOperator, ProductOperator, SumOperator, ThreeFunction, TwoFunction,
 };
@@ -198,7 +198,7 @@ fn binary(alloc: Global, operation: Operation, a: Judged, b: Judged) -> Result<J
     })
 }
 
-/// An expression in one more bracket, or behind one more sign.
+/// An expression in one more bracket, or after one more sign.
 #[tactic(auto, unfolding(crate::specs::inner::Judging::enclosed))]
 fn enclosed(a: Judged) -> Judged
     ensures { result ≡ spec.enclosed a }
@@ -230,7 +230,7 @@ pub fn literal(number: u32) -> Judged
 }
 
 /// A name without a bracket: a variable, or a fault.
-pub fn bare(reader: &Reader, scope: &Scope, name: &[u8]) -> Judged
+pub fn bare(reader: &AlgorithmReader, scope: &NameScope, name: &[u8]) -> Judged
     ensures { result ≡ spec.bare reader.now scope.now name.now }
 {
     let found = variable(scope, name);
@@ -258,7 +258,7 @@ pub fn group(a: Judged) -> Judged
     enclosed(a)
 }
 
-/// An expression behind a sign, which is 0 less the expression.
+/// An expression after a sign, which is 0 less the expression.
 pub fn minus(alloc: Global, a: Judged) -> Result<Judged, AllocError>
     ensures { IfOk result (λ judged. judged ≡ spec.minus a) }
 {

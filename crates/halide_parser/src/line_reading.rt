@@ -7,20 +7,20 @@ ghost use Rattle.halide_parser.specs.inner.Judging.{judging};
 
 use crate::judging::Judged;
 use crate::passes::expression;
-use crate::readers::Reader;
-use crate::scopes::Scope;
+use crate::readers::AlgorithmReader;
+use crate::scopes::NameScope;
 use halide_parser_syntax::line_parts::{
     arguments, assigned, bounds, extents, kind, more_bounds, over,
 };
-use halide_parser_syntax::{Change, Definition, Line, ParseFault, Token};
+use halide_parser_syntax::{AlgorithmLine, Change, Definition, ParseFault, Token};
 use line_text::ReadError;
 use sqlite_items::Items;
 
 /// Nothing, or a comma and a second index.
 #[tactic(auto, unfolding(halide_parser_syntax::specs::inner::LineReading::index))]
 fn index<'a>(
-    reader: &Reader,
-    scope: &Scope,
+    reader: &AlgorithmReader,
+    scope: &NameScope,
     tokens: &'a [Token],
 ) -> Result<(Option<Judged>, &'a [Token]), ReadError<ParseFault>>
     ensures { Gives (λ x. (x.0, x.1.now)) result (reading.index (judging reader.now scope.now) tokens.now) }
@@ -34,14 +34,14 @@ fn index<'a>(
     }
 }
 
-/// What stands behind `func`, the name and its bracket.
+/// What stands after `func`, the name and its bracket.
 #[tactic(auto, unfolding(halide_parser_syntax::specs::inner::LineReading::definition))]
 fn definition(
-    reader: &Reader,
-    scope: &Scope,
+    reader: &AlgorithmReader,
+    scope: &NameScope,
     name: &Items<u8>,
     tokens: &[Token],
-) -> Result<Line<Judged>, ReadError<ParseFault>>
+) -> Result<AlgorithmLine<Judged>, ReadError<ParseFault>>
     ensures { Gives (λ x. x) result (reading.definition (judging reader.now scope.now) name.now tokens.now) }
 {
     let ((first_argument, second_argument), behind) = arguments(reader.alloc, tokens)?;
@@ -49,7 +49,7 @@ fn definition(
     if !rest.is_empty() {
         return Err(ReadError::Fault(ParseFault::Syntax));
     }
-    Ok(Line::Func(Definition {
+    Ok(AlgorithmLine::Func(Definition {
         name: Items::from_slice(reader.alloc, name.as_slice())?,
         first_argument,
         second_argument,
@@ -57,14 +57,14 @@ fn definition(
     }))
 }
 
-/// What stands behind `update`, the name and its bracket.
+/// What stands after `update`, the name and its bracket.
 #[tactic(auto, unfolding(halide_parser_syntax::specs::inner::LineReading::change))]
 fn change(
-    reader: &Reader,
-    scope: &Scope,
+    reader: &AlgorithmReader,
+    scope: &NameScope,
     name: &Items<u8>,
     tokens: &[Token],
-) -> Result<Line<Judged>, ReadError<ParseFault>>
+) -> Result<AlgorithmLine<Judged>, ReadError<ParseFault>>
     ensures { Gives (λ x. x) result (reading.change (judging reader.now scope.now) name.now tokens.now) }
 {
     let (left_x, rest) = expression(reader, scope, tokens)?;
@@ -72,7 +72,7 @@ fn change(
     let (right, rest) = expression(reader, scope, assigned(rest)?)?;
     let (first, rest) = bounds(reader.alloc, over(rest)?)?;
     let second = more_bounds(reader.alloc, rest)?;
-    Ok(Line::Update(Change {
+    Ok(AlgorithmLine::Update(Change {
         name: Items::from_slice(reader.alloc, name.as_slice())?,
         left_x,
         left_y,
@@ -89,25 +89,25 @@ fn change(
 /// `Syntax` where they are not of the grammar; memory ran out.
 #[tactic(auto, unfolding(halide_parser_syntax::specs::inner::LineReading::read_line))]
 pub fn read_line(
-    reader: &Reader,
-    scope: &Scope,
+    reader: &AlgorithmReader,
+    scope: &NameScope,
     tokens: &[Token],
-) -> Result<Line<Judged>, ReadError<ParseFault>>
+) -> Result<AlgorithmLine<Judged>, ReadError<ParseFault>>
     ensures { Gives (λ x. x) result (reading.read_line (judging reader.now scope.now) tokens.now) }
 {
     match tokens {
-        [] => Ok(Line::Blank),
+        [] => Ok(AlgorithmLine::Blank),
         [Token::Input, rest @ ..] => {
             let (extents, behind) = extents(reader.alloc, rest)?;
             let is_bytes = kind(behind)?;
-            Ok(Line::Input { extents, is_bytes })
+            Ok(AlgorithmLine::Input { extents, is_bytes })
         }
         [Token::Output, rest @ ..] => {
             let (extents, behind) = extents(reader.alloc, rest)?;
             if !behind.is_empty() {
                 return Err(ReadError::Fault(ParseFault::Syntax));
             }
-            Ok(Line::Output(extents))
+            Ok(AlgorithmLine::Output(extents))
         }
         [Token::Func, Token::Name(name), Token::Open, rest @ ..] => {
             Ok(definition(reader, scope, name, rest)?)

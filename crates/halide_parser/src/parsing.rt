@@ -4,7 +4,7 @@ ghost use Rattle.std.specs.Prelude.{◌≡◌, ◌+◌, ◌<◌, ◌^◌, IfOk, 
 ghost use Rattle.halide_pipeline.specs.WellFormed.{IsWellFormed};
 ghost use Rattle.line_text.specs.Lines.{Gives, GivesLocated};
 ghost use Rattle.halide_parser_syntax.specs.declared.tokens.Token.{Token};
-ghost use Rattle.halide_parser_syntax.specs.declared.lines.Line.{Line};
+ghost use Rattle.halide_parser_syntax.specs.declared.lines.AlgorithmLine.{AlgorithmLine};
 ghost use Rattle.halide_parser_syntax.specs.Grammar.{Written};
 ghost use Rattle.halide_parser_syntax.specs.LineGrammar.{FollowsGrammar};
 ghost use Rattle.halide_parser.specs.Parsing as spec;
@@ -14,23 +14,26 @@ use crate::ahead::scope_ahead;
 use crate::applying::apply;
 use crate::judging::Judged;
 use crate::line_reading::read_line;
-use crate::readers::Reader;
+use crate::readers::AlgorithmReader;
 use crate::rules::fault_of;
-use halide_parser_syntax::{Line, ParseFault, Token, tokens_of};
+use halide_parser_syntax::{AlgorithmLine, ParseFault, Token, tokens_of};
 use halide_pipeline::{Names, Pipeline};
 use line_text::{LineReader, LocatedError, ReadError, read_lines};
 use sqlite_items::Items;
 use std::alloc::Global;
 
 /// What the tokens of a line say, judged.
-fn judged(reader: &Reader, tokens: &[Token]) -> Result<Line<Judged>, ReadError<ParseFault>>
+fn judged(
+    reader: &AlgorithmReader,
+    tokens: &[Token],
+) -> Result<AlgorithmLine<Judged>, ReadError<ParseFault>>
     ensures { Gives (λ x. x) result (lines.judged reader.now tokens.now) }
 {
     let scope = scope_ahead(reader, tokens)?;
     Ok(read_line(reader, &scope, tokens)?)
 }
 
-impl LineReader for Reader {
+impl LineReader for AlgorithmReader {
     type Fault = ParseFault;
 
     ghost takes = { lines.taken };
@@ -53,10 +56,10 @@ impl LineReader for Reader {
 const MOST_TEXT: usize = 65_536;
 
 /// A reader before the first line.
-fn start(alloc: Global, text: &[u8]) -> Reader
+fn start(alloc: Global, text: &[u8]) -> AlgorithmReader
     ensures { result ≡ spec.start alloc text.now }
 {
-    Reader {
+    AlgorithmReader {
         alloc,
         is_oversized: text.len() > MOST_TEXT,
         names: Names::new(alloc),
@@ -68,12 +71,12 @@ fn start(alloc: Global, text: &[u8]) -> Reader
 }
 
 /// What so many lines named.
-fn finished(reader: Reader, count: u64) -> Result<Pipeline, LocatedError<ParseFault>>
+fn finished(reader: AlgorithmReader, count: u64) -> Result<Pipeline, LocatedError<ParseFault>>
     requires few { count + 1 < 2 ^ 64 }
     requires kept { lines.IsFinishable reader }
     ensures { GivesLocated (λ x. x) result (spec.finished count reader) }
 {
-    let Reader {
+    let AlgorithmReader {
         names,
         inputs,
         funcs,
@@ -97,7 +100,7 @@ fn finished(reader: Reader, count: u64) -> Result<Pipeline, LocatedError<ParseFa
 /// The number of the first faulty line, from 1, and its least fault; memory ran out.
 pub fn parse(text: &str, alloc: Global) -> Result<Pipeline, LocatedError<ParseFault>>
     ensures given { GivesLocated (λ x. x) result (spec.parsed alloc text.now) }
-    ensures by_grammar { (read : List Token → Option (Line Written)) → FollowsGrammar read
+    ensures by_grammar { (read : List Token → Option (AlgorithmLine Written)) → FollowsGrammar read
         → GivesLocated (λ x. x) result (spec.parsed_by read alloc text.now) }
     ensures well_formed { IfOk result (λ pipeline. IsWellFormed pipeline) }
 {

@@ -12,11 +12,11 @@ ghost use Rattle.halide_parser.specs.inner.Judging.{judging};
 
 use crate::calls;
 use crate::judging::{self, Judged};
-use crate::readers::Reader;
-use crate::scopes::Scope;
+use crate::readers::AlgorithmReader;
+use crate::scopes::NameScope;
 use halide_parser_syntax::{
-    Bracket, CompareOperator, Frame, ParseFault, Pending, ProductOperator, Stack, State,
-    SumOperator, Token,
+    Bracket, CompareOperator, Frame, ParseFault, Pending, ProductOperator, Stack, SumOperator,
+    TermState, Token,
 };
 use line_text::ReadError;
 use sqlite_items::Items;
@@ -36,8 +36,8 @@ fn nothing() -> Pending<Judged>
 
 /// So many signs before an operand.
 fn negated(
-    reader: &Reader,
-    scope: &Scope,
+    reader: &AlgorithmReader,
+    scope: &NameScope,
     signs: usize,
     value: Judged,
 ) -> Result<Judged, AllocError>
@@ -51,8 +51,8 @@ fn negated(
 }
 
 fn product_of(
-    reader: &Reader,
-    scope: &Scope,
+    reader: &AlgorithmReader,
+    scope: &NameScope,
     left: Option<(ProductOperator, Judged)>,
     value: Judged,
 ) -> Result<Judged, AllocError>
@@ -65,8 +65,8 @@ fn product_of(
 }
 
 fn sum_of(
-    reader: &Reader,
-    scope: &Scope,
+    reader: &AlgorithmReader,
+    scope: &NameScope,
     left: Option<(SumOperator, Judged)>,
     value: Judged,
 ) -> Result<Judged, AllocError>
@@ -79,8 +79,8 @@ fn sum_of(
 }
 
 fn comparison_of(
-    reader: &Reader,
-    scope: &Scope,
+    reader: &AlgorithmReader,
+    scope: &NameScope,
     left: Option<(CompareOperator, Judged)>,
     value: Judged,
 ) -> Result<Judged, AllocError>
@@ -92,10 +92,10 @@ fn comparison_of(
     }
 }
 
-/// The whole of a bracket behind its last product; nothing stays pending.
+/// The whole of a bracket after its last product; nothing stays pending.
 fn whole(
-    reader: &Reader,
-    scope: &Scope,
+    reader: &AlgorithmReader,
+    scope: &NameScope,
     pending: &mut Pending<Judged>,
     term: Judged,
 ) -> Result<Judged, AllocError>
@@ -107,9 +107,9 @@ fn whole(
 
 /// An operand joins the signs and the product before it.
 fn operand(
-    reader: &Reader,
-    scope: &Scope,
-    state: &mut State<Judged>,
+    reader: &AlgorithmReader,
+    scope: &NameScope,
+    state: &mut TermState<Judged>,
     value: Judged,
 ) -> Result<(), AllocError>
     ensures { OnOk result (state.new ≡ machine.operand (judging reader.now scope.now) state.old.stack state.old.pending
@@ -123,7 +123,7 @@ fn operand(
 }
 
 /// One more bracket.
-fn opened(state: &mut State<Judged>, bracket: Bracket<Judged>) -> Result<(), AllocError>
+fn opened(state: &mut TermState<Judged>, bracket: Bracket<Judged>) -> Result<(), AllocError>
     ensures { OnOk result (state.new ≡ machine.opened state.old.stack state.old.pending bracket) }
 {
     let outer = mem::replace(&mut state.pending, nothing());
@@ -133,7 +133,7 @@ fn opened(state: &mut State<Judged>, bracket: Bracket<Judged>) -> Result<(), All
 }
 
 /// A product goes on.
-fn multiplied(state: &mut State<Judged>, term: Judged, operator: ProductOperator)
+fn multiplied(state: &mut TermState<Judged>, term: Judged, operator: ProductOperator)
     ensures { state.new ≡ machine.multiplied state.old.stack state.old.pending term operator }
 {
     state.pending.signs = 0;
@@ -143,9 +143,9 @@ fn multiplied(state: &mut State<Judged>, term: Judged, operator: ProductOperator
 
 /// A sum goes on.
 fn added(
-    reader: &Reader,
-    scope: &Scope,
-    state: &mut State<Judged>,
+    reader: &AlgorithmReader,
+    scope: &NameScope,
+    state: &mut TermState<Judged>,
     term: Judged,
     operator: SumOperator,
 ) -> Result<(), AllocError>
@@ -162,9 +162,9 @@ fn added(
 
 /// A comparison, of which a bracket holds one at most; whether it can stand there.
 fn compared(
-    reader: &Reader,
-    scope: &Scope,
-    state: &mut State<Judged>,
+    reader: &AlgorithmReader,
+    scope: &NameScope,
+    state: &mut TermState<Judged>,
     term: Judged,
     operator: CompareOperator,
 ) -> Result<bool, AllocError>
@@ -198,9 +198,9 @@ fn next_in(bracket: Bracket<Judged>, value: Judged) -> Option<Bracket<Judged>>
 
 /// A comma; whether it can stand there.
 fn separated(
-    reader: &Reader,
-    scope: &Scope,
-    state: &mut State<Judged>,
+    reader: &AlgorithmReader,
+    scope: &NameScope,
+    state: &mut TermState<Judged>,
     term: Judged,
 ) -> Result<bool, AllocError>
     ensures { IfOk result (λ stands. (if stands then Some state.new else None)
@@ -225,8 +225,8 @@ fn separated(
 
 /// What a bracket with all its operands comes to.
 fn closed_by(
-    reader: &Reader,
-    scope: &Scope,
+    reader: &AlgorithmReader,
+    scope: &NameScope,
     bracket: Bracket<Judged>,
     value: Judged,
 ) -> Result<Option<Judged>, AllocError>
@@ -257,9 +257,9 @@ fn closed_by(
 
 /// A closing bracket; whether it can stand there.
 fn closed(
-    reader: &Reader,
-    scope: &Scope,
-    state: &mut State<Judged>,
+    reader: &AlgorithmReader,
+    scope: &NameScope,
+    state: &mut TermState<Judged>,
     term: Judged,
 ) -> Result<bool, AllocError>
     ensures { IfOk result (λ stands. (if stands then Some state.new else None)
@@ -282,14 +282,18 @@ fn closed(
     }
 }
 
-fn copied(reader: &Reader, name: &Items<u8>) -> Result<Items<u8>, AllocError>
+fn copied(reader: &AlgorithmReader, name: &Items<u8>) -> Result<Items<u8>, AllocError>
     ensures { IfOk result (λ copy. copy ≡ name.now) }
 {
     Items::from_slice(reader.alloc, name.as_slice())
 }
 
 /// The bracket of a call.
-fn called(reader: &Reader, state: &mut State<Judged>, name: &Items<u8>) -> Result<(), AllocError>
+fn called(
+    reader: &AlgorithmReader,
+    state: &mut TermState<Judged>,
+    name: &Items<u8>,
+) -> Result<(), AllocError>
     ensures { OnOk result (state.new ≡ machine.opened state.old.stack state.old.pending (brackets.CallFirst name.now)) }
 {
     let bracket = Bracket::CallFirst(copied(reader, name)?);
@@ -298,7 +302,7 @@ fn called(reader: &Reader, state: &mut State<Judged>, name: &Items<u8>) -> Resul
 }
 
 /// One more sign.
-fn signed(state: &mut State<Judged>)
+fn signed(state: &mut TermState<Judged>)
     requires { state.old.pending.signs + 1 < 2 ^ 64 }
     ensures { state.new ≡ machine.signed state.old.stack state.old.pending }
 {
@@ -306,11 +310,11 @@ fn signed(state: &mut State<Judged>)
     state.term = None;
 }
 
-/// Takes the next tokens where an operand is wanted, and gives those behind them; None where there is none.
+/// Takes the next tokens where an operand is wanted, and gives those after them; None where there is none.
 fn begun<'a>(
-    reader: &Reader,
-    scope: &Scope,
-    state: &mut State<Judged>,
+    reader: &AlgorithmReader,
+    scope: &NameScope,
+    state: &mut TermState<Judged>,
     tokens: &'a [Token],
 ) -> Result<Option<&'a [Token]>, AllocError>
     requires { state.old.pending.signs + length tokens.now < 2 ^ 64 }
@@ -354,11 +358,11 @@ fn begun<'a>(
     }
 }
 
-/// Takes the next token behind an operand, and gives those behind it; None where it can't stand there.
+/// Takes the next token after an operand, and gives those after it; None where it can't stand there.
 fn followed<'a>(
-    reader: &Reader,
-    scope: &Scope,
-    state: &mut State<Judged>,
+    reader: &AlgorithmReader,
+    scope: &NameScope,
+    state: &mut TermState<Judged>,
     term: Judged,
     tokens: &'a [Token],
 ) -> Result<Option<&'a [Token]>, AllocError>
@@ -391,12 +395,12 @@ fn followed<'a>(
     Ok(if stands { Some(rest) } else { None })
 }
 
-/// One step of the pass, and the tokens behind it; None where the tokens are not of the grammar.
+/// One step of the pass, and the tokens after it; None where the tokens are not of the grammar.
 #[tactic(auto, unfolding(halide_parser_syntax::specs::inner::Machine::step))]
 fn step<'a>(
-    reader: &Reader,
-    scope: &Scope,
-    state: &mut State<Judged>,
+    reader: &AlgorithmReader,
+    scope: &NameScope,
+    state: &mut TermState<Judged>,
     tokens: &'a [Token],
 ) -> Result<Option<&'a [Token]>, AllocError>
     requires { state.old.pending.signs + length tokens.now < 2 ^ 64 }
@@ -424,7 +428,7 @@ fn is_operator(tokens: &[Token]) -> bool
 
 /// Whether the whole expression was read before these tokens.
 #[tactic(auto, unfolding(halide_parser_syntax::specs::inner::Machine::is_over))]
-fn is_over(state: &State<Judged>, tokens: &[Token]) -> bool
+fn is_over(state: &TermState<Judged>, tokens: &[Token]) -> bool
     ensures { result ≡ machine.is_over state.now tokens.now }
 {
     state.term.is_some() && !is_operator(tokens) && state.stack.is_empty()
@@ -432,15 +436,15 @@ fn is_over(state: &State<Judged>, tokens: &[Token]) -> bool
 
 /// The whole expression, where one was read.
 fn finished<'a>(
-    reader: &Reader,
-    scope: &Scope,
-    state: State<Judged>,
+    reader: &AlgorithmReader,
+    scope: &NameScope,
+    state: TermState<Judged>,
     tokens: &'a [Token],
 ) -> Result<(Judged, &'a [Token]), ReadError<ParseFault>>
     ensures { Gives (λ x. (x.0, x.1.now)) result
         (reading.or_syntax (machine.finished (judging reader.now scope.now) state tokens.now)) }
 {
-    let State {
+    let TermState {
         mut pending,
         term,
         ..
@@ -457,13 +461,13 @@ fn finished<'a>(
 ///
 /// `Syntax` where the tokens are not of the grammar; memory ran out.
 pub fn expression<'a>(
-    reader: &Reader,
-    scope: &Scope,
+    reader: &AlgorithmReader,
+    scope: &NameScope,
     tokens: &'a [Token],
 ) -> Result<(Judged, &'a [Token]), ReadError<ParseFault>>
     ensures { Gives (λ x. (x.0, x.1.now)) result (reading.read (judging reader.now scope.now) tokens.now) }
 {
-    let mut state = State {
+    let mut state = TermState {
         stack: Stack::new(reader.alloc),
         pending: nothing(),
         term: None,

@@ -10,7 +10,7 @@ use std::alloc::Global;
 
 /// What the lines so far have named.
 #[derive(Drop)]
-pub struct Reader {
+pub struct AlgorithmReader {
     pub alloc: Global,
     /// Whether the text is above its limit, which is a fault of its first line.
     pub is_oversized: bool,
@@ -23,7 +23,7 @@ pub struct Reader {
 }
 
 /// The number of dimensions of a source.
-fn dimensions(reader: &Reader, source: Source) -> usize
+fn dimensions(reader: &AlgorithmReader, source: Source) -> usize
     ensures { result ≡ spec.dimensions reader.now source }
 {
     match source {
@@ -40,7 +40,7 @@ fn dimensions(reader: &Reader, source: Source) -> usize
 
 /// The source with a name, and its number of dimensions.
 #[tactic(auto, unfolding(crate::specs::Expressions::source))]
-pub fn source(reader: &Reader, name: &[u8]) -> Option<(Source, usize)>
+pub fn source(reader: &AlgorithmReader, name: &[u8]) -> Option<(Source, usize)>
     ensures { result ≡ spec.source reader.now name.now }
 {
     match reader.names.get(name) {
@@ -51,7 +51,7 @@ pub fn source(reader: &Reader, name: &[u8]) -> Option<(Source, usize)>
 
 /// The place of the Func with a name.
 #[tactic(auto, unfolding(crate::specs::Expressions::func_place))]
-pub fn func_place(reader: &Reader, name: &[u8]) -> Option<usize>
+pub fn func_place(reader: &AlgorithmReader, name: &[u8]) -> Option<usize>
     ensures { result ≡ spec.func_place reader.now name.now }
 {
     match reader.names.get(name) {
@@ -62,7 +62,7 @@ pub fn func_place(reader: &Reader, name: &[u8]) -> Option<usize>
 
 /// The Func with a name.
 #[tactic(auto, unfolding(crate::specs::Expressions::func))]
-pub fn func<'a>(reader: &'a Reader, name: &[u8]) -> Option<&'a Func>
+pub fn func<'a>(reader: &'a AlgorithmReader, name: &[u8]) -> Option<&'a Func>
     ensures { option_copied result ≡ spec.func reader.now name.now }
 {
     match func_place(reader, name) {

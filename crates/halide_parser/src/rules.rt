@@ -5,29 +5,31 @@ ghost use Rattle.halide_parser.specs.Rules as spec;
 ghost use Rattle.halide_parser.specs.inner.JudgedLines as lines;
 
 use crate::judging::{Judged, Marks, both_marks, fits, no_marks};
-use crate::readers::{Reader, func, func_place};
+use crate::readers::{AlgorithmReader, func, func_place};
 use crate::scopes::is_named;
-use halide_parser_syntax::{Bounds, Change, Definition, Extents, Line, ParseFault, Token};
+use halide_parser_syntax::{
+    AlgorithmLine, Change, Definition, NamedExtents, ParseFault, ReductionBounds, Token,
+};
 use halide_pipeline::{MOST_EXTENT, MOST_POINTS, Output, Variable};
 use sqlite_items::Items;
 
-fn is_blank(line: &Line<Judged>) -> bool
+fn is_blank(line: &AlgorithmLine<Judged>) -> bool
     ensures { result ≡ spec.is_blank line.now }
 {
     match line {
-        Line::Blank => true,
+        AlgorithmLine::Blank => true,
         _ => false,
     }
 }
 
-/// Whether something stands behind the output line.
-fn is_behind_output(output: Option<Output>, line: &Line<Judged>) -> bool
+/// Whether something stands after the output line.
+fn is_behind_output(output: Option<Output>, line: &AlgorithmLine<Judged>) -> bool
     ensures { result ≡ spec.is_behind_output output line.now }
 {
     output.is_some() && !is_blank(line)
 }
 
-fn is_func(reader: &Reader, name: &[u8]) -> bool
+fn is_func(reader: &AlgorithmReader, name: &[u8]) -> bool
     ensures { result ≡ spec.is_func reader.now name.now }
 {
     func_place(reader, name).is_some()
@@ -58,30 +60,30 @@ fn change_marks(change: &Change<Judged>) -> Marks
 }
 
 /// The marks of all expressions of a line.
-fn line_marks(line: &Line<Judged>) -> Marks
+fn line_marks(line: &AlgorithmLine<Judged>) -> Marks
     ensures { result ≡ lines.line_marks line.now }
 {
     match line {
-        Line::Func(definition) => definition.right.marks,
-        Line::Update(change) => change_marks(change),
+        AlgorithmLine::Func(definition) => definition.right.marks,
+        AlgorithmLine::Update(change) => change_marks(change),
         _ => no_marks(),
     }
 }
 
 /// Whether a name stands for nothing that can stand there.
-fn is_unknown(reader: &Reader, line: &Line<Judged>) -> bool
+fn is_unknown(reader: &AlgorithmReader, line: &AlgorithmLine<Judged>) -> bool
     ensures { result ≡ lines.is_unknown reader.now line.now }
 {
     let is_other = match line {
-        Line::Update(change) => !is_func(reader, change.name.as_slice()),
-        Line::Output(extents) => !is_func(reader, extents.name.as_slice()),
+        AlgorithmLine::Update(change) => !is_func(reader, change.name.as_slice()),
+        AlgorithmLine::Output(extents) => !is_func(reader, extents.name.as_slice()),
         _ => false,
     };
     is_other || line_marks(line).is_unknown
 }
 
 /// Whether a name is one of a Func's arguments.
-fn is_argument(reader: &Reader, owner: &[u8], name: &[u8]) -> bool
+fn is_argument(reader: &AlgorithmReader, owner: &[u8], name: &[u8]) -> bool
     ensures { result ≡ spec.is_argument reader.now owner.now name.now }
 {
     match func(reader, owner) {
@@ -93,7 +95,12 @@ fn is_argument(reader: &Reader, owner: &[u8], name: &[u8]) -> bool
 }
 
 /// Whether the second reduction variable has the name of the first or of an argument.
-fn is_second_taken(reader: &Reader, owner: &[u8], first: &[u8], second: &Option<Bounds>) -> bool
+fn is_second_taken(
+    reader: &AlgorithmReader,
+    owner: &[u8],
+    first: &[u8],
+    second: &Option<ReductionBounds>,
+) -> bool
     ensures { result ≡ spec.is_second_taken reader.now owner.now first.now second.now }
 {
     match second {
@@ -105,7 +112,7 @@ fn is_second_taken(reader: &Reader, owner: &[u8], first: &[u8], second: &Option<
 }
 
 /// Whether a reduction variable has a name that is taken.
-fn is_reduction_taken(reader: &Reader, change: &Change<Judged>) -> bool
+fn is_reduction_taken(reader: &AlgorithmReader, change: &Change<Judged>) -> bool
     ensures { result ≡ spec.is_reduction_taken reader.now change.now }
 {
     let owner = change.name.as_slice();
@@ -114,25 +121,25 @@ fn is_reduction_taken(reader: &Reader, change: &Change<Judged>) -> bool
 }
 
 /// Whether an input, a Func, an argument or a reduction variable has a name that is taken.
-fn is_taken(reader: &Reader, line: &Line<Judged>) -> bool
+fn is_taken(reader: &AlgorithmReader, line: &AlgorithmLine<Judged>) -> bool
     ensures { result ≡ spec.is_taken reader.now line.now }
 {
     match line {
-        Line::Input { extents, .. } => reader.names.get(extents.name.as_slice()).is_some(),
-        Line::Func(definition) => {
+        AlgorithmLine::Input { extents, .. } => reader.names.get(extents.name.as_slice()).is_some(),
+        AlgorithmLine::Func(definition) => {
             reader.names.get(definition.name.as_slice()).is_some()
                 || is_named(
                     &definition.second_argument,
                     definition.first_argument.as_slice(),
                 )
         }
-        Line::Update(change) => is_reduction_taken(reader, change),
+        AlgorithmLine::Update(change) => is_reduction_taken(reader, change),
         _ => false,
     }
 }
 
 /// Whether there is a Func with a name that has another number of arguments.
-fn is_other_count(reader: &Reader, name: &[u8], count: usize) -> bool
+fn is_other_count(reader: &AlgorithmReader, name: &[u8], count: usize) -> bool
     ensures { result ≡ spec.is_other_count reader.now name.now count }
 {
     match func(reader, name) {
@@ -149,14 +156,14 @@ fn count_with<T>(second: &Option<T>) -> usize
 }
 
 /// Whether the number of arguments or dimensions is another.
-fn is_wrong_count(reader: &Reader, line: &Line<Judged>) -> bool
+fn is_wrong_count(reader: &AlgorithmReader, line: &AlgorithmLine<Judged>) -> bool
     ensures { result ≡ lines.is_wrong_count reader.now line.now }
 {
     let is_other = match line {
-        Line::Update(change) => {
+        AlgorithmLine::Update(change) => {
             is_other_count(reader, change.name.as_slice(), count_with(&change.left_y))
         }
-        Line::Output(extents) => {
+        AlgorithmLine::Output(extents) => {
             is_other_count(reader, extents.name.as_slice(), count_with(&extents.height))
         }
         _ => false,
@@ -230,11 +237,11 @@ fn is_moved(change: &Change<Judged>) -> bool
 }
 
 /// Whether an update does not stand below its Func, or moves what stands in place.
-fn is_misshapen(reader: &Reader, line: &Line<Judged>) -> bool
+fn is_misshapen(reader: &AlgorithmReader, line: &AlgorithmLine<Judged>) -> bool
     ensures { result ≡ lines.is_misshapen reader.now line.now }
 {
     match line {
-        Line::Update(change) => {
+        AlgorithmLine::Update(change) => {
             reader.last_func != func_place(reader, change.name.as_slice()) || is_moved(change)
         }
         _ => false,
@@ -257,7 +264,7 @@ fn is_bad_box(width: u32, height: u32) -> bool
 }
 
 /// The height, 1 where there is none.
-pub fn height_of(extents: &Extents) -> u32
+pub fn height_of(extents: &NamedExtents) -> u32
     ensures { result ≡ spec.height_of extents.now.height }
 {
     match extents.height {
@@ -267,7 +274,7 @@ pub fn height_of(extents: &Extents) -> u32
 }
 
 /// The extent of a second reduction variable, 1 where there is none.
-fn second_extent(second: &Option<Bounds>) -> u32
+fn second_extent(second: &Option<ReductionBounds>) -> u32
     ensures { result ≡ spec.second_extent second.now }
 {
     match second {
@@ -277,7 +284,7 @@ fn second_extent(second: &Option<Bounds>) -> u32
 }
 
 /// Whether a second reduction variable has a minimum above 2^24.
-fn is_second_far(second: &Option<Bounds>) -> bool
+fn is_second_far(second: &Option<ReductionBounds>) -> bool
     ensures { result ≡ spec.is_second_far second.now }
 {
     match second {
@@ -303,7 +310,7 @@ fn second_exceeds(index: &Option<Judged>) -> bool
 }
 
 /// Whether the Func with a name has its 4 updates.
-fn is_full(reader: &Reader, name: &[u8]) -> bool
+fn is_full(reader: &AlgorithmReader, name: &[u8]) -> bool
     ensures { result ≡ spec.is_full reader.now name.now }
 {
     match func(reader, name) {
@@ -312,7 +319,7 @@ fn is_full(reader: &Reader, name: &[u8]) -> bool
     }
 }
 
-fn is_change_over_limit(reader: &Reader, change: &Change<Judged>) -> bool
+fn is_change_over_limit(reader: &AlgorithmReader, change: &Change<Judged>) -> bool
     ensures { result ≡ spec.is_change_over_limit lines.exceeds reader.now change.now }
 {
     let is_large = exceeds(&change.left_x)
@@ -324,24 +331,28 @@ fn is_change_over_limit(reader: &Reader, change: &Change<Judged>) -> bool
 }
 
 /// Whether a limit is passed.
-fn is_over_limit(reader: &Reader, tokens: &[Token], line: &Line<Judged>) -> bool
+fn is_over_limit(reader: &AlgorithmReader, tokens: &[Token], line: &AlgorithmLine<Judged>) -> bool
     ensures { result ≡ spec.is_over_limit lines.exceeds reader.now tokens.now line.now }
 {
     let is_over = match line {
-        Line::Blank => false,
-        Line::Input { extents, .. } => {
+        AlgorithmLine::Blank => false,
+        AlgorithmLine::Input { extents, .. } => {
             reader.inputs.len() >= 4 || is_bad_box(extents.width, height_of(extents))
         }
-        Line::Func(definition) => reader.funcs.len() >= 12 || exceeds(&definition.right),
-        Line::Update(change) => is_change_over_limit(reader, change),
-        Line::Output(extents) => is_bad_box(extents.width, height_of(extents)),
+        AlgorithmLine::Func(definition) => reader.funcs.len() >= 12 || exceeds(&definition.right),
+        AlgorithmLine::Update(change) => is_change_over_limit(reader, change),
+        AlgorithmLine::Output(extents) => is_bad_box(extents.width, height_of(extents)),
     };
     reader.is_oversized || has_long(tokens) || is_over
 }
 
 /// The least fault of a line of the grammar, if it has one.
 #[tactic(auto, unfolding(crate::specs::inner::JudgedLines::fault_of))]
-pub fn fault_of(reader: &Reader, tokens: &[Token], line: &Line<Judged>) -> Option<ParseFault>
+pub fn fault_of(
+    reader: &AlgorithmReader,
+    tokens: &[Token],
+    line: &AlgorithmLine<Judged>,
+) -> Option<ParseFault>
     ensures { result ≡ lines.fault_of reader.now tokens.now line.now }
 {
     if is_behind_output(reader.output, line) {

@@ -9,7 +9,7 @@ use sqlite_items::Items;
 
 /// The names that stand for variables in a line, and the Func that the line updates.
 #[derive(Drop)]
-pub struct Scope {
+pub struct NameScope {
     pub first_argument: Option<Items<u8>>,
     pub second_argument: Option<Items<u8>>,
     pub first_reduction: Option<Items<u8>>,
@@ -17,12 +17,12 @@ pub struct Scope {
     pub own: Option<usize>,
 }
 
-impl Scope {
+impl NameScope {
     /// No variables.
-    pub fn empty() -> Scope
+    pub fn empty() -> NameScope
         ensures { result ≡ spec.empty }
     {
-        Scope {
+        NameScope {
             first_argument: None,
             second_argument: None,
             first_reduction: None,
@@ -44,7 +44,7 @@ pub fn is_named(own: &Option<Items<u8>>, name: &[u8]) -> bool
 
 /// The variable with a name.
 #[tactic(auto, unfolding(crate::specs::Expressions::variable))]
-pub fn variable(scope: &Scope, name: &[u8]) -> Option<Variable>
+pub fn variable(scope: &NameScope, name: &[u8]) -> Option<Variable>
     ensures { result ≡ spec.variable scope.now name.now }
 {
     if is_named(&scope.first_argument, name) {

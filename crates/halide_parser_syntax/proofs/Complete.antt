@@ -9,19 +9,19 @@ use Rattle.halide_parser_syntax.specs.declared.states.Pending.{Pending}
 use Rattle.halide_parser_syntax.specs.declared.states.Bracket.{Bracket}
 use Rattle.halide_parser_syntax.specs.declared.states.Bracket.TheVariants as b
 use Rattle.halide_parser_syntax.specs.declared.states.Frame.{Frame}
-use Rattle.halide_parser_syntax.specs.declared.states.State.{State}
+use Rattle.halide_parser_syntax.specs.declared.states.TermState.{TermState}
 use Rattle.halide_parser_syntax.specs.inner.Algebra.{writing}
 use Rattle.halide_parser_syntax.specs.Grammar.{Written, Literal, Bare, Group, Minus, Call, CallTwo, Two, Three, Product, Sum, Comparison, spell, level, IsRight}
 use Rattle.halide_parser_syntax.specs.Grammar.{is_open}
 use Rattle.halide_parser_syntax.specs.inner.Machine as m
 
 -- Some steps lead from a state to another.
-record Reach (s : State Written) (ts : List Token) (s' : State Written) (ts' : List Token) : Type 0 where
+record Reach (s : TermState Written) (ts : List Token) (s' : TermState Written) (ts' : List Token) : Type 0 where
   steps : ℕ
   few : steps + length ts' ≤ length ts
   leads : (n : ℕ) → m.run writing (steps + n) s ts ≡ m.run writing n s' ts'
 
-on : (s : State Written) (ts : List Token) (s' : State Written) (ts' : List Token) (s'' : State Written) (ts'' : List Token) → Reach s ts s' ts'
+on : (s : TermState Written) (ts : List Token) (s' : TermState Written) (ts' : List Token) (s'' : TermState Written) (ts'' : List Token) → Reach s ts s' ts'
     → Reach s' ts' s'' ts'' → Reach s ts s'' ts''
 on s ts s' ts' s'' ts'' a c = record {
   steps = a.steps + c.steps;
@@ -29,7 +29,7 @@ on s ts s' ts' s'' ts'' a c = record {
   leads = λ n. let e : a.steps + c.steps + n ≡ a.steps + (c.steps + n) = omega arith in rw e (a.leads (c.steps + n) ∙ c.leads n);
 }
 
-one : (s : State Written) (ts : List Token) (s' : State Written) (ts' : List Token) → m.is_over s ts ≡ false → m.step writing s ts ≡ Some (s', ts')
+one : (s : TermState Written) (ts : List Token) (s' : TermState Written) (ts' : List Token) → m.is_over s ts ≡ false → m.step writing s ts ≡ Some (s', ts')
     → length ts' < length ts → Reach s ts s' ts'
 unfolding m.run
 one s ts s' ts' goes is less = record {

@@ -8,12 +8,12 @@ use Rattle.halide_parser_syntax.specs.declared.faults.ParseFault.{ParseFault}
 use Rattle.halide_parser_syntax.specs.declared.tokens.Token.{Token}
 use Rattle.halide_parser_syntax.specs.declared.tokens.Token.TheVariants as t
 use Rattle.halide_parser_syntax.specs.declared.tokens.SumOperator.TheVariants.{Add, Subtract}
-use Rattle.halide_parser_syntax.specs.declared.lines.Extents.{Extents}
-use Rattle.halide_parser_syntax.specs.declared.lines.Bounds.{Bounds}
+use Rattle.halide_parser_syntax.specs.declared.lines.NamedExtents.{NamedExtents}
+use Rattle.halide_parser_syntax.specs.declared.lines.ReductionBounds.{ReductionBounds}
 use Rattle.halide_parser_syntax.specs.declared.lines.Change.{Change}
 use Rattle.halide_parser_syntax.specs.declared.lines.Definition.{Definition}
-use Rattle.halide_parser_syntax.specs.declared.lines.Line.{Line}
-use Rattle.halide_parser_syntax.specs.declared.lines.Line.TheVariants as line
+use Rattle.halide_parser_syntax.specs.declared.lines.AlgorithmLine.{AlgorithmLine}
+use Rattle.halide_parser_syntax.specs.declared.lines.AlgorithmLine.TheVariants as line
 use Rattle.halide_parser_syntax.specs.inner.Algebra.{writing}
 use Rattle.halide_parser_syntax.specs.Grammar.{Written, spell, IsRight, is_open}
 use Rattle.halide_parser_syntax.specs.LineGrammar.{spell_height, spell_extents, spell_kind, spell_sign, spell_bounds, spell_second_bounds, spell_argument}
@@ -32,10 +32,10 @@ bind_ok (Err e) f y h = cc
 ok_inj : {A : Type 0} (x y : A) → ◌≡◌ {A = Result A ParseFault} (Ok x) (Ok y) → x ≡ y
 ok_inj x y h = cc
 
-abbrev spell_extents_of : Extents × List Token → List Token
+abbrev spell_extents_of : NamedExtents × List Token → List Token
 spell_extents_of x = spell_extents x.0 x.1
 
-extents_written : (ts : List Token) (e : Extents) (rest : List Token) → r.extents ts ≡ Ok (e, rest) → ts ≡ spell_extents e rest
+extents_written : (ts : List Token) (e : NamedExtents) (rest : List Token) → r.extents ts ≡ Ok (e, rest) → ts ≡ spell_extents e rest
 unfolding r.extents
 extents_written [] e rest h = cc
 extents_written (t.Name name ∷ []) e rest h = cc
@@ -57,10 +57,10 @@ kind_written (t.Name word ∷ []) is_bytes h = by_word word (bytes_eq word (code
 kind_written (t.Name word ∷ x ∷ ts) is_bytes h = cc
 kind_written (x ∷ ts) is_bytes h = cc
 
-abbrev spell_bounds_of : Bounds × List Token → List Token
+abbrev spell_bounds_of : ReductionBounds × List Token → List Token
 spell_bounds_of x = spell_bounds x.0 x.1
 
-bounds_from_written : (name : List ℕ) (is_negative : Bool) (ts : List Token) (b : Bounds) (rest : List Token) → r.bounds_from name is_negative ts ≡ Ok (b, rest)
+bounds_from_written : (name : List ℕ) (is_negative : Bool) (ts : List Token) (b : ReductionBounds) (rest : List Token) → r.bounds_from name is_negative ts ≡ Ok (b, rest)
     → t.Name name ∷ spell_sign is_negative ts ≡ spell_bounds b rest
 bounds_from_written name is_negative [] b rest h = cc
 bounds_from_written name is_negative (t.Number minimum ∷ []) b rest h = cc
@@ -68,7 +68,7 @@ bounds_from_written name is_negative (t.Number minimum ∷ t.Number extent ∷ t
 bounds_from_written name is_negative (t.Number minimum ∷ x ∷ ts) b rest h = cc
 bounds_from_written name is_negative (x ∷ ts) b rest h = cc
 
-bounds_written : (ts : List Token) (b : Bounds) (rest : List Token) → r.bounds ts ≡ Ok (b, rest) → ts ≡ spell_bounds b rest
+bounds_written : (ts : List Token) (b : ReductionBounds) (rest : List Token) → r.bounds ts ≡ Ok (b, rest) → ts ≡ spell_bounds b rest
 unfolding r.bounds
 bounds_written [] b rest h = cc
 bounds_written (t.Name name ∷ []) b rest h = cc
@@ -81,7 +81,7 @@ left_written : {A : Type 0} (value y : A) (ts : List Token) → r.nothing_left v
 left_written value y [] h = (ok_inj value y h, refl)
 left_written value y (x ∷ ts) h = cc
 
-more_bounds_written : (ts : List Token) (second : Option Bounds) → r.more_bounds ts ≡ Ok second → ts ≡ spell_second_bounds second
+more_bounds_written : (ts : List Token) (second : Option ReductionBounds) → r.more_bounds ts ≡ Ok second → ts ≡ spell_second_bounds second
 unfolding r.more_bounds
 more_bounds_written [] second h = ap spell_second_bounds (ok_inj None second h)
 more_bounds_written (t.Comma ∷ ts) second h =
@@ -146,10 +146,10 @@ index_written (t.Comma ∷ ts) x h =
 index_written (z ∷ ts) x h = let e = ok_inj _ x h in (subst (λ (y : Option Written × List Token). IsRightIndex y.0) e tt, ap spell_index_of e)
 
 -- a line of the grammar
-abbrev IsWritten : List Token → Line Written → Type 0
+abbrev IsWritten : List Token → AlgorithmLine Written → Type 0
 IsWritten ts l = IsRightLine l × (ts ≡ spell_line l)
 
-definition_written : (name : List ℕ) (ts : List Token) (l : Line Written) → r.definition writing name ts ≡ Ok l
+definition_written : (name : List ℕ) (ts : List Token) (l : AlgorithmLine Written) → r.definition writing name ts ≡ Ok l
     → IsWritten (t.Func ∷ t.Name name ∷ t.Open ∷ ts) l
 unfolding r.definition
 definition_written name ts l h =
@@ -163,7 +163,7 @@ definition_written name ts l h =
           ∙ ap spell_line e.0,
     )
 
-change_written : (name : List ℕ) (ts : List Token) (l : Line Written) → r.change writing name ts ≡ Ok l → IsWritten (t.Update ∷ t.Name name ∷ t.Open ∷ ts) l
+change_written : (name : List ℕ) (ts : List Token) (l : AlgorithmLine Written) → r.change writing name ts ≡ Ok l → IsWritten (t.Update ∷ t.Name name ∷ t.Open ∷ ts) l
 unfolding r.change
 change_written name ts l h =
     let (x, read_x, h1) = bind_ok (r.read writing ts) _ l h in
@@ -187,7 +187,7 @@ change_written name ts l h =
     let s0 = wx.1 ∙ ap (spell x.0) s1 in
     (subst IsRightLine e (wx.0, wy.0, wr.0), ap (λ (k : List Token). t.Update ∷ t.Name name ∷ t.Open ∷ k) s0 ∙ ap spell_line e)
 
-pub line_written : (ts : List Token) (l : Line Written) → r.read_line writing ts ≡ Ok l → IsWritten ts l
+pub line_written : (ts : List Token) (l : AlgorithmLine Written) → r.read_line writing ts ≡ Ok l → IsWritten ts l
 unfolding r.read_line
 line_written [] l h = let e = ok_inj line.Blank l h in (subst IsRightLine e tt, ap spell_line e)
 line_written (t.Input ∷ ts) l h =
@@ -215,7 +215,7 @@ line_written (x ∷ ts) l h = cc
 
 -- ---- what is written is read
 
--- behind extents there stands no number
+-- after extents there stands no number
 extents_read : (name : List ℕ) (width : ℕ) (height : Option ℕ) (is_bytes : Bool)
     → r.extents (t.Name name ∷ t.Number width ∷ spell_height height (spell_kind is_bytes)) ≡ Ok (
       record { name = name; width = width; height = height },
@@ -238,7 +238,7 @@ unfolding r.bounds
 bounds_read name false minimum extent rest = refl
 bounds_read name true minimum extent rest = refl
 
-more_bounds_read : (second : Option Bounds) → r.more_bounds (spell_second_bounds second) ≡ Ok second
+more_bounds_read : (second : Option ReductionBounds) → r.more_bounds (spell_second_bounds second) ≡ Ok second
 unfolding r.more_bounds
 more_bounds_read None = refl
 more_bounds_read (Some b) = rw (bounds_read b.name b.is_negative b.minimum b.extent []) refl
@@ -283,7 +283,7 @@ change_read u rx ry rr =
       more_bounds_read u.second,
     ) refl
 
-pub line_read : (l : Line Written) → IsRightLine l → r.read_line writing (spell_line l) ≡ Ok l
+pub line_read : (l : AlgorithmLine Written) → IsRightLine l → r.read_line writing (spell_line l) ≡ Ok l
 unfolding r.read_line
 line_read line.Blank right = refl
 line_read (line.Input e is_bytes) right = rw (extents_read e.name e.width e.height is_bytes, kind_read is_bytes) refl

@@ -10,7 +10,7 @@ use Rattle.halide_parser_syntax.specs.declared.states.Pending.{Pending}
 use Rattle.halide_parser_syntax.specs.declared.states.Bracket.{Bracket}
 use Rattle.halide_parser_syntax.specs.declared.states.Bracket.TheVariants as b
 use Rattle.halide_parser_syntax.specs.declared.states.Frame.{Frame}
-use Rattle.halide_parser_syntax.specs.declared.states.State.{State}
+use Rattle.halide_parser_syntax.specs.declared.states.TermState.{TermState}
 use Rattle.halide_parser_syntax.specs.inner.Algebra.{Algebra, writing, made}
 use Rattle.halide_parser_syntax.specs.Grammar.{Written, Literal, Bare}
 use Rattle.halide_parser_syntax.specs.inner.Machine.{is_empty}
@@ -40,7 +40,7 @@ module _ {V : Type 0} (alg : Algebra V) where
   stack_of [] = []
   stack_of (f ∷ fs) = frame_of f ∷ stack_of fs
 
-  abbrev state_of : State Written → State V
+  abbrev state_of : TermState Written → TermState V
   state_of s = record { stack = stack_of s.stack; pending = pending_of s.pending; term = option_map (made alg) s.term }
 
   abbrev moved_of : m.Moved Written → m.Moved V
@@ -77,9 +77,9 @@ module _ {V : Type 0} (alg : Algebra V) where
 
   named : (fs : List (Frame Written)) (p : Pending Written) (name : List ℕ) (rest : List Token) → m.named alg (stack_of fs) (pending_of p) name rest
       ≡ moved_of (m.named writing fs p name rest)
-  named fs p name [] = ap (λ (s : State V). Some (s, [])) (operand fs p (Bare name))
+  named fs p name [] = ap (λ (s : TermState V). Some (s, [])) (operand fs p (Bare name))
   named fs p name (t.Open ∷ rest) = refl
-  named fs p name (x ∷ rest) = ap (λ (s : State V). Some (s, x ∷ rest)) (operand fs p (Bare name))
+  named fs p name (x ∷ rest) = ap (λ (s : TermState V). Some (s, x ∷ rest)) (operand fs p (Bare name))
 
   bracketed : (fs : List (Frame Written)) (p : Pending Written) (bracket : Bracket Written) (rest : List Token)
       → m.bracketed alg (stack_of fs) (pending_of p) (bracket_of bracket) rest ≡ moved_of (m.bracketed writing fs p bracket rest)
@@ -89,7 +89,7 @@ module _ {V : Type 0} (alg : Algebra V) where
 
   begun : (fs : List (Frame Written)) (p : Pending Written) (ts : List Token) → m.begun alg (stack_of fs) (pending_of p) ts ≡ moved_of (m.begun writing fs p ts)
   begun fs p [] = refl
-  begun fs p (t.Number n ∷ rest) = ap (λ (s : State V). Some (s, rest)) (operand fs p (Literal n))
+  begun fs p (t.Number n ∷ rest) = ap (λ (s : TermState V). Some (s, rest)) (operand fs p (Literal n))
   begun fs p (t.Name name ∷ rest) = named fs p name rest
   begun fs p (t.Two f ∷ rest) = bracketed fs p (b.TwoFirst f) rest
   begun fs p (t.Three f ∷ rest) = bracketed fs p (b.ThreeFirst f) rest
@@ -118,10 +118,10 @@ module _ {V : Type 0} (alg : Algebra V) where
   compared fs p w op None e = ap (λ (v : V). Some (m.wanting (stack_of fs) (record { signs = 0; product = None; sum = None; comparison = Some (op, v) })))
       (sum_of p.sum w)
 
-  ahead : (found : Option (State V)) (given : Option (State Written)) (rest : List Token) → found ≡ option_map state_of given
+  ahead : (found : Option (TermState V)) (given : Option (TermState Written)) (rest : List Token) → found ≡ option_map state_of given
       → m.ahead alg found rest ≡ moved_of (m.ahead writing given rest)
-  ahead found None rest e = ap (λ (o : Option (State V)). m.ahead alg o rest) e
-  ahead found (Some s) rest e = ap (λ (o : Option (State V)). m.ahead alg o rest) e
+  ahead found None rest e = ap (λ (o : Option (TermState V)). m.ahead alg o rest) e
+  ahead found (Some s) rest e = ap (λ (o : Option (TermState V)). m.ahead alg o rest) e
 
   separated_in : (fs : List (Frame Written)) (w : Written) → m.separated_in (stack_of fs) (made alg w) ≡ option_map state_of (m.separated_in fs w)
   separated_in [] w = refl
@@ -143,7 +143,7 @@ module _ {V : Type 0} (alg : Algebra V) where
   closed_in (f ∷ fs) w = by f.bracket
     where
       resumed : (v : Written) → Some (m.operand alg (stack_of fs) (pending_of f.outer) (made alg v)) ≡ Some (state_of (m.operand writing fs f.outer v))
-      resumed v = ap (λ (s : State V). Some s) (operand fs f.outer v)
+      resumed v = ap (λ (s : TermState V). Some s) (operand fs f.outer v)
 
       by : (bracket : Bracket Written) → m.resumed alg (pending_of f.outer) (stack_of fs) (m.closed_by alg (bracket_of bracket) (made alg w))
           ≡ option_map state_of (m.resumed writing f.outer fs (m.closed_by writing bracket w))
@@ -175,7 +175,7 @@ module _ {V : Type 0} (alg : Algebra V) where
   step_at fs p None ts = begun fs p ts
   step_at fs p (Some w) ts = followed fs p w ts
 
-  step : (s : State Written) (ts : List Token) → m.step alg (state_of s) ts ≡ moved_of (m.step writing s ts)
+  step : (s : TermState Written) (ts : List Token) → m.step alg (state_of s) ts ≡ moved_of (m.step writing s ts)
   unfolding m.step
   step s ts = step_at s.stack s.pending s.term ts
 
@@ -187,7 +187,7 @@ module _ {V : Type 0} (alg : Algebra V) where
   some None = refl
   some (Some w) = refl
 
-  is_over : (s : State Written) (ts : List Token) → m.is_over (state_of s) ts ≡ m.is_over s ts
+  is_over : (s : TermState Written) (ts : List Token) → m.is_over (state_of s) ts ≡ m.is_over s ts
   unfolding m.is_over
   is_over s ts = rw (some s.term, empty s.stack) refl
 
@@ -196,8 +196,8 @@ module _ {V : Type 0} (alg : Algebra V) where
   finished p None ts = refl
   finished p (Some w) ts = ap (λ (v : V). Some (v, ts)) (whole p w)
 
-  onward : (moved : m.Moved Written) (f : State V → List Token → Option (V × List Token)) (g : State Written → List Token → Option (Written × List Token))
-      → ((s : State Written) (ts : List Token) → f (state_of s) ts ≡ read_of (g s ts)) → m.onward alg (moved_of moved) f ≡ read_of (m.onward writing moved g)
+  onward : (moved : m.Moved Written) (f : TermState V → List Token → Option (V × List Token)) (g : TermState Written → List Token → Option (Written × List Token))
+      → ((s : TermState Written) (ts : List Token) → f (state_of s) ts ≡ read_of (g s ts)) → m.onward alg (moved_of moved) f ≡ read_of (m.onward writing moved g)
   onward None f g e = refl
   onward (Some x) f g e = e x.0 x.1
 
@@ -206,7 +206,7 @@ module _ {V : Type 0} (alg : Algebra V) where
   either true a c a' c' e e' = e
   either false a c a' c' e e' = e'
 
-  run : (n : ℕ) (s : State Written) (ts : List Token) → m.run alg n (state_of s) ts ≡ read_of (m.run writing n s ts)
+  run : (n : ℕ) (s : TermState Written) (ts : List Token) → m.run alg n (state_of s) ts ≡ read_of (m.run writing n s ts)
   unfolding m.run
   run zero s ts = refl
   run (suc n) s ts =

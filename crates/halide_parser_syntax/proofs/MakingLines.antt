@@ -4,8 +4,8 @@ use Rattle.line_text.specs.Lines.{◌>>=◌}
 use Rattle.halide_parser_syntax.specs.declared.faults.ParseFault.{ParseFault}
 use Rattle.halide_parser_syntax.specs.declared.tokens.Token.{Token}
 use Rattle.halide_parser_syntax.specs.declared.tokens.Token.TheVariants as t
-use Rattle.halide_parser_syntax.specs.declared.lines.Line.{Line}
-use Rattle.halide_parser_syntax.specs.declared.lines.Line.TheVariants as line
+use Rattle.halide_parser_syntax.specs.declared.lines.AlgorithmLine.{AlgorithmLine}
+use Rattle.halide_parser_syntax.specs.declared.lines.AlgorithmLine.TheVariants as line
 use Rattle.halide_parser_syntax.specs.inner.Algebra.{Algebra, writing, made}
 use Rattle.halide_parser_syntax.specs.Grammar.{Written}
 use Rattle.halide_parser_syntax.specs.inner.Algebra.{made_line, made_index}
@@ -33,7 +33,7 @@ module _ {V : Type 0} (alg : Algebra V) where
   abbrev index_of : Option Written × List Token → Option V × List Token
   index_of x = (made_index alg x.0, x.1)
 
-  abbrev line_of : Line Written → Result (Line V) ParseFault
+  abbrev line_of : AlgorithmLine Written → Result (AlgorithmLine V) ParseFault
   line_of w = Ok (made_line alg w)
 
   found : (given : Option (Written × List Token)) → r.or_syntax (Rattle.std.specs.Prelude.option_map read_of given)
@@ -53,7 +53,7 @@ module _ {V : Type 0} (alg : Algebra V) where
       ∙ follow (r.read writing rest) read_of (λ x. Ok (Some x.0, x.1)) (λ x. Ok (Some x.0, x.1)) (λ x. Ok (index_of x)) (λ x. refl)
   index (_ ∷ rest) = refl
 
-  left : (w : Line Written) (rest : List Token) → r.nothing_left (made_line alg w) rest ≡ (r.nothing_left w rest >>= line_of)
+  left : (w : AlgorithmLine Written) (rest : List Token) → r.nothing_left (made_line alg w) rest ≡ (r.nothing_left w rest >>= line_of)
   left w [] = refl
   left w (_ ∷ rest) = refl
 
@@ -75,7 +75,7 @@ module _ {V : Type 0} (alg : Algebra V) where
         right = right.0;
       })) right.1))
 
-  -- behind the indexes on the left
+  -- after the indexes on the left
   righted : (name : List ℕ) (x : Written) (y : Option Written) (ts : List Token)
       → (r.assigned ts >>= λ behind. r.read alg behind >>= λ right. r.over right.1 >>= λ ranges. r.bounds ranges >>= λ first. r.more_bounds first.1 >>=
       λ second.

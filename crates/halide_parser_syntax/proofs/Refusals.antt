@@ -8,8 +8,8 @@ use Rattle.halide_parser_syntax.specs.declared.faults.ParseFault.TheVariants.{Sy
 use Rattle.halide_parser_syntax.specs.declared.tokens.Token.{Token}
 use Rattle.halide_parser_syntax.specs.declared.tokens.Token.TheVariants as t
 use Rattle.halide_parser_syntax.specs.declared.tokens.SumOperator.TheVariants.{Add, Subtract}
-use Rattle.halide_parser_syntax.specs.declared.lines.Line.{Line}
-use Rattle.halide_parser_syntax.specs.declared.lines.Line.TheVariants as line
+use Rattle.halide_parser_syntax.specs.declared.lines.AlgorithmLine.{AlgorithmLine}
+use Rattle.halide_parser_syntax.specs.declared.lines.AlgorithmLine.TheVariants as line
 use Rattle.halide_parser_syntax.specs.inner.Algebra.{writing}
 use Rattle.halide_parser_syntax.specs.Grammar.{Written}
 use Rattle.halide_parser_syntax.specs.LineGrammar.{FollowsGrammar}
@@ -177,13 +177,13 @@ follows = record {
   no_other = λ tokens line e. line_written tokens line (was_read (r.read_line writing tokens) line e);
 }
 
-agree_by : (read other : List Token → Option (Line Written)) → FollowsGrammar read → FollowsGrammar other
-    → (tokens : List Token) (found its : Option (Line Written)) → read tokens ≡ found → other tokens ≡ its → found ≡ its
+agree_by : (read other : List Token → Option (AlgorithmLine Written)) → FollowsGrammar read → FollowsGrammar other
+    → (tokens : List Token) (found its : Option (AlgorithmLine Written)) → read tokens ≡ found → other tokens ≡ its → found ≡ its
 agree_by read other one two tokens (Some line) its e f =
     let is = one.no_other tokens line e in sym (ap other is.1 ∙ two.each line is.0) ∙ f
 agree_by read other one two tokens None None e f = refl
 agree_by read other one two tokens None (Some line) e f =
     let is = two.no_other tokens line f in sym e ∙ ap read is.1 ∙ one.each line is.0
 
-pub agree : (read other : List Token → Option (Line Written)) → FollowsGrammar read → FollowsGrammar other → (tokens : List Token) → read tokens ≡ other tokens
+pub agree : (read other : List Token → Option (AlgorithmLine Written)) → FollowsGrammar read → FollowsGrammar other → (tokens : List Token) → read tokens ≡ other tokens
 agree read other one two tokens = agree_by read other one two tokens (read tokens) (other tokens) refl refl

@@ -11,7 +11,7 @@ use Rattle.halide_parser_syntax.specs.declared.states.Pending.{Pending}
 use Rattle.halide_parser_syntax.specs.declared.states.Bracket.{Bracket}
 use Rattle.halide_parser_syntax.specs.declared.states.Bracket.TheVariants as b
 use Rattle.halide_parser_syntax.specs.declared.states.Frame.{Frame}
-use Rattle.halide_parser_syntax.specs.declared.states.State.{State}
+use Rattle.halide_parser_syntax.specs.declared.states.TermState.{TermState}
 use Rattle.halide_parser_syntax.specs.inner.Algebra.{writing}
 use Rattle.halide_parser_syntax.specs.Grammar.{Written, Literal, Bare, Group, Call, CallTwo, Two, Three, spell, level, IsRight}
 use Rattle.halide_parser_syntax.specs.inner.Machine.{is_empty}
@@ -57,7 +57,7 @@ abbrev term_of : Option Written → List Token → List Token
 term_of None rest = rest
 term_of (Some w) rest = spell w rest
 
-abbrev before : State Written → List Token → List Token
+abbrev before : TermState Written → List Token → List Token
 before s rest = frames s.stack (lead s.pending (term_of s.term rest))
 
 -- ---- what was read is of the grammar
@@ -87,12 +87,12 @@ abbrev RightFrames : List (Frame Written) → Type 0
 RightFrames [] = Unit {0}
 RightFrames (f ∷ fs) = RightBracket f.bracket × RightPending f.outer × RightFrames fs
 
--- behind an operand there is no sign and no product left
+-- after an operand there is no sign and no product left
 abbrev RightTerm : Pending Written → Option Written → Type 0
 RightTerm p None = Unit {0}
 RightTerm p (Some w) = IsRight w × (level w ≤ 1) × (p.signs ≡ 0) × (p.product ≡ None)
 
-abbrev RightState : State Written → Type 0
+abbrev RightState : TermState Written → Type 0
 RightState s = RightFrames s.stack × RightPending s.pending × RightTerm s.pending s.term
 
 -- ---- an operand
@@ -117,7 +117,7 @@ products_right None w r right low = (right, omega (arith, low))
 products_right (Some p) w r right low = ((r.1, low, r.0, right), omega arith)
 
 -- a factor in a state that wants one
-pub record Stepped (fs : List (Frame Written)) (p : Pending Written) (next : State Written) (front : List Token → List Token) : Type 0 where
+pub record Stepped (fs : List (Frame Written)) (p : Pending Written) (next : TermState Written) (front : List Token → List Token) : Type 0 where
   pub kept : (rest : List Token) → frames fs (lead p (front rest)) ≡ before next rest
   pub right : RightState next
 
@@ -142,7 +142,7 @@ signed (suc n) rest = let e : suc n + 1 ≡ suc (n + 1) = omega arith in rw e (a
 -- ---- a step
 
 -- from a state and tokens, a step to another state and tokens
-abbrev Keeps : State Written → List Token → m.Moved Written → Type 0
+abbrev Keeps : TermState Written → List Token → m.Moved Written → Type 0
 Keeps s ts None = Unit {0}
 Keeps s ts (Some moved) = (before s ts ≡ before moved.0 moved.1) × RightState moved.0
 
@@ -177,7 +177,7 @@ begun fs p (t.Sum Subtract ∷ rest) rfs rp =
 begun fs p (t.Sum Add ∷ rest) rfs rp = tt
 begun fs p (_ ∷ rest) rfs rp = tt
 
--- a sum or a comparison behind a term
+-- a sum or a comparison after a term
 sums_spelled : (left : Option (SumOperator × Written)) (w : Written) (rest : List Token) → sums left (spell w rest) ≡ spell (m.sum_of writing left w) rest
 sums_spelled None w rest = refl
 sums_spelled (Some p) w rest = refl
@@ -308,7 +308,7 @@ step_at : (fs : List (Frame Written)) (p : Pending Written) (term : Option Writt
 step_at fs p None ts rfs rp r = begun fs p ts rfs rp
 step_at fs p (Some w) ts rfs rp r = followed fs p w ts rfs rp r.0 r.1 r.2 r.3
 
-step : (s : State Written) (ts : List Token) → RightState s → Keeps s ts (m.step writing s ts)
+step : (s : TermState Written) (ts : List Token) → RightState s → Keeps s ts (m.step writing s ts)
 unfolding m.step
 step s ts r = step_at s.stack s.pending s.term ts r.0 r.1 r.2
 
@@ -336,13 +336,13 @@ either : (all : List Token) (over : Bool) (a c : Option (Written × List Token))
 either all true a c f g = f refl
 either all false a c f g = g refl
 
-onward : (all : List Token) (moved : m.Moved Written) (f : State Written → List Token → Option (Written × List Token))
-    → (s : State Written) (ts : List Token) → all ≡ before s ts → Keeps s ts moved → ((next : State Written) (rest : List Token) → RightState next
+onward : (all : List Token) (moved : m.Moved Written) (f : TermState Written → List Token → Option (Written × List Token))
+    → (s : TermState Written) (ts : List Token) → all ≡ before s ts → Keeps s ts moved → ((next : TermState Written) (rest : List Token) → RightState next
     → Spelled (before next rest) (f next rest)) → Spelled all (m.onward writing moved f)
 onward all None f s ts e kept g = tt
 onward all (Some x) f s ts e kept g = let k : all ≡ before x.0 x.1 = e ∙ kept.0 in rw k (g x.0 x.1 kept.1)
 
-run : (n : ℕ) (s : State Written) (ts : List Token) → RightState s → Spelled (before s ts) (m.run writing n s ts)
+run : (n : ℕ) (s : TermState Written) (ts : List Token) → RightState s → Spelled (before s ts) (m.run writing n s ts)
 unfolding m.run m.is_over
 run zero s ts r = tt
 run (suc n) s ts r =

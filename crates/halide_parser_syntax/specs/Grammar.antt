@@ -60,7 +60,7 @@ IsRight (Product op a b) = (level a ≤ 1) × (level b ≤ 0) × IsRight a × Is
 IsRight (Sum op a b) = (level a ≤ 2) × (level b ≤ 1) × IsRight a × IsRight b
 IsRight (Comparison op a b) = (level a ≤ 2) × (level b ≤ 2) × IsRight a × IsRight b
 
--- An opening bracket behind a name makes it a call.
+-- An opening bracket after a name makes it a call.
 abbrev pub is_open : List Token → Bool
 is_open (t.Open ∷ rest) = true
 is_open _ = false

@@ -4,10 +4,10 @@ use Rattle.std.specs.Prelude.{◌≡◌, ℕ, Bool, true, false, List, [], ◌�
 use Rattle.halide_parser_syntax.specs.declared.tokens.Token.{Token}
 use Rattle.halide_parser_syntax.specs.declared.tokens.Token.TheVariants as t
 use Rattle.halide_parser_syntax.specs.declared.tokens.SumOperator.TheVariants.{Subtract}
-use Rattle.halide_parser_syntax.specs.declared.lines.Extents.{Extents}
-use Rattle.halide_parser_syntax.specs.declared.lines.Bounds.{Bounds}
-use Rattle.halide_parser_syntax.specs.declared.lines.Line.{Line}
-use Rattle.halide_parser_syntax.specs.declared.lines.Line.TheVariants as line
+use Rattle.halide_parser_syntax.specs.declared.lines.NamedExtents.{NamedExtents}
+use Rattle.halide_parser_syntax.specs.declared.lines.ReductionBounds.{ReductionBounds}
+use Rattle.halide_parser_syntax.specs.declared.lines.AlgorithmLine.{AlgorithmLine}
+use Rattle.halide_parser_syntax.specs.declared.lines.AlgorithmLine.TheVariants as line
 use Rattle.halide_parser_syntax.specs.Grammar.{Written, spell, IsRight}
 
 abbrev pub spell_height : Option ℕ → List Token → List Token
@@ -15,7 +15,7 @@ spell_height None rest = rest
 spell_height (Some height) rest = t.Number height ∷ rest
 
 -- name number [number]
-abbrev pub spell_extents : Extents → List Token → List Token
+abbrev pub spell_extents : NamedExtents → List Token → List Token
 spell_extents e rest = t.Name e.name ∷ t.Number e.width ∷ spell_height e.height rest
 
 -- [u8], which is no reserved word
@@ -28,10 +28,10 @@ spell_sign false rest = rest
 spell_sign true rest = t.Sum Subtract ∷ rest
 
 -- name [-] number number
-abbrev pub spell_bounds : Bounds → List Token → List Token
+abbrev pub spell_bounds : ReductionBounds → List Token → List Token
 spell_bounds b rest = t.Name b.name ∷ spell_sign b.is_negative (t.Number b.minimum ∷ t.Number b.extent ∷ rest)
 
-abbrev pub spell_second_bounds : Option Bounds → List Token
+abbrev pub spell_second_bounds : Option ReductionBounds → List Token
 spell_second_bounds None = []
 spell_second_bounds (Some b) = t.Comma ∷ spell_bounds b []
 
@@ -44,7 +44,7 @@ spell_index None rest = rest
 spell_index (Some w) rest = t.Comma ∷ spell w rest
 
 -- the tokens of a line
-abbrev pub spell_line : Line Written → List Token
+abbrev pub spell_line : AlgorithmLine Written → List Token
 spell_line line.Blank = []
 spell_line (line.Input e is_bytes) = t.Input ∷ spell_extents e (spell_kind is_bytes)
 spell_line (line.Func d) = t.Func ∷ t.Name d.name ∷ t.Open ∷ t.Name d.first_argument ∷ spell_argument d.second_argument (t.Close ∷ t.Assign ∷ spell d.right [])
@@ -58,7 +58,7 @@ IsRightIndex None = Unit {0}
 IsRightIndex (Some w) = IsRight w
 
 -- All expressions of the line are of the grammar.
-abbrev pub IsRightLine : Line Written → Type 0
+abbrev pub IsRightLine : AlgorithmLine Written → Type 0
 IsRightLine line.Blank = Unit {0}
 IsRightLine (line.Input e is_bytes) = Unit {0}
 IsRightLine (line.Func d) = IsRight d.right
@@ -66,6 +66,6 @@ IsRightLine (line.Update u) = IsRight u.left_x × IsRightIndex u.left_y × IsRig
 IsRightLine (line.Output e) = Unit {0}
 
 -- What is read of the tokens of a line is the line of the grammar that they spell, and nothing where they spell none.
-pub record FollowsGrammar (read : List Token → Option (Line Written)) : Type 0 where
-  pub each : (line : Line Written) → IsRightLine line → read (spell_line line) ≡ Some line
-  pub no_other : (tokens : List Token) (line : Line Written) → read tokens ≡ Some line → IsRightLine line × (tokens ≡ spell_line line)
+pub record FollowsGrammar (read : List Token → Option (AlgorithmLine Written)) : Type 0 where
+  pub each : (line : AlgorithmLine Written) → IsRightLine line → read (spell_line line) ≡ Some line
+  pub no_other : (tokens : List Token) (line : AlgorithmLine Written) → read tokens ≡ Some line → IsRightLine line × (tokens ≡ spell_line line)

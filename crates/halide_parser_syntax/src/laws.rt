@@ -3,7 +3,7 @@
 
 ghost use Rattle.std.specs.Prelude.{◌≡◌, List, Option, Some, false};
 ghost use Rattle.halide_parser_syntax.specs.declared.tokens.Token.{Token};
-ghost use Rattle.halide_parser_syntax.specs.declared.lines.Line.{Line};
+ghost use Rattle.halide_parser_syntax.specs.declared.lines.AlgorithmLine.{AlgorithmLine};
 ghost use Rattle.halide_parser_syntax.specs.inner.Algebra.{Algebra, writing};
 ghost use Rattle.halide_parser_syntax.specs.Grammar.{Written, IsRight, spell, is_open};
 ghost use Rattle.halide_parser_syntax.specs.inner.Machine.{expression, is_operator};
@@ -22,7 +22,7 @@ pub fn expressions_are_written()
         → IsRight w × (tokens ≡ spell w rest) }
 {}
 
-/// An expression of the grammar is read whole, where neither an operator nor a bracket stands behind it.
+/// An expression of the grammar is read whole, where neither an operator nor a bracket stands after it.
 pub fn expressions_are_read()
     ensures { (w : Written) (rest : List Token) → IsRight w → is_open rest ≡ false → is_operator rest ≡ false
         → expression writing (spell w rest) ≡ Some (w, rest) }
@@ -36,6 +36,6 @@ pub fn lines_follow_the_grammar()
 
 /// There is one way to read lines that follows the grammar, so no tokens spell two lines.
 pub fn readings_agree()
-    ensures { (read other : List Token → Option (Line Written)) → FollowsGrammar read → FollowsGrammar other
+    ensures { (read other : List Token → Option (AlgorithmLine Written)) → FollowsGrammar read → FollowsGrammar other
         → (tokens : List Token) → read tokens ≡ other tokens }
 {}

@@ -18,8 +18,8 @@ pub mod states;
 pub mod tokens;
 
 pub use crate::faults::ParseFault;
-pub use crate::lines::{Bounds, Change, Definition, Extents, Line};
-pub use crate::states::{Bracket, Frame, Pending, Stack, State};
+pub use crate::lines::{AlgorithmLine, Change, Definition, NamedExtents, ReductionBounds};
+pub use crate::states::{Bracket, Frame, Pending, Stack, TermState};
 pub use crate::tokens::{
     CompareOperator, ProductOperator, SumOperator, ThreeFunction, Token, TwoFunction, tokens_of,
 };

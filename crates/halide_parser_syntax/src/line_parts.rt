@@ -5,7 +5,7 @@ ghost use Rattle.line_text.specs.Lines.{Gives};
 ghost use Rattle.halide_parser_syntax.specs.inner.LineReading as spec;
 
 use crate::faults::ParseFault;
-use crate::lines::{Bounds, Extents};
+use crate::lines::{NamedExtents, ReductionBounds};
 use crate::tokens::{SumOperator, Token};
 use line_text::ReadError;
 use sqlite_items::Items;
@@ -17,7 +17,7 @@ fn copied(alloc: Global, name: &Items<u8>) -> Result<Items<u8>, AllocError>
     Items::from_slice(alloc, name.as_slice())
 }
 
-/// A name with one or two extents, and the tokens behind it.
+/// A name with one or two extents, and the tokens after it.
 ///
 /// # Errors
 ///
@@ -26,7 +26,7 @@ fn copied(alloc: Global, name: &Items<u8>) -> Result<Items<u8>, AllocError>
 pub fn extents(
     alloc: Global,
     tokens: &[Token],
-) -> Result<(Extents, &[Token]), ReadError<ParseFault>>
+) -> Result<(NamedExtents, &[Token]), ReadError<ParseFault>>
     ensures { Gives (λ x. (x.0, x.1.now)) result (spec.extents tokens.now) }
 {
     match tokens {
@@ -39,7 +39,7 @@ pub fn extents(
             let name = copied(alloc, name)?;
             let height = Some(*height);
             Ok((
-                Extents {
+                NamedExtents {
                     name,
                     width: *width,
                     height,
@@ -50,7 +50,7 @@ pub fn extents(
         [Token::Name(name), Token::Number(width), rest @ ..] => {
             let name = copied(alloc, name)?;
             Ok((
-                Extents {
+                NamedExtents {
                     name,
                     width: *width,
                     height: None,
@@ -78,18 +78,18 @@ pub fn kind(tokens: &[Token]) -> Result<bool, ReadError<ParseFault>>
     }
 }
 
-/// The minimum and the extent behind a name and perhaps a minus.
+/// The minimum and the extent after a name and perhaps a minus.
 fn bounds_from<'a>(
     alloc: Global,
     name: &Items<u8>,
     is_negative: bool,
     tokens: &'a [Token],
-) -> Result<(Bounds, &'a [Token]), ReadError<ParseFault>>
+) -> Result<(ReductionBounds, &'a [Token]), ReadError<ParseFault>>
     ensures { Gives (λ x. (x.0, x.1.now)) result (spec.bounds_from name.now is_negative tokens.now) }
 {
     match tokens {
         [Token::Number(minimum), Token::Number(extent), rest @ ..] => Ok((
-            Bounds {
+            ReductionBounds {
                 name: copied(alloc, name)?,
                 is_negative,
                 minimum: *minimum,
@@ -101,13 +101,16 @@ fn bounds_from<'a>(
     }
 }
 
-/// A reduction variable with its minimum and extent, and the tokens behind it.
+/// A reduction variable with its minimum and extent, and the tokens after it.
 ///
 /// # Errors
 ///
 /// `Syntax` where the tokens are other; memory ran out.
 #[tactic(auto, unfolding(crate::specs::inner::LineReading::bounds))]
-pub fn bounds(alloc: Global, tokens: &[Token]) -> Result<(Bounds, &[Token]), ReadError<ParseFault>>
+pub fn bounds(
+    alloc: Global,
+    tokens: &[Token],
+) -> Result<(ReductionBounds, &[Token]), ReadError<ParseFault>>
     ensures { Gives (λ x. (x.0, x.1.now)) result (spec.bounds tokens.now) }
 {
     match tokens {
@@ -127,7 +130,10 @@ pub fn bounds(alloc: Global, tokens: &[Token]) -> Result<(Bounds, &[Token]), Rea
 ///
 /// `Syntax` where the tokens are other; memory ran out.
 #[tactic(auto, unfolding(crate::specs::inner::LineReading::more_bounds))]
-pub fn more_bounds(alloc: Global, tokens: &[Token]) -> Result<Option<Bounds>, ReadError<ParseFault>>
+pub fn more_bounds(
+    alloc: Global,
+    tokens: &[Token],
+) -> Result<Option<ReductionBounds>, ReadError<ParseFault>>
     ensures { Gives (λ x. x) result (spec.more_bounds tokens.now) }
 {
     match tokens {
@@ -144,7 +150,7 @@ pub fn more_bounds(alloc: Global, tokens: &[Token]) -> Result<Option<Bounds>, Re
     }
 }
 
-/// The arguments of a Func, and the tokens behind the `=`.
+/// The arguments of a Func, and the tokens after the `=`.
 ///
 /// # Errors
 ///
@@ -175,7 +181,7 @@ pub fn arguments(
     }
 }
 
-/// The tokens behind a closing bracket and `=`.
+/// The tokens after a closing bracket and `=`.
 ///
 /// # Errors
 ///
@@ -190,7 +196,7 @@ pub fn assigned(tokens: &[Token]) -> Result<&[Token], ReadError<ParseFault>>
     }
 }
 
-/// The tokens behind `over`.
+/// The tokens after `over`.
 ///
 /// # Errors
 ///

@@ -4,7 +4,7 @@ use sqlite_items::Items;
 
 /// A name with one or two extents, of an input or the output.
 #[derive(Drop)]
-pub struct Extents {
+pub struct NamedExtents {
     pub name: Items<u8>,
     pub width: u32,
     pub height: Option<u32>,
@@ -12,7 +12,7 @@ pub struct Extents {
 
 /// A reduction variable with its minimum and its extent.
 #[derive(Drop)]
-pub struct Bounds {
+pub struct ReductionBounds {
     pub name: Items<u8>,
     /// Whether a minus stands before the minimum.
     pub is_negative: bool,
@@ -36,20 +36,20 @@ pub struct Change<V> {
     pub left_x: V,
     pub left_y: Option<V>,
     pub right: V,
-    pub first: Bounds,
-    pub second: Option<Bounds>,
+    pub first: ReductionBounds,
+    pub second: Option<ReductionBounds>,
 }
 
 /// A line.
 #[derive(Drop)]
-pub enum Line<V> {
+pub enum AlgorithmLine<V> {
     Blank,
     Input {
-        extents: Extents,
+        extents: NamedExtents,
         /// Whether each pixel is a byte.
         is_bytes: bool,
     },
     Func(Definition<V>),
     Update(Change<V>),
-    Output(Extents),
+    Output(NamedExtents),
 }

@@ -95,7 +95,7 @@ impl<V: Drop> Stack<V> {
 /// Where the pass stands: the open brackets, and in the innermost what is pending, and the product so
 /// far where an operand was read last.
 #[derive(Drop)]
-pub struct State<V> {
+pub struct TermState<V> {
     pub stack: Stack<V>,
     pub pending: Pending<V>,
     pub term: Option<V>,

@@ -30,7 +30,7 @@ pub record Seen : Type 0 where
   pub value : ℕ
   pub points : List Point
 
--- a call reads its point behind those of its indexes
+-- a call reads its point after those of its indexes
 abbrev pub points_at : Expr-F Seen → List Point
 points_at (layer.Number n) = []
 points_at (layer.Variable v) = []

@@ -1,4 +1,4 @@
--- All elements of a group that lie one behind the other in data: their addresses, that none faults, and what is moved.
+-- All elements of a group that lie one after the other in data: their addresses, that none faults, and what is moved.
 use Rattle.std.proofs.Common.{◌≡◌, ℕ, zero, suc, ◌+◌, ◌*◌, ◌/◌, ◌^◌, ◌<◌, List, ◌∷◌, map, None, Bool, true, false, refl, ◌∙◌, ap, arith}
 use Rattle.std.specs.Prelude.{◌||◌, replicate, IsTrue}
 use Rattle.std.specs.List.{range_with_len}
@@ -20,7 +20,7 @@ or-true : (b : Bool) → (b || true) ≡ true
 or-true true = refl
 or-true false = refl
 
--- ---- one element and those behind it
+-- ---- one element and those after it
 
 module _ (bytes : ℕ) where
   pub first-lies : (w : ElementWidth) (address others : ℕ) → LiesInData bytes w address (suc others) → IsTrue (in_data bytes address (bytes_in (size_of w)))

@@ -1,4 +1,4 @@
--- Elements that are moved four by four, one behind the other in data: that each lies there, and what four leave.
+-- Elements that are moved four by four, one after the other in data: that each lies there, and what four leave.
 use Rattle.std.proofs.Common.{◌≡◌, ℕ, zero, suc, ◌+◌, ◌-◌, ◌*◌, ◌/◌, ◌^◌, ◌<◌, ◌≤◌, List, [], ◌∷◌, length, map, true, false, refl, sym, ◌∙◌, ap, subst, arith}
 use Rattle.std.proofs.Common.{◌&&◌}
 use Rattle.std.specs.Prelude.{replicate, nat_lt, nat_le}
@@ -36,7 +36,7 @@ module _ (bytes : ℕ) (w : ElementWidth) (address others : ℕ) (some : 0 < oth
   pub behind : LiesInData bytes w (address + bytes_in (size_of w) + bytes_in (size_of w) + bytes_in (size_of w) + bytes_in (size_of w)) (4 * (others - 1))
   behind = others-lie bytes w _ _ fourth
 
--- those behind the first four
+-- those after the first four
 module _ (bytes : ℕ) (w : ElementWidth) (address others b : ℕ) (e : b ≡ bytes_in (size_of w)) (some : 0 < others) (l : LiesInData bytes w address (4 * others))
   where
     pub next-lie : LiesInData bytes w (address + 4 * b) (4 * (others - 1))

@@ -1,4 +1,4 @@
--- The field of x0 is written back to 0 behind each write.
+-- The field of x0 is written back to 0 after each write.
 use Rattle.std.proofs.Common.{◌≡◌, refl, ap, sym, ℕ, zero, suc, List, [], ◌∷◌}
 use Rattle.std.specs.Prelude.{slice_index, slice_set}
 use Rattle.hart_core.specs.HartState.{registers_after}

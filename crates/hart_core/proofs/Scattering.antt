@@ -1,4 +1,4 @@
--- Words that need not lie one behind the other: where they lie, which trap the first that can't be loaded makes, and what they leave.
+-- Words that need not lie one after the other: where they lie, which trap the first that can't be loaded makes, and what they leave.
 use Rattle.std.proofs.Common.{◌≡◌, ℕ, zero, suc, ◌+◌, ◌-◌, ◌*◌, ◌/◌, ◌%◌, ◌<◌, ◌≤◌, List, [], ◌∷◌, ◌++◌, map, take, length, true, false, refl, sym, ◌∙◌, ap}
 use Rattle.std.proofs.Common.{arith, None, Some, Option}
 use Rattle.std.specs.Prelude.{slice_index, slice_set, replicate, nat_lt, not, ◌||◌, Result, Ok, Err, IfErr, IsErrAnd}

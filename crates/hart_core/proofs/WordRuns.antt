@@ -1,4 +1,4 @@
--- Whole groups of words that lie one behind the other in data.
+-- Whole groups of words that lie one after the other in data.
 use Rattle.std.proofs.Common.{◌≡◌, ℕ, zero, suc, ◌+◌, ◌*◌, ◌/◌, ◌%◌, ◌<◌, ◌≤◌, List, [], ◌∷◌, map, length, true, false, refl, sym, ◌∙◌, ap, arith}
 use Rattle.std.proofs.Common.{◌&&◌, ◌==◌, ◌⊎◌, inl, inr, subst, Some}
 use Rattle.std.specs.Prelude.{IsTrue, slice_index, nat_lt, not, ◌||◌}
@@ -45,7 +45,7 @@ lies_first bytes base n m l lies = record {
   below = let q = lies.below in omega (arith, l, q);
 }
 
--- ---- four words at a time, and one part behind the other
+-- ---- four words at a time, and one part after the other
 
 pub words-loaded : (state : Vectors) (v part address : ℕ) (f : Access → ℕ) (words : List ℕ)
     → words ≡ f (access_at Word address) ∷ f (access_at Word (address + 4)) ∷ f (access_at Word (address + 8)) ∷ f (access_at Word (address + 12)) ∷ []

@@ -10,8 +10,8 @@ use Rattle.rv_insn.specs.declared.vector_operations.ElementWidth.{ElementWidth}
 use Rattle.rv_insn.specs.declared.vector_operations.ElementWidth.TheVariants as widths
 use Rattle.memory.specs.Access.{Size, Byte, Half, Word, Kind, NoAccess, Reads, Writes, Access, access_at}
 use Rattle.vector_unit.specs.Vector.{asked_by, configured, vector_after, scalar_given}
-use Rattle.vector_unit.specs.declared.configuration.Asked.{Asked}
-use Rattle.vector_unit.specs.declared.configuration.Asked.TheVariants.{AtMost}
+use Rattle.vector_unit.specs.declared.configuration.RequestedLength.{RequestedLength}
+use Rattle.vector_unit.specs.declared.configuration.RequestedLength.TheVariants.{AtMost}
 use Rattle.vector_unit.specs.Accesses.{addresses, loaded_by, width_in}
 use Rattle.hart_core.specs.HartState.{HartState, vectors_of, with_vectors, register, with_register, advanced, given}
 
@@ -49,7 +49,7 @@ computed_by insn hart =
     advanced (with_scalar (with_vectors hart (vector_after insn (register hart) (vectors_of hart))) (scalar_given insn (vectors_of hart)))
 
 -- a configuration, with the number of elements that it leaves in rd
-abbrev pub configured_by : HartState → ℕ → ℕ → Asked → HartState
+abbrev pub configured_by : HartState → ℕ → ℕ → RequestedLength → HartState
 configured_by hart rd vtype asked =
     given (with_vectors hart (configured (vectors_of hart) vtype asked)) rd (configured (vectors_of hart) vtype asked).vl
 

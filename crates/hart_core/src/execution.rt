@@ -68,7 +68,7 @@ impl Hart {
         }
     }
 
-    /// The same turn, which answers where the hart goes on, so that turns one behind the other hold their program
+    /// The same turn, which answers where the hart goes on, so that turns one after the other hold their program
     /// counter in a register; and its outcome, where it doesn't step.
     #[inline(always)]
     pub fn step_from<M: Bytes>(

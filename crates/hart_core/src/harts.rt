@@ -11,7 +11,7 @@ ghost use Rattle.hart_core.specs.HartState.{with_status, opening_hart, vectors_o
 
 use rv_insn::{ElementWidth, Outcome, Reg, Trap, VReg, VectorInsn};
 use std::marker::Model;
-use vector_unit::{Asked, VectorState};
+use vector_unit::{RequestedLength, VectorState};
 
 /// Whether a hart runs, or why it doesn't.
 #[derive(Clone, Copy, Debug, PartialEq, Eq)]
@@ -130,7 +130,7 @@ impl Hart {
         matches!(self.status, Status::Finished)
     }
 
-    /// Writes a register; a write to x0 is lost. That 0 is written there behind each write costs less than a test.
+    /// Writes a register; a write to x0 is lost. That 0 is written there after each write costs less than a test.
     #[tactic(auto, using(crate::proofs::Registers::x0_stays))]
     pub(crate) fn set_register(&mut self, r: Reg, value: u32)
         ensures { self.new ≡ with_register self.old r value }
@@ -192,7 +192,7 @@ impl Hart {
     }
 
     /// Configures the vector unit.
-    pub(crate) fn configure(&mut self, vtype: u32, asked: Asked) -> Result<u32, Trap>
+    pub(crate) fn configure(&mut self, vtype: u32, asked: RequestedLength) -> Result<u32, Trap>
         ensures legal { OnOk result (is_illegal_configuration (vectors_of self.old) vtype asked ≡ false) }
         ensures done { OnOk result (self.new ≡ with_vectors self.old (configured (vectors_of self.old) vtype asked)) }
         ensures vl { IfOk result (λ vl. vl ≡ (configured (vectors_of self.old) vtype asked).vl) }

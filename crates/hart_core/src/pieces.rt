@@ -1,4 +1,4 @@
-//! Loads and stores of all elements of a group that lie one behind the other in data: judged once, and moved one after
+//! Loads and stores of all elements of a group that lie one after the other in data: judged once, and moved one after
 //! the other.
 
 ghost use Rattle.std.specs.Prelude.{◌≡◌, ◌<◌, ◌≤◌, ◌+◌, ◌*◌, ◌%◌, ◌^◌, true, false, IsTrue, length, map, replicate};
@@ -23,7 +23,7 @@ pub(crate) const LAST_ADDRESSES: u32 = 0xffff_ff00;
 
 /// A group of registers as elements of a width.
 #[derive(Clone, Copy)]
-pub(crate) struct Group {
+pub(crate) struct RegisterGroup {
     pub width: ElementWidth,
     /// The first of its registers.
     pub v: VReg,
@@ -58,7 +58,7 @@ fn write_covered<M: Bytes>(width: ElementWidth, memory: &mut M, address: u32, nu
     }
 }
 
-/// Whether an access works on all elements, and they lie one behind the other, aligned, in data.
+/// Whether an access works on all elements, and they lie one after the other, aligned, in data.
 #[inline(always)]
 pub(crate) fn is_piece<M: Bytes>(
     memory: &M,
@@ -100,10 +100,10 @@ impl Hart {
         self.put_element(width, vd, index, number);
     }
 
-    /// Loads all elements of a group, which lie one behind the other in data. Where they are four, nothing goes round,
+    /// Loads all elements of a group, which lie one after the other in data. Where they are four, nothing goes round,
     /// so that where they lie is known at each, and the group needs no place in memory.
     #[inline(always)]
-    pub(crate) fn load_group<M: Bytes>(&mut self, memory: &M, group: &Group, address: u32)
+    pub(crate) fn load_group<M: Bytes>(&mut self, memory: &M, group: &RegisterGroup, address: u32)
         requires configured { has_vill (vectors_of self.old) ≡ false }
         requires lies { LiesInData (length (M.memory memory.now)) group.now.width address
             (count (vectors_of self.old)) }
@@ -121,10 +121,10 @@ impl Hart {
         }
     }
 
-    /// Loads four elements, from one whose number is a multiple of four on, which lie one behind the other in data.
+    /// Loads four elements, from one whose number is a multiple of four on, which lie one after the other in data.
     /// They stand in one register at each width.
     #[inline(always)]
-    fn load_quad<M: Bytes>(&mut self, memory: &M, group: &Group, address: u32, quad: u32)
+    fn load_quad<M: Bytes>(&mut self, memory: &M, group: &RegisterGroup, address: u32, quad: u32)
         requires few { quad < 16 }
         requires lies { LiesInData (length (M.memory memory.now)) group.now.width address 4 }
         ensures { self.new ≡ with_vectors self.old (filled_from (4 * quad) (vectors_of self.old)
@@ -132,7 +132,7 @@ impl Hart {
             (map (number_at (M.text memory.now) (M.memory memory.now))
             (accesses_at group.now.width (addresses_from group.now.width address 4)))) }
     {
-        let Group { width, v: vd } = *group;
+        let RegisterGroup { width, v: vd } = *group;
         let bytes = bytes_of(width);
         let second = address + bytes;
         let third = second + bytes;
@@ -148,7 +148,7 @@ impl Hart {
     fn load_piece<M: Bytes>(
         &mut self,
         memory: &M,
-        group: &Group,
+        group: &RegisterGroup,
         address: u32,
         quad: u32,
         others: u32,
@@ -189,13 +189,13 @@ fn store_one<M: Bytes>(
     write_covered(width, memory, address, number);
 }
 
-/// Stores all elements of a group, which are to lie one behind the other in data. Where they are four, nothing goes
+/// Stores all elements of a group, which are to lie one after the other in data. Where they are four, nothing goes
 /// round.
 #[inline(always)]
 pub(crate) fn store_group<M: Bytes>(
     memory: &mut M,
     state: &VectorState,
-    group: &Group,
+    group: &RegisterGroup,
     address: u32,
 )
     requires configured { has_vill state.now ≡ false }
@@ -216,10 +216,16 @@ pub(crate) fn store_group<M: Bytes>(
     }
 }
 
-/// Stores four elements, from one whose number is a multiple of four on, which are to lie one behind the other in
+/// Stores four elements, from one whose number is a multiple of four on, which are to lie one after the other in
 /// data.
 #[inline(always)]
-fn store_quad<M: Bytes>(memory: &mut M, state: &VectorState, group: &Group, address: u32, quad: u32)
+fn store_quad<M: Bytes>(
+    memory: &mut M,
+    state: &VectorState,
+    group: &RegisterGroup,
+    address: u32,
+    quad: u32,
+)
     requires few { quad < 16 }
     requires lies { LiesInData (length (M.memory memory.old)) group.now.width address 4 }
     ensures put { M.memory memory.new
@@ -230,7 +236,7 @@ fn store_quad<M: Bytes>(memory: &mut M, state: &VectorState, group: &Group, addr
         (range_with_len (4 * quad) 4))) }
     ensures text { M.text memory.new ≡ M.text memory.old }
 {
-    let Group { width, v: vs3 } = *group;
+    let RegisterGroup { width, v: vs3 } = *group;
     let bytes = bytes_of(width);
     let second = address + bytes;
     let third = second + bytes;
@@ -246,7 +252,7 @@ fn store_quad<M: Bytes>(memory: &mut M, state: &VectorState, group: &Group, addr
 fn store_piece<M: Bytes>(
     memory: &mut M,
     state: &VectorState,
-    group: &Group,
+    group: &RegisterGroup,
     address: u32,
     quad: u32,
     others: u32,

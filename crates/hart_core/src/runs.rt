@@ -1,4 +1,4 @@
-//! Loads and stores of whole groups of words that lie one behind the other in data: judged once, and moved a register
+//! Loads and stores of whole groups of words that lie one after the other in data: judged once, and moved a register
 //! at a time.
 
 ghost use Rattle.std.specs.Prelude.{◌≡◌, ◌<◌, ◌≤◌, ◌+◌, ◌*◌, true, false, None, length, map};
@@ -85,7 +85,7 @@ impl Hart {
         }
     }
 
-    /// Loads a whole group of words that lies in data one behind the other.
+    /// Loads a whole group of words that lies in data one after the other.
     #[inline(always)]
     pub(crate) fn load_run<M: Bytes>(&mut self, memory: &M, vd: VReg, rs1: Reg)
         requires { IsRun (length (M.memory memory.now)) (vectors_of self.old) vd (register self.old rs1) }
@@ -165,7 +165,7 @@ fn store_group_of_words<M: Bytes>(memory: &mut M, state: &VectorState, vs3: VReg
 }
 
 impl Hart {
-    /// Stores a whole group of words, one behind the other in data.
+    /// Stores a whole group of words, one after the other in data.
     #[inline(always)]
     pub(crate) fn store_run<M: Bytes>(&self, memory: &mut M, vs3: VReg, rs1: Reg)
         requires { IsRun (length (M.memory memory.old)) (vectors_of self.now) vs3 (register self.now rs1) }

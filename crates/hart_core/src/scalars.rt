@@ -94,7 +94,7 @@ impl Hart {
         }
     }
 
-    /// Writes a register, and goes on behind the program counter.
+    /// Writes a register, and goes on with the next instruction.
     #[inline(always)]
     fn give_from(&mut self, pc: u32, rd: Reg, value: u32) -> Option<u32>
         requires { pc ≡ self.old.pc }

@@ -1,4 +1,4 @@
-//! Loads of whole groups of words that need not lie one behind the other: each word is judged where it is read, and all
+//! Loads of whole groups of words that need not lie one after the other: each word is judged where it is read, and all
 //! are read before any is written.
 
 ghost use Rattle.std.specs.Prelude.{◌≡◌, ◌<◌, ◌≤◌, ◌+◌, ◌*◌, ◌%◌, ℕ, true};

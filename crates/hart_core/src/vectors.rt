@@ -14,17 +14,17 @@ ghost use Rattle.hart_core.specs.Turn.{fault, IsDone};
 
 use crate::element_accesses::{check_stores, read_numbers, write_numbers};
 use crate::harts::Hart;
-use crate::pieces::{Group, is_piece, store_group};
+use crate::pieces::{RegisterGroup, is_piece, store_group};
 use crate::runs::is_run;
 use memory::Bytes;
 use rv_insn::{Addressing, ElementWidth, Outcome, Reg, Trap, VReg, VectorInsn};
-use vector_unit::{Asked, Numbers, Spacing};
+use vector_unit::{Numbers, RequestedLength, Spacing};
 
 /// A load or store of vector registers.
 #[derive(Clone, Copy)]
 struct VectorAccess {
     /// The registers that are loaded or stored.
-    group: Group,
+    group: RegisterGroup,
     /// Whether all elements below the length are active, whatever the mask.
     vm: bool,
     /// The register that has the address from which on elements lie.
@@ -51,15 +51,15 @@ impl Hart {
     {
         match *insn {
             VectorInsn::Vsetvli { rd, rs1, vtype } => {
-                let asked = Asked::by(rd, rs1, self.register(rs1));
+                let asked = RequestedLength::by(rd, rs1, self.register(rs1));
                 self.reconfigure(rd, u32::from(vtype.value()), asked)
             }
             VectorInsn::Vsetivli { rd, length, vtype } => {
-                let asked = Asked::AtMost(u32::from(length.value()));
+                let asked = RequestedLength::AtMost(u32::from(length.value()));
                 self.reconfigure(rd, u32::from(vtype.value()), asked)
             }
             VectorInsn::Vsetvl { rd, rs1, rs2 } => {
-                let asked = Asked::by(rd, rs1, self.register(rs1));
+                let asked = RequestedLength::by(rd, rs1, self.register(rs1));
                 self.reconfigure(rd, self.register(rs2), asked)
             }
             VectorInsn::LoadElements {
@@ -135,7 +135,7 @@ impl Hart {
                 addressing,
                 vm,
             } => {
-                let access = self.access(Group { width, v: vd }, vm, rs1, addressing);
+                let access = self.access(RegisterGroup { width, v: vd }, vm, rs1, addressing);
                 self.load_vector(memory, &access)?;
             }
             VectorInsn::StoreElements {
@@ -145,7 +145,7 @@ impl Hart {
                 addressing,
                 vm,
             } => {
-                let access = self.access(Group { width, v: vs3 }, vm, rs1, addressing);
+                let access = self.access(RegisterGroup { width, v: vs3 }, vm, rs1, addressing);
                 self.store_vector(memory, &access)?;
             }
             _ => unreachable!(),
@@ -167,7 +167,7 @@ impl Hart {
     }
 
     /// Configures the vector unit, with the number of elements that it works on in `rd`.
-    fn reconfigure(&mut self, rd: Reg, vtype: u32, asked: Asked) -> Result<Outcome, Trap>
+    fn reconfigure(&mut self, rd: Reg, vtype: u32, asked: RequestedLength) -> Result<Outcome, Trap>
         ensures legal { OnOk result (is_illegal_configuration (vectors_of self.old) vtype asked ≡ false) }
         ensures hart { OnOk result (self.new ≡ configured_by self.old rd vtype asked) }
         ensures outcome { IfOk result (λ outcome. outcome ≡ Outcome.Stepped) }
@@ -247,7 +247,13 @@ impl Hart {
 
     /// A load or store of a group, from the address in `rs1` on.
     #[inline(always)]
-    fn access(&self, group: Group, vm: bool, rs1: Reg, addressing: Addressing) -> VectorAccess
+    fn access(
+        &self,
+        group: RegisterGroup,
+        vm: bool,
+        rs1: Reg,
+        addressing: Addressing,
+    ) -> VectorAccess
         ensures group { result.group ≡ group }
         ensures vm { result.vm ≡ vm }
         ensures rs1 { result.rs1 ≡ rs1 }
@@ -315,7 +321,7 @@ impl Hart {
         ensures unchanged { OnErr result (self.new ≡ self.old) }
     {
         let VectorAccess {
-            group: Group { width, v: vd },
+            group: RegisterGroup { width, v: vd },
             vm,
             rs1,
             spacing,
@@ -380,7 +386,7 @@ impl Hart {
         ensures text { M.text memory.new ≡ M.text memory.old }
     {
         let VectorAccess {
-            group: Group { width, v: vs3 },
+            group: RegisterGroup { width, v: vs3 },
             vm,
             rs1,
             spacing,

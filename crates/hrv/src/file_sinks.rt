@@ -74,7 +74,7 @@ impl<'a, R: Files> FileSink<'a, R> {
             return Ok(count);
         };
         self.draft = Some(draft);
-        if let Standing::File(permissions) = standing {
+        if let PathEntry::File(permissions) = standing {
             file.set_permissions(permissions)?;
         }
         let count = write_within(self.rt, &mut file, bytes)?;
@@ -118,7 +118,7 @@ impl<'a, R: Files> FileSink<'a, R> {
 
 /// What stands at a path.
 #[derive(Drop)]
-enum Standing {
+enum PathEntry {
     /// Nothing.
     Nothing,
     /// A regular file that may be written, with its permissions.
@@ -128,17 +128,17 @@ enum Standing {
 }
 
 /// What stands at a path. A regular file that may not be written is an error.
-fn what_stands<R: Files>(rt: &R, path: &str) -> io::Result<Standing> {
+fn what_stands<R: Files>(rt: &R, path: &str) -> io::Result<PathEntry> {
     let metadata = match fs::symlink_metadata(rt, path) {
         Ok(metadata) => metadata,
-        Err(error) if error.kind() == io::ErrorKind::NotFound => return Ok(Standing::Nothing),
+        Err(error) if error.kind() == io::ErrorKind::NotFound => return Ok(PathEntry::Nothing),
         Err(error) => return Err(error),
     };
     if !metadata.is_file() {
-        return Ok(Standing::Other);
+        return Ok(PathEntry::Other);
     }
     let _opened = OpenOptions::new().write(true).open(rt, path)?;
-    Ok(Standing::File(metadata.permissions()))
+    Ok(PathEntry::File(metadata.permissions()))
 }
 
 /// Opens what stands at a path and writes some bytes, and says how many. What it held before stays until bytes stand in
@@ -166,7 +166,7 @@ fn write_within<R: Files, F: Write + OpenFile + Seek>(
     file.write(bytes)
 }
 
-/// Cuts off what a file holds behind so many bytes. What is no regular file, as a terminal or a pipe, has no length.
+/// Cuts off what a file holds after so many bytes. What is no regular file, as a terminal or a pipe, has no length.
 fn cut<F: OpenFile>(file: &F, length: u64) -> io::Result<()> {
     if file.metadata()?.is_file() {
         file.set_len(length)?;
@@ -215,18 +215,18 @@ fn sync_folder<R: Files>(rt: &R, path: &str) -> io::Result<()> {
 const NAMES: u32 = 1_000_000;
 
 /// A new file in the folder of a path, with its own path: the first of its names that is free. It has no right that the
-/// file hasn't which stands at the path. None where that is to be written in its place: where it is no regular file, the
-/// folder takes no new file, or memory for a path is wanting.
+/// file at the path hasn't. None where that file is to be written in its place: where it is no regular file, the folder
+/// takes no new file, or memory for a path is wanting.
 fn new_beside<R: Files>(
     rt: &R,
     alloc: Global,
     path: &str,
-    standing: &Standing,
+    standing: &PathEntry,
 ) -> io::Result<Option<(R::File, String)>> {
     let mode = match standing {
-        Standing::Nothing => NEW_FILE,
-        Standing::File(permissions) => permissions.mode(),
-        Standing::Other => return Ok(None),
+        PathEntry::Nothing => NEW_FILE,
+        PathEntry::File(permissions) => permissions.mode(),
+        PathEntry::Other => return Ok(None),
     };
     for number in 0..NAMES {
         let Ok(draft) = draft_path(alloc, path, number) else {
@@ -240,7 +240,7 @@ fn new_beside<R: Files>(
         match opened {
             Ok(file) => return Ok(Some((file, draft))),
             Err(error) if error.kind() == io::ErrorKind::AlreadyExists => {}
-            Err(error) if takes_no_file(&error) && matches!(standing, Standing::File(_)) => {
+            Err(error) if takes_no_file(&error) && matches!(standing, PathEntry::File(_)) => {
                 return Ok(None);
             }
             Err(error) => return Err(error),

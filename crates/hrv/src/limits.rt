@@ -62,7 +62,7 @@ pub fn admit<R: Files, F: OpenFile + Seek>(rt: &R, file: &mut F, count: u64) -> 
     }
 }
 
-/// Lets a standard stream take so many bytes. Those of a regular file are taken to stand behind all that it has, as
+/// Lets a standard stream take so many bytes. Those of a regular file are taken to stand after all that it has, as
 /// they do where the stream appends.
 ///
 /// # Errors
@@ -83,13 +83,13 @@ pub fn admit_standard<R: Files>(rt: &R, stream: Stream, count: u64) -> io::Resul
 
 /// How many bytes a value's line has, with its end.
 pub fn line_length<D: fmt::Display>(value: &D) -> u64 {
-    let mut length = Length(0);
+    let mut length = TextLength(0);
     // It takes any text.
     let _ = length.writeln(value);
     length.0
 }
 
-/// The number behind these words in a short file, at a line's beginning: none for a limit that there isn't, and where
+/// The number after these words in a short file, at a line's beginning: none for a limit that there isn't, and where
 /// the file can't be read.
 fn number_behind<R: Files>(rt: &R, path: &str, words: &str) -> Option<u64> {
     let mut bytes = [0; MOST];
@@ -124,9 +124,9 @@ fn admit_at(most: u64, position: u64, count: u64) -> io::Result<()>
 
 /// Counts the bytes of a text.
 #[derive(Drop)]
-struct Length(u64);
+struct TextLength(u64);
 
-impl fmt::Write for Length {
+impl fmt::Write for TextLength {
     fn write_str(&mut self, text: &str) -> fmt::Result {
         self.0 = self.0.saturating_add(text.len() as u64);
         Ok(())

@@ -14,8 +14,8 @@ use Rattle.hrv_command_line.specs.CommandLine.{Maps, Renews, Replays, TellsVersi
 use Rattle.hrv_command_line.specs.CommandLine.{if_known, is_version_flag, listing_of, named, named_in, nothing_given, number_or, picture_of, read, refusal_in}
 use Rattle.hrv_command_line.specs.CommandLine.{run_from, run_of, text_of, unmarked, version_of}
 use Rattle.hrv_command_line.specs.Commands.{Shape, commands, most_harts, most_turns}
-use Rattle.hrv_command_line.specs.declared.table.Kind.TheVariants.{Flag}
-use Rattle.hrv_command_line.specs.declared.table.Need.TheVariants.{Always}
+use Rattle.hrv_command_line.specs.declared.table.OptionKind.TheVariants.{Flag}
+use Rattle.hrv_command_line.specs.declared.table.ValueCount.TheVariants.{Always}
 use Rattle.hrv_command_line.proofs.Spelling.{no_options, option_left, some_none, tell}
 
 -- ---- numbers

@@ -16,12 +16,12 @@ use Rattle.hrv_command_line.specs.CommandLine.{Asked, Assembles, Blames, Compile
 use Rattle.hrv_command_line.specs.CommandLine.{Renews, Replays, Resumes, Runs, TellsVersion, asked_of, choose, further, if_known, named, nothing_given, number_or, printed_in}
 use Rattle.hrv_command_line.specs.CommandLine.{read, text_of, with_choice, with_values}
 use Rattle.hrv_command_line.specs.Commands.{most_harts, most_turns}
-use Rattle.hrv_command_line.specs.declared.table.Kind.{Kind}
-use Rattle.hrv_command_line.specs.declared.table.Kind.TheVariants.{Flag, Harts, Turns, Word}
+use Rattle.hrv_command_line.specs.declared.table.OptionKind.{OptionKind}
+use Rattle.hrv_command_line.specs.declared.table.OptionKind.TheVariants.{Flag, Harts, Turns, Word}
 use Rattle.hrv_command_line.proofs.Spelling.{chooses, gives, some_none}
 
 abbrev Choices : Type 0
-Choices = List (Text × Kind)
+Choices = List (Text × OptionKind)
 
 -- ---- words that are read
 
@@ -47,7 +47,7 @@ all_on choices (word ∷ rest) given all =
     value_on choices word rest given all.0 ∙ all_on choices rest (with_values given (word ∷ [])) all.1
     ∙ ap (λ vs. Some (record { values = vs; choices = given.choices })) (append_assoc given.values (word ∷ []) rest)
 
--- so are all words behind the mark
+-- so are all words after the mark
 marked_on : (choices : Choices) (words : List Text) → read choices None (codes "--" ∷ words) nothing_given ≡ Some (with_values nothing_given words)
 unfolding read
 marked_on choices words = refl

@@ -5,9 +5,9 @@ use Rattle.clap.specs.Words.{Text}
 use Rattle.hrv_command_line.specs.CommandLine.{Asked, Given, asked_by, asked_of, command_named, named_in, nothing_given, read}
 use Rattle.hrv_command_line.specs.Commands.{Shape, commands}
 use Rattle.hrv_command_line.specs.declared.command_lines.Invocation.{Invocation}
-use Rattle.hrv_command_line.specs.declared.table.Kind.{Kind}
+use Rattle.hrv_command_line.specs.declared.table.OptionKind.{OptionKind}
 
-abbrev choices_in : Option Shape → Option (List (Text × Kind))
+abbrev choices_in : Option Shape → Option (List (Text × OptionKind))
 choices_in o = option_map (λ (s : Shape). s.choices) o
 
 abbrev asked_in : Text → List Text → Option Shape → Option Asked
@@ -20,7 +20,7 @@ no_command name words none = go (command_named name commands) none
     go None e = refl
     go (Some s) e = absurd (true≢false (sym (ap is_some e)))
 
-pub command_given : (name : Text) (words : List Text) (choices : List (Text × Kind)) (given : Option Given)
+pub command_given : (name : Text) (words : List Text) (choices : List (Text × OptionKind)) (given : Option Given)
     → Some choices ≡ choices_in (command_named name commands) → given ≡ read choices None words nothing_given
     → option_and_then (asked_of name) given ≡ named_in (name ∷ words)
 command_given name words choices given is gives = go (command_named name commands) is

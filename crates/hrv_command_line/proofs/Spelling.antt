@@ -9,8 +9,8 @@ use Rattle.clap.specs.Lexer.{long_of, long_of_rest, strip_byte}
 use Rattle.clap.specs.Words.{Text}
 use Rattle.hrv_command_line.specs.CommandLine.{Awaits, Chooses, Given, Gives, IsPlainWord, Marks, Meaning, Strays, choose, chosen_by, further, is_plain}
 use Rattle.hrv_command_line.specs.CommandLine.{kind_named, meaning_by, meaning_of, nothing_given, read, text_of, unmarked, with_choice, with_values}
-use Rattle.hrv_command_line.specs.declared.table.Kind.{Kind}
-use Rattle.hrv_command_line.specs.declared.table.Kind.TheVariants.{Flag}
+use Rattle.hrv_command_line.specs.declared.table.OptionKind.{OptionKind}
+use Rattle.hrv_command_line.specs.declared.table.OptionKind.TheVariants.{Flag}
 
 -- a test holds or not
 pub tell : {C : Type 0} (b : Bool) → (b ≡ true → C) → (b ≡ false → C) → C
@@ -26,7 +26,7 @@ some_is {X} {x} {y} e = ap (λ o. unwrap_or o x) e
 -- ---- the options that are read
 
 abbrev Choices : Type 0
-Choices = List (Text × Kind)
+Choices = List (Text × OptionKind)
 
 -- an option that the command has
 abbrev IsKnown : Choices → Text → Type 0
@@ -63,7 +63,7 @@ pub record Reads (choices : Choices) (awaited : Option Text) (words : List Text)
   pub none : last.choices ≡ [] → (awaited ≡ None) × (given.choices ≡ []) × (last.values ≡ given.values ++ unmarked words)
 
 -- what a word is by its kind is never the mark
-long_means : (name : Text) (text : Option Text) (kind : Option Kind) (C : Meaning → Type 0) → C Strays → ((n : Text) → name ≡ n → is_some kind ≡ true → C (Awaits n))
+long_means : (name : Text) (text : Option Text) (kind : Option OptionKind) (C : Meaning → Type 0) → C Strays → ((n : Text) → name ≡ n → is_some kind ≡ true → C (Awaits n))
     → ((n t : Text) → name ≡ n → is_some kind ≡ true → C (Chooses n t)) → C (chosen_by name text kind)
 long_means name text None C strays awaits chooses = strays
 long_means name None (Some Flag) C strays awaits chooses = chooses name [] refl refl
@@ -83,7 +83,7 @@ word_means choices None word C gives strays awaits chooses = go (is_plain word)
     go true = gives
     go false = strays
 
--- what is known of the words behind a first one
+-- what is known of the words after a first one
 abbrev Later : Choices → List Text → Given → Type 0
 Later choices rest last = (next : Option Text) (more : Given) → AreKnown choices more.choices → IsAwaited choices next → read choices next rest more ≡ Some last
     → Reads choices next rest more last
@@ -166,7 +166,7 @@ no_options words last e =
     nobody (c ∷ given) known = absurd (true≢false (sym known.0))
 
 -- and so is one with one option that isn't given
-pub option_left : (own : Text) (kind : Kind) (words : List Text) (last : Given) → read ((own, kind) ∷ []) None words nothing_given ≡ Some last
+pub option_left : (own : Text) (kind : OptionKind) (words : List Text) (last : Given) → read ((own, kind) ∷ []) None words nothing_given ≡ Some last
     → is_some (text_of own last.choices) ≡ false → last.values ≡ unmarked words
 option_left own kind words last e missing =
     let all = reads ((own, kind) ∷ []) None words nothing_given last tt tt e in

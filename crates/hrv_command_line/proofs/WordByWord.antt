@@ -7,9 +7,9 @@ use Rattle.clap.specs.Words.{Text}
 use Rattle.hrv_command_line.specs.CommandLine.{Given, Meaning, ended, further, meaning_of, read, text_of}
 use Rattle.hrv_command_line.specs.inner.Readings.{chosen_of}
 use Rattle.hrv_command_line.specs.declared.reading.Chosen.{Chosen}
-use Rattle.hrv_command_line.specs.declared.table.Kind.{Kind}
+use Rattle.hrv_command_line.specs.declared.table.OptionKind.{OptionKind}
 
-pub none_left : (choices : List (Text × Kind)) (awaited : Option Text) (words : List (Bor Text)) (given : Given) → words ≡ []
+pub none_left : (choices : List (Text × OptionKind)) (awaited : Option Text) (words : List (Bor Text)) (given : Given) → words ≡ []
     → read choices awaited (texts words) given ≡ ended awaited given
 unfolding read
 none_left choices awaited words given none = ap (λ ws. read choices awaited (texts ws) given) none
@@ -21,7 +21,7 @@ ended_by None given false e = absurd (true≢false (sym e))
 ended_by (Some name) given true e = absurd (true≢false e)
 ended_by (Some name) given false e = refl
 
-pub one_on : (choices : List (Text × Kind)) (awaited : Option Text) (words rest : List (Bor Text)) (word : Bor Text) (given : Given) (m : Meaning)
+pub one_on : (choices : List (Text × OptionKind)) (awaited : Option Text) (words rest : List (Bor Text)) (word : Bor Text) (given : Given) (m : Meaning)
     → words ≡ word ∷ rest → m ≡ meaning_of choices awaited word.now
     → read choices awaited (texts words) given ≡ further (λ next more. read choices next (texts rest) more) m word.now (texts rest) given
 unfolding read
@@ -29,7 +29,7 @@ one_on choices awaited words rest word given m split is =
     ap (λ ws. read choices awaited (texts ws) given) split
     ∙ ap (λ x. further (λ next more. read choices next (texts rest) more) x word.now (texts rest) given) (sym is)
 
--- what is read behind a word is what is read from it on
+-- what is read after a word is what is read from it on
 pub on_to : {E : Type 0} (result : Result Bool E) (here there : Option Given) (last : Given) → here ≡ there
     → IfOk result (λ b. there ≡ (if b then Some last else None)) → IfOk result (λ b. here ≡ (if b then Some last else None))
 on_to (Err e) here there last same rest = tt

@@ -16,8 +16,8 @@ use Rattle.hrv_command_line.specs.declared.command_lines.Invocation.TheVariants.
 use Rattle.hrv_command_line.specs.declared.command_lines.Invocation.TheVariants.{Replay, Resume, Run, Version}
 use Rattle.hrv_command_line.specs.declared.faults.CommandLineFault.{CommandLineFault}
 use Rattle.hrv_command_line.specs.declared.faults.CommandLineFault.TheVariants.{Refused, Memory, Unexplained}
-use Rattle.hrv_command_line.specs.declared.table.Kind.{Kind}
-use Rattle.hrv_command_line.specs.declared.table.Kind.TheVariants.{Flag}
+use Rattle.hrv_command_line.specs.declared.table.OptionKind.{OptionKind}
+use Rattle.hrv_command_line.specs.declared.table.OptionKind.TheVariants.{Flag}
 
 -- what the program may be asked for
 pub data Asked : Type 0 where
@@ -65,18 +65,18 @@ IsWithinLimits (Runs image log harts turns) = AreWithinLimits harts turns
 IsWithinLimits (Resumes image log old turns) = (1 ≤ turns) × (turns ≤ 2 ^ 40)
 IsWithinLimits _ = Unit {0}
 
--- ---- words behind a command's name
+-- ---- words after a command's name
 
 -- a word that is taken as it stands: it begins with no `-` (45), unless that is all of it
 abbrev pub is_plain : Text → Bool
 is_plain word = if is_some (strip_byte 45 word) then bytes_eq word (codes "-") else true
 
 -- the kind of the option of a name
-abbrev pub kind_named : Text → List (Text × Kind) → Option Kind
+abbrev pub kind_named : Text → List (Text × OptionKind) → Option OptionKind
 kind_named name [] = None
 kind_named name (choice ∷ choices) = if bytes_eq choice.0 name then Some choice.1 else kind_named name choices
 
--- What a word is: the mark behind which all words are values; a value; an option whose text is the next word; an option with its text, which of a flag is
+-- What a word is: the mark after which all words are values; a value; an option whose text is the next word; an option with its text, which of a flag is
 -- empty; or nothing that the command has.
 pub data Meaning : Type 0 where
   Marks : Meaning
@@ -86,19 +86,19 @@ pub data Meaning : Type 0 where
   Strays : Meaning
 
 -- `--name`, or `--name=text`
-abbrev pub chosen_by : Text → Option Text → Option Kind → Meaning
+abbrev pub chosen_by : Text → Option Text → Option OptionKind → Meaning
 chosen_by name text None = Strays
 chosen_by name None (Some Flag) = Chooses name []
 chosen_by name (Some text) (Some Flag) = Strays
 chosen_by name None (Some _) = Awaits name
 chosen_by name (Some text) (Some _) = Chooses name text
 
-abbrev pub meaning_by : List (Text × Kind) → Option (Text × Option Text) → Text → Meaning
+abbrev pub meaning_by : List (Text × OptionKind) → Option (Text × Option Text) → Text → Meaning
 meaning_by choices (Some long) word = chosen_by long.0 long.1 (kind_named long.0 choices)
 meaning_by choices None word = if is_plain word then Gives else Strays
 
--- of a word behind an option that awaits its text, and of any other one
-abbrev pub meaning_of : List (Text × Kind) → Option Text → Text → Meaning
+-- of a word after an option that awaits its text, and of any other one
+abbrev pub meaning_of : List (Text × OptionKind) → Option Text → Text → Meaning
 meaning_of choices (Some name) word = if is_plain word then Chooses name word else Strays
 meaning_of choices None word = if bytes_eq word (codes "--") then Marks else meaning_by choices (long_of word) word
 
@@ -126,7 +126,7 @@ abbrev pub choose : (Given → Option Given) → Bool → Text → Text → Give
 choose onward true name text given = None
 choose onward false name text given = onward (with_choice given name text)
 
--- how reading goes on behind a word, by what the word is
+-- how reading goes on after a word, by what the word is
 abbrev pub further : (Option Text → Given → Option Given) → Meaning → Text → List Text → Given → Option Given
 further onward Marks word rest given = Some (with_values given rest)
 further onward Gives word rest given = onward None (with_values given (word ∷ []))
@@ -140,7 +140,7 @@ ended None given = Some given
 ended (Some name) given = None
 
 -- what is given once all words are read
-unfoldable pub read : List (Text × Kind) → Option Text → List Text → Given → Option Given
+unfoldable pub read : List (Text × OptionKind) → Option Text → List Text → Given → Option Given
 read choices awaited [] given = ended awaited given
 read choices awaited (word ∷ rest) given =
     further (λ next more. read choices next rest more) (meaning_of choices awaited word) word rest given
@@ -198,14 +198,14 @@ abbrev pub files_of : (Text → Text → Asked) → List Text → Option Asked
 files_of made (first ∷ second ∷ []) = Some (made first second)
 files_of made _ = None
 
--- a family and a code, or a family alone; behind them may stand where in a text the fault is
+-- a family and a code, or a family alone; after them may stand where in a text the fault is
 abbrev pub family_in : Text → List Text → Option (Text × Text)
 family_in family [] = Some (family, [])
 family_in family (code ∷ []) = Some (family, code)
 family_in family (code ∷ line ∷ number ∷ []) = if bytes_eq line (codes "line") then Some (family, code) else None
 family_in family _ = None
 
--- behind `refused` a file's path may be of any words
+-- after `refused` a file's path may be of any words
 abbrev pub printed_in : List Text → Option (Text × Text)
 printed_in [] = None
 printed_in (family ∷ rest) = if bytes_eq family (codes "file") then Some (family, []) else family_in family rest

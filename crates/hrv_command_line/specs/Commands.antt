@@ -8,11 +8,11 @@ use Rattle.clap.specs.declared.builder.command.Command.{Command}
 use Rattle.clap.specs.declared.builder.command.Command.TheViews.{out-Command}
 use Rattle.clap.specs.declared.builder.value_parser.ValueParser.TheVariants.{Unsigned}
 use Rattle.hrv_command_line.specs.declared.table.Choice.{Choice}
-use Rattle.hrv_command_line.specs.declared.table.Kind.{Kind}
-use Rattle.hrv_command_line.specs.declared.table.Kind.TheVariants.{Flag, Harts, Turns, Word}
-use Rattle.hrv_command_line.specs.declared.table.Need.{Need}
-use Rattle.hrv_command_line.specs.declared.table.Need.TheVariants.{Always, AnyNumber, Perhaps}
-use Rattle.hrv_command_line.specs.declared.table.Row as code
+use Rattle.hrv_command_line.specs.declared.table.OptionKind.{OptionKind}
+use Rattle.hrv_command_line.specs.declared.table.OptionKind.TheVariants.{Flag, Harts, Turns, Word}
+use Rattle.hrv_command_line.specs.declared.table.ValueCount.{ValueCount}
+use Rattle.hrv_command_line.specs.declared.table.ValueCount.TheVariants.{Always, AnyNumber, Perhaps}
+use Rattle.hrv_command_line.specs.declared.table.CommandRow as code
 use Rattle.hrv_command_line.specs.declared.table.Value.{Value}
 
 -- ---- the table
@@ -27,8 +27,8 @@ most_turns = 1099511627776
 -- a command by its name, with its values in their order, and its options
 pub record Shape : Type 0 where
   pub name : Text
-  pub values : List (Text × Need)
-  pub choices : List (Text × Kind)
+  pub values : List (Text × ValueCount)
+  pub choices : List (Text × OptionKind)
 
 abbrev pub commands : List Shape
 commands =
@@ -59,32 +59,32 @@ commands =
 
 -- ---- a row of the program's table, without its words of help
 
-abbrev pub value_of : Value → Text × Need
+abbrev pub value_of : Value → Text × ValueCount
 value_of value = (value.name.now, value.need)
 
-abbrev pub choice_of : Choice → Text × Kind
+abbrev pub choice_of : Choice → Text × OptionKind
 choice_of choice = (choice.name.now, choice.kind)
 
-abbrev pub shape_of : code.Row → Shape
+abbrev pub shape_of : code.CommandRow → Shape
 shape_of row = record { name = row.name.now; values = map value_of row.values.now; choices = map choice_of row.choices.now }
 
 -- ---- what `clap` is told
 
-abbrev pub value_rule : Text × Need → Rule
+abbrev pub value_rule : Text × ValueCount → Rule
 value_rule (name, Always) = record (new_rule name) { required = true }
 value_rule (name, Perhaps) = new_rule name
 value_rule (name, AnyNumber) = record (new_rule name) { range = Some (record { start_inclusive = 0; end_inclusive = usize_max }) }
 
-abbrev pub choice_rule : Text × Kind → Rule
+abbrev pub choice_rule : Text × OptionKind → Rule
 choice_rule (name, Flag) = record (new_rule name) { long = Some name; action = Some SetTrue }
 choice_rule (name, Word) = record (new_rule name) { long = Some name; value_names = 1 }
 choice_rule (name, Harts) = record (new_rule name) { long = Some name; value_names = 1; parser = Some (Unsigned 1 most_harts) }
 choice_rule (name, Turns) = record (new_rule name) { long = Some name; value_names = 1; parser = Some (Unsigned 1 most_turns) }
 
-abbrev pub with_value : App → Text × Need → App
+abbrev pub with_value : App → Text × ValueCount → App
 with_value app value = with_rule app (value_rule value)
 
-abbrev pub with_choice : App → Text × Kind → App
+abbrev pub with_choice : App → Text × OptionKind → App
 with_choice app choice = with_rule app (choice_rule choice)
 
 abbrev pub app_by : Shape → App

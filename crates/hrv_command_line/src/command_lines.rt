@@ -10,7 +10,7 @@ use crate::asked::asked_for;
 use crate::faults::CommandLineFault;
 use crate::programs::program;
 use crate::reading::{Given, read_all};
-use crate::table::{Choice, Row, rows};
+use crate::table::{Choice, CommandRow, rows};
 use std::alloc::{AllocError, Global};
 
 /// The words that ask who wrote data: the numbers of a pixel, the address of a word, and whether turns are told of in
@@ -154,7 +154,7 @@ fn refusal(alloc: Global, words: &[&str]) -> CommandLineFault
     }
 }
 
-// What the command of a name is asked for by the words behind it.
+// What the command of a name is asked for by the words after it.
 fn named_in<'a>(
     alloc: Global,
     name: &'a str,
@@ -196,7 +196,10 @@ fn options_of(name: &str) -> Option<&'static [Choice<'static>]>
 }
 
 // The options of the command of a name in a table.
-fn choices_of(name: &str, rows: &'static [Row<'static>]) -> Option<&'static [Choice<'static>]>
+fn choices_of(
+    name: &str,
+    rows: &'static [CommandRow<'static>],
+) -> Option<&'static [Choice<'static>]>
     ensures { option_map (λ c. map choice_of c.now) result
         ≡ option_map (λ s. s.choices) (spec.command_named name.now (map shape_of rows.now)) }
 {

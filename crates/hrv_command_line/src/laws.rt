@@ -29,7 +29,7 @@ pub fn debug_is_named()
 {}
 
 /// Which words name the answer who wrote a pixel: `blame` and two names, alone or with the two numbers of a pixel
-/// behind them, with `--turns`, or with the address of a word.
+/// after them, with `--turns`, or with the address of a word.
 pub fn blame_is_named()
     ensures plain { (image log : List ℕ) → IsPlainWord image → IsPlainWord log
         → named (codes "blame" ∷ image ∷ log ∷ []) ≡ Some (Blames image log None None None false) }
@@ -51,7 +51,7 @@ pub fn asm_is_named()
 {}
 
 /// Which words name a listing: `dis` and a name, after `--` where it begins with `-`; with addresses where
-/// `--addresses` stands behind the name or before it.
+/// `--addresses` stands after the name or before it.
 pub fn dis_is_named()
     ensures plain { (image : List ℕ) → IsPlainWord image → named (codes "dis" ∷ image ∷ []) ≡ Some (Lists image) }
     ensures marked { (image : List ℕ) → named (codes "dis" ∷ codes "--" ∷ image ∷ []) ≡ Some (Lists image) }
@@ -62,7 +62,7 @@ pub fn dis_is_named()
 {}
 
 /// Which words name an explanation: `explain`, a family and a code, or a family alone, of a refusal that there is; with
-/// `refused` before them and the line of a text behind them, as a refusal is printed; or `explain` alone, which asks
+/// `refused` before them and the line of a text after them, as a refusal is printed; or `explain` alone, which asks
 /// for all families. No family is `refused`.
 pub fn explain_is_named()
     ensures both { (family code : List ℕ) → IsPlainWord family → IsPlainWord code → is_explained family code ≡ true
@@ -124,7 +124,7 @@ pub fn compile_is_named()
         ≡ Some (Compiles algorithm schedule image inputs) }
 {}
 
-/// Which words name a run: `run` and two names, after `--` where one begins with `-`; with options behind them, whose
+/// Which words name a run: `run` and two names, after `--` where one begins with `-`; with options after them, whose
 /// texts are numbers within the limits; or with the log that it goes on from.
 pub fn run_is_named()
     ensures plain { (image log : List ℕ) → IsPlainWord image → IsPlainWord log

@@ -3,7 +3,7 @@ ghost use Rattle.std.specs.Prelude.{◌≡◌, false, fold, map, IfOk};
 ghost use Rattle.clap.specs.Words.{app_of, rule_of};
 ghost use Rattle.hrv_command_line.specs.Commands as spec;
 
-use crate::table::{Choice, Kind, Need, Row, Value, rows};
+use crate::table::{Choice, CommandRow, OptionKind, Value, ValueCount, rows};
 use clap::{Arg, ArgAction, Command};
 use std::alloc::{AllocError, Global};
 
@@ -34,7 +34,7 @@ fn bare_program<'a>(alloc: Global) -> Result<Command<'a>, AllocError>
 fn with_rows<'a>(
     alloc: Global,
     command: Command<'a>,
-    rows: &'static [Row<'static>],
+    rows: &'static [CommandRow<'static>],
 ) -> Result<Command<'a>, AllocError>
     ensures { IfOk result (λ made. spec.IsLocal command.entry
         → spec.Makes (fold spec.with_command (app_of command.entry) (map spec.shape_of rows.now)) made) }
@@ -52,7 +52,7 @@ fn with_rows<'a>(
 fn with_row<'a>(
     alloc: Global,
     command: Command<'a>,
-    row: &Row<'static>,
+    row: &CommandRow<'static>,
 ) -> Result<Command<'a>, AllocError>
     ensures { IfOk result (λ made. spec.IsLocal command.entry
         → spec.Makes (spec.with_command (app_of command.entry) (spec.shape_of row.now)) made) }
@@ -63,7 +63,7 @@ fn with_row<'a>(
 
 // The command of a row.
 #[inline(never)]
-fn command_for<'a>(alloc: Global, row: &Row<'static>) -> Result<Command<'a>, AllocError>
+fn command_for<'a>(alloc: Global, row: &CommandRow<'static>) -> Result<Command<'a>, AllocError>
     ensures { IfOk result (spec.Makes (spec.app_by (spec.shape_of row.now))) }
 {
     let command = Command::new(alloc, row.name).about(row.about);
@@ -138,9 +138,9 @@ fn value_arg<'a>(alloc: Global, value: &Value<'static>) -> Arg<'a>
 {
     let arg = Arg::new(alloc, value.name).help(value.help);
     match value.need {
-        Need::Always => arg.required(true),
-        Need::Perhaps => arg,
-        Need::AnyNumber => arg.num_args(..),
+        ValueCount::Always => arg.required(true),
+        ValueCount::Perhaps => arg,
+        ValueCount::AnyNumber => arg.num_args(..),
     }
 }
 
@@ -153,12 +153,12 @@ fn choice_arg<'a>(alloc: Global, choice: &Choice<'static>) -> Arg<'a>
         .long(choice.name)
         .help(choice.help);
     match choice.kind {
-        Kind::Flag => arg.action(ArgAction::SetTrue),
-        Kind::Word => arg.value_name(choice.text),
-        Kind::Harts => arg
+        OptionKind::Flag => arg.action(ArgAction::SetTrue),
+        OptionKind::Word => arg.value_name(choice.text),
+        OptionKind::Harts => arg
             .value_name(choice.text)
             .value_parser(clap::value_parser!(u64).range(1..=8)),
-        Kind::Turns => arg
+        OptionKind::Turns => arg
             .value_name(choice.text)
             .value_parser(clap::value_parser!(u64).range(1..=1_099_511_627_776)),
     }

@@ -8,7 +8,7 @@ ghost use Rattle.hrv_command_line.specs.CommandLine as spec;
 ghost use Rattle.hrv_command_line.specs.Commands.{choice_of};
 ghost use Rattle.hrv_command_line.specs.inner.Readings.{chosen_of, given_of, meaning_as};
 
-use crate::table::{Choice, Kind};
+use crate::table::{Choice, OptionKind};
 use std::alloc::{AllocError, Global};
 
 /// An option that is given, with its text: of a flag it is empty.
@@ -26,8 +26,8 @@ pub(crate) struct Given<'a> {
 }
 
 /// What a word is.
-enum Meaning<'a> {
-    /// The mark behind which all words are values.
+enum WordMeaning<'a> {
+    /// The mark after which all words are values.
     Marks,
     /// A value.
     Gives,
@@ -56,7 +56,7 @@ pub(crate) fn read_all<'a>(
     }
 }
 
-// Reads what words give, behind an option that awaits its text or none, to what is given already. Answers whether the
+// Reads what words give, after an option that awaits its text or none, to what is given already. Answers whether the
 // command has all of them.
 fn read<'a>(
     given: &mut Given<'a>,
@@ -70,23 +70,23 @@ fn read<'a>(
     match words {
         [] => Ok(awaited.is_none()),
         [word, words @ ..] => match meaning_of(choices, awaited, word) {
-            Meaning::Marks => {
+            WordMeaning::Marks => {
                 given.add_values(words)?;
                 Ok(true)
             }
-            Meaning::Gives => {
+            WordMeaning::Gives => {
                 given.add_value(word)?;
                 read(given, choices, None, words)
             }
-            Meaning::Awaits(name) => read(given, choices, Some(name), words),
-            Meaning::Chooses(chosen) => {
+            WordMeaning::Awaits(name) => read(given, choices, Some(name), words),
+            WordMeaning::Chooses(chosen) => {
                 if text_of(chosen.name, given.choices.as_slice()).is_some() {
                     return Ok(false);
                 }
                 given.add_choice(chosen)?;
                 read(given, choices, None, words)
             }
-            Meaning::Strays => Ok(false),
+            WordMeaning::Strays => Ok(false),
         },
     }
 }
@@ -102,7 +102,7 @@ impl<'a> Given<'a> {
         }
     }
 
-    // Adds the values behind the mark.
+    // Adds the values after the mark.
     fn add_values(&mut self, words: &[&'a str]) -> Result<(), AllocError>
         ensures { OnOk result (given_of self.new ≡ with_values (given_of self.old) (texts words.now)) }
     {
@@ -143,8 +143,12 @@ pub(crate) fn text_of<'a>(name: &str, choices: &[Chosen<'a>]) -> Option<&'a str>
     }
 }
 
-// What a word is, behind an option that awaits its text or none.
-fn meaning_of<'a>(choices: &[Choice<'_>], awaited: Option<&'a str>, word: &'a str) -> Meaning<'a>
+// What a word is, after an option that awaits its text or none.
+fn meaning_of<'a>(
+    choices: &[Choice<'_>],
+    awaited: Option<&'a str>,
+    word: &'a str,
+) -> WordMeaning<'a>
     ensures { meaning_as result
         ≡ spec.meaning_of (map choice_of choices.now) (option_map (λ s. s.now) awaited.entry) word.now }
 {
@@ -152,7 +156,7 @@ fn meaning_of<'a>(choices: &[Choice<'_>], awaited: Option<&'a str>, word: &'a st
         return text_or_stray(name, word);
     }
     if word == "--" {
-        return Meaning::Marks;
+        return WordMeaning::Marks;
     }
     match long_of(word) {
         Some((name, text)) => chosen_by(name, text, kind_named(name, choices)),
@@ -160,43 +164,43 @@ fn meaning_of<'a>(choices: &[Choice<'_>], awaited: Option<&'a str>, word: &'a st
     }
 }
 
-// A word behind an option that awaits its text.
-fn text_or_stray<'a>(name: &'a str, word: &'a str) -> Meaning<'a>
+// A word after an option that awaits its text.
+fn text_or_stray<'a>(name: &'a str, word: &'a str) -> WordMeaning<'a>
     ensures { meaning_as result ≡ (if spec.is_plain word.now then spec.Chooses name.now word.now
         else spec.Strays) }
 {
     if is_plain(word) {
-        Meaning::Chooses(Chosen { name, text: word })
+        WordMeaning::Chooses(Chosen { name, text: word })
     } else {
-        Meaning::Strays
+        WordMeaning::Strays
     }
 }
 
 // A word that is no option.
-fn value_or_stray<'a>(word: &'a str) -> Meaning<'a>
+fn value_or_stray<'a>(word: &'a str) -> WordMeaning<'a>
     ensures { meaning_as result ≡ (if spec.is_plain word.now then spec.Gives else spec.Strays) }
 {
     if is_plain(word) {
-        Meaning::Gives
+        WordMeaning::Gives
     } else {
-        Meaning::Strays
+        WordMeaning::Strays
     }
 }
 
 // What an option and the text in its word are, by the option's kind.
-fn chosen_by<'a>(name: &'a str, text: Option<&'a str>, kind: Option<Kind>) -> Meaning<'a>
+fn chosen_by<'a>(name: &'a str, text: Option<&'a str>, kind: Option<OptionKind>) -> WordMeaning<'a>
     ensures { meaning_as result ≡ spec.chosen_by name.now (option_map (λ s. s.now) text.entry) kind }
 {
     match (kind, text) {
-        (Some(Kind::Flag), None) => Meaning::Chooses(Chosen { name, text: "" }),
-        (None, _) | (Some(Kind::Flag), Some(_)) => Meaning::Strays,
-        (Some(_), None) => Meaning::Awaits(name),
-        (Some(_), Some(text)) => Meaning::Chooses(Chosen { name, text }),
+        (Some(OptionKind::Flag), None) => WordMeaning::Chooses(Chosen { name, text: "" }),
+        (None, _) | (Some(OptionKind::Flag), Some(_)) => WordMeaning::Strays,
+        (Some(_), None) => WordMeaning::Awaits(name),
+        (Some(_), Some(text)) => WordMeaning::Chooses(Chosen { name, text }),
     }
 }
 
 // The kind of the option of a name.
-fn kind_named(name: &str, choices: &[Choice<'_>]) -> Option<Kind>
+fn kind_named(name: &str, choices: &[Choice<'_>]) -> Option<OptionKind>
     ensures { result ≡ spec.kind_named name.now (map choice_of choices.now) }
 {
     match choices {
@@ -239,7 +243,7 @@ fn long_of(word: &str) -> Option<(&str, Option<&str>)>
     Some(name_and_text(rest))
 }
 
-// What stands before the first `=`, and what stands behind it if there is one.
+// What stands before the first `=`, and what stands after it if there is one.
 fn name_and_text(text: &str) -> (&str, Option<&str>)
     ensures { (result.0.now, option_map (λ s. s.now) result.1) ≡ name_and_value text.now }
 {

@@ -5,7 +5,7 @@ ghost use Rattle.hrv_command_line.specs.Commands as spec;
 
 /// How many words a value of a command takes.
 #[derive(Clone, Copy)]
-pub enum Need {
+pub enum ValueCount {
     /// One.
     Always,
     /// One, or none.
@@ -14,9 +14,9 @@ pub enum Need {
     AnyNumber,
 }
 
-/// What stands behind the name of an option.
+/// What stands after the name of an option.
 #[derive(Clone, Copy)]
-pub enum Kind {
+pub enum OptionKind {
     /// Nothing.
     Flag,
     /// A word.
@@ -27,11 +27,11 @@ pub enum Kind {
     Turns,
 }
 
-/// A value, named by its place behind the command's name.
+/// A value, named by its place after the command's name.
 #[derive(Clone, Copy)]
 pub struct Value<'a> {
     pub name: &'a str,
-    pub need: Need,
+    pub need: ValueCount,
     pub help: &'a str,
 }
 
@@ -39,7 +39,7 @@ pub struct Value<'a> {
 #[derive(Clone, Copy)]
 pub struct Choice<'a> {
     pub name: &'a str,
-    pub kind: Kind,
+    pub kind: OptionKind,
     /// What help calls its text.
     pub text: &'a str,
     pub help: &'a str,
@@ -47,7 +47,7 @@ pub struct Choice<'a> {
 
 /// A command.
 #[derive(Clone, Copy)]
-pub struct Row<'a> {
+pub struct CommandRow<'a> {
     pub name: &'a str,
     pub about: &'a str,
     pub values: &'a [Value<'a>],
@@ -56,225 +56,225 @@ pub struct Row<'a> {
 
 const ALGORITHM: Value<'static> = Value {
     name: "ALGORITHM",
-    need: Need::Always,
+    need: ValueCount::Always,
     help: "The algorithm's text",
 };
 
 const INPUTS: Value<'static> = Value {
     name: "INPUT",
-    need: Need::AnyNumber,
+    need: ValueCount::AnyNumber,
     help: "The inputs' pictures, in the order of the algorithm's lines",
 };
 
-const ROWS: [Row<'static>; 12] = [
-    Row {
+const ROWS: [CommandRow<'static>; 12] = [
+    CommandRow {
         name: "picture",
         about: "Draws the picture that an algorithm defines",
         values: &[ALGORITHM, INPUTS],
         choices: &[],
     },
-    Row {
+    CommandRow {
         name: "compile",
         about: "Compiles an algorithm under a schedule and stores the image",
         values: &[
             ALGORITHM,
             Value {
                 name: "SCHEDULE",
-                need: Need::Always,
+                need: ValueCount::Always,
                 help: "The schedule's text, which changes speed and never pixels",
             },
             Value {
                 name: "IMAGE",
-                need: Need::Always,
+                need: ValueCount::Always,
                 help: "The file that the image is stored in",
             },
             INPUTS,
         ],
         choices: &[],
     },
-    Row {
+    CommandRow {
         name: "map",
         about: "Says where the data and the code of a compiled image lie, a fact a line",
         values: &[
             ALGORITHM,
             Value {
                 name: "SCHEDULE",
-                need: Need::Always,
+                need: ValueCount::Always,
                 help: "The schedule's text",
             },
         ],
         choices: &[],
     },
-    Row {
+    CommandRow {
         name: "run",
         about: "Runs an image by threads, a thread a hart, and stores the log of their turns",
         values: &[
             Value {
                 name: "IMAGE",
-                need: Need::Always,
+                need: ValueCount::Always,
                 help: "The image that is run",
             },
             Value {
                 name: "LOG",
-                need: Need::Always,
+                need: ValueCount::Always,
                 help: "The file that the log of all turns is stored in",
             },
         ],
         choices: &[
             Choice {
                 name: "harts",
-                kind: Kind::Harts,
+                kind: OptionKind::Harts,
                 text: "N",
                 help: "How many harts run, 1 to 8: one where it isn't given",
             },
             Choice {
                 name: "turns",
-                kind: Kind::Turns,
+                kind: OptionKind::Turns,
                 text: "L",
                 help: "How many turns each hart makes at most, 1 to 1099511627776: that many where it isn't given",
             },
             Choice {
                 name: "from",
-                kind: Kind::Word,
+                kind: OptionKind::Word,
                 text: "OLD",
                 help: "The log that the run goes on from, with as many harts as that log has",
             },
         ],
     },
-    Row {
+    CommandRow {
         name: "replay",
         about: "Runs an image once more, turn by turn as the log says",
         values: &[
             Value {
                 name: "IMAGE",
-                need: Need::Always,
+                need: ValueCount::Always,
                 help: "The image that is run",
             },
             Value {
                 name: "LOG",
-                need: Need::Always,
+                need: ValueCount::Always,
                 help: "The log of the turns that harts make",
             },
         ],
         choices: &[],
     },
-    Row {
+    CommandRow {
         name: "debug",
         about: "Answers questions about an image and a log, asked on standard input",
         values: &[
             Value {
                 name: "IMAGE",
-                need: Need::Always,
+                need: ValueCount::Always,
                 help: "The image that is asked about",
             },
             Value {
                 name: "LOG",
-                need: Need::Always,
+                need: ValueCount::Always,
                 help: "The log of its turns",
             },
         ],
         choices: &[],
     },
-    Row {
+    CommandRow {
         name: "blame",
         about: "Says which turn of a log wrote a pixel last, or which hart wrote each",
         values: &[
             Value {
                 name: "IMAGE",
-                need: Need::Always,
+                need: ValueCount::Always,
                 help: "The image that was run",
             },
             Value {
                 name: "LOG",
-                need: Need::Always,
+                need: ValueCount::Always,
                 help: "The log of its turns",
             },
             Value {
                 name: "X",
-                need: Need::Perhaps,
+                need: ValueCount::Perhaps,
                 help: "The column of a pixel; without X and Y all pixels are told of",
             },
             Value {
                 name: "Y",
-                need: Need::Perhaps,
+                need: ValueCount::Perhaps,
                 help: "The row of that pixel",
             },
         ],
         choices: &[
             Choice {
                 name: "address",
-                kind: Kind::Word,
+                kind: OptionKind::Word,
                 text: "A",
                 help: "A word of data, by its address, in place of a pixel",
             },
             Choice {
                 name: "turns",
-                kind: Kind::Flag,
+                kind: OptionKind::Flag,
                 text: "",
                 help: "Gives for each pixel the number of the turn, modulo 2147483648, in place of its hart",
             },
         ],
     },
-    Row {
+    CommandRow {
         name: "asm",
         about: "Assembles a text and stores the image",
         values: &[
             Value {
                 name: "SOURCE",
-                need: Need::Always,
+                need: ValueCount::Always,
                 help: "The assembly text",
             },
             Value {
                 name: "IMAGE",
-                need: Need::Always,
+                need: ValueCount::Always,
                 help: "The file that the image is stored in",
             },
         ],
         choices: &[],
     },
-    Row {
+    CommandRow {
         name: "dis",
         about: "Prints a line for each word of an image's text",
         values: &[Value {
             name: "IMAGE",
-            need: Need::Always,
+            need: ValueCount::Always,
             help: "The image whose text is listed",
         }],
         choices: &[Choice {
             name: "addresses",
-            kind: Kind::Flag,
+            kind: OptionKind::Flag,
             text: "",
             help: "Ends each line in a comment with its address",
         }],
     },
-    Row {
+    CommandRow {
         name: "renew",
         about: "Stores an image in the newest format",
         values: &[
             Value {
                 name: "OLD",
-                need: Need::Always,
+                need: ValueCount::Always,
                 help: "An image of either format",
             },
             Value {
                 name: "NEW",
-                need: Need::Always,
+                need: ValueCount::Always,
                 help: "The file that it is stored in; it may be OLD",
             },
         ],
         choices: &[],
     },
-    Row {
+    CommandRow {
         name: "explain",
         about: "Says what a refusal means, and what helps: `hrv explain load 2`",
         values: &[Value {
             name: "REFUSAL",
-            need: Need::AnyNumber,
+            need: ValueCount::AnyNumber,
             help: "A refusal as it is printed, or its family and code; without it all families are listed",
         }],
         choices: &[],
     },
-    Row {
+    CommandRow {
         name: "version",
         about: "Prints the version of the program, and the logic that it is proved in, as --version does",
         values: &[],
@@ -283,7 +283,7 @@ const ROWS: [Row<'static>; 12] = [
 ];
 
 /// All commands, in the order in which help lists them.
-pub fn rows() -> &'static [Row<'static>]
+pub fn rows() -> &'static [CommandRow<'static>]
     ensures { map spec.shape_of result.now ≡ spec.commands }
 {
     &ROWS

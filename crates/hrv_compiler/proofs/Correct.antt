@@ -8,8 +8,8 @@ use Rattle.hart_core.specs.declared.harts.Status.TheVariants.{Finished}
 use Rattle.hart_core.specs.HartState.{HartState}
 use Rattle.multi_hart.specs.Run.{all_finished, State, run}
 use Rattle.multi_hart.proofs.TurnByTurn.{shape-run}
-use Rattle.multi_hart_logic.specs.Paths.{Stand}
-use Rattle.multi_hart_logic.specs.Uses.{Fixed, Owned}
+use Rattle.multi_hart_laws.specs.Paths.{Stand}
+use Rattle.multi_hart_laws.specs.Uses.{Fixed, Owned}
 use Rattle.halide_pipeline.specs.declared.expressions.Source.TheVariants as sources
 use Rattle.halide_pipeline.specs.WellFormed.{is_width, is_height}
 use Rattle.halide_pipeline.specs.Contents.{PictureContents}
@@ -18,19 +18,19 @@ use Rattle.bounds_ranges.specs.Laws.{AnswerWords}
 use Rattle.loop_ir.specs.declared.statements.Phase.{Phase}
 use Rattle.loader.specs.Image.{ImageContents}
 use Rattle.picture.specs.Evaluated.{judged}
-use Rattle.task_code_scalar.specs.declared.places.Places.{Places}
-use Rattle.vector_codegen_sharing.specs.Phases.{Phase as SharedPhase}
-use Rattle.vector_codegen_sharing.specs.Programs.{Program, Opens}
-use Rattle.vector_codegen_sharing.specs.Fairness.{enough_rounds}
-use Rattle.vector_codegen_sharing.specs.Promises.{WrittenAs as SharedWrittenAs}
-use Rattle.vector_codegen_sharing.specs.Turns.{OnlyBy, Waits, Race, control_words, last_writer}
-use Rattle.vector_codegen_sharing.specs.Solo.{TaskWrites}
-use Rattle.vector_codegen_sharing.proofs.Assignments.{every-assignment}
-use Rattle.vector_codegen_sharing.proofs.Gates.{gate-once}
-use Rattle.vector_codegen_sharing.proofs.Races.{never-races}
-use Rattle.vector_codegen_sharing.proofs.Fair.{can-finish, fair-ends, gates-grow}
-use Rattle.vector_codegen_sharing.proofs.Results.{never-traps, one-result}
-use Rattle.vector_codegen_sharing.proofs.Single.{alone-stops}
+use Rattle.task_code_scalar.specs.declared.layouts.Places.{Places}
+use Rattle.work_sharing.specs.Phases.{Phase as SharedPhase}
+use Rattle.work_sharing.specs.Programs.{Program, Opens}
+use Rattle.work_sharing.specs.Fairness.{enough_rounds}
+use Rattle.work_sharing.specs.Promises.{WrittenAs as SharedWrittenAs}
+use Rattle.work_sharing.specs.Turns.{OnlyBy, Waits, Race, control_words, last_writer}
+use Rattle.work_sharing.specs.Solo.{TaskWrites}
+use Rattle.work_sharing.proofs.Assignments.{every-assignment}
+use Rattle.work_sharing.proofs.Gates.{gate-once}
+use Rattle.work_sharing.proofs.Races.{never-races}
+use Rattle.work_sharing.proofs.Fair.{can-finish, fair-ends, gates-grow}
+use Rattle.work_sharing.proofs.Results.{never-traps, one-result}
+use Rattle.work_sharing.proofs.Single.{alone-stops}
 use Rattle.vector_codegen.specs.PhaseCode.{Part, program}
 use Rattle.vector_codegen.specs.Sharing.{phase}
 use Rattle.vector_codegen.proofs.Sharing.{programs-share}

@@ -6,9 +6,9 @@ use Rattle.halide_pipeline.specs.declared.definitions.Func.{Func}
 use Rattle.halide_pipeline.specs.Pipelines.{Pipeline}
 use Rattle.schedule.specs.declared.plans.FuncPlan.{FuncPlan}
 use Rattle.schedule.specs.declared.schedules.Schedule.{Schedule}
-use Rattle.schedule.specs.declared.standings.Place.{Place}
-use Rattle.schedule.specs.declared.standings.Place.TheVariants as places
-use Rattle.schedule.specs.declared.standings.Standing.{Standing}
+use Rattle.schedule.specs.declared.placements.ComputeLevel.{ComputeLevel}
+use Rattle.schedule.specs.declared.placements.ComputeLevel.TheVariants as places
+use Rattle.schedule.specs.declared.placements.FuncPlacement.{FuncPlacement}
 use Rattle.schedule.specs.Accepted.{IsAccepted, IsPlan}
 use Rattle.schedule.specs.Uses.{IsReached}
 use Rattle.bounds.specs.declared.boxes.SourceBox.{SourceBox}
@@ -37,25 +37,25 @@ total-next (suc n) g = let rest = total-next n (λ k. g (suc k)) in omega (arith
 
 -- ---- the phases of a place
 
-abbrev count_at : Option Standing → Option Func → Option (Option SourceBox) → ℕ
+abbrev count_at : Option FuncPlacement → Option Func → Option (Option SourceBox) → ℕ
 count_at None func own = 0
 count_at (Some standing) None own = 0
 count_at (Some standing) (Some func) None = 0
 count_at (Some standing) (Some func) (Some own) = phases_of standing.place func own
 
-abbrev counts : List Standing → List Func → List (Option SourceBox) → ℕ → ℕ
+abbrev counts : List FuncPlacement → List Func → List (Option SourceBox) → ℕ → ℕ
 counts standings funcs boxes k = count_at (slice_get standings k) (slice_get funcs k) (slice_get boxes k)
 
-no-func : (standing : Option Standing) (own : Option (Option SourceBox)) → count_at standing None own ≡ 0
+no-func : (standing : Option FuncPlacement) (own : Option (Option SourceBox)) → count_at standing None own ≡ 0
 no-func None own = refl
 no-func (Some standing) own = refl
 
-no-box : (standing : Option Standing) (func : Option Func) → count_at standing func None ≡ 0
+no-box : (standing : Option FuncPlacement) (func : Option Func) → count_at standing func None ≡ 0
 no-box None func = refl
 no-box (Some standing) None = refl
 no-box (Some standing) (Some func) = refl
 
-counted-all : (standings : List Standing) (funcs : List Func) (boxes : List (Option SourceBox)) (n : ℕ) → length funcs ≤ n
+counted-all : (standings : List FuncPlacement) (funcs : List Func) (boxes : List (Option SourceBox)) (n : ℕ) → length funcs ≤ n
     → phases standings funcs boxes ≡ total n (counts standings funcs boxes)
 counted-all [] funcs boxes n l = sym (total-zero n (counts [] funcs boxes) (λ k. refl))
 counted-all (standing ∷ standings) [] boxes n l = sym (total-zero n (counts (standing ∷ standings) [] boxes) (λ k. no-func (slice_get (standing ∷ standings) k)
@@ -72,7 +72,7 @@ module _ (pipeline : Pipeline) (schedule : Schedule) (boxes : Boxes) (accepted :
     at_place = counts schedule.standings pipeline.funcs boxes.funcs
 
     -- a Func at root that has a box is reached
-    root-with-box : (place : ℕ) (standing : Standing) (func : Func) (own : SourceBox) → slice_get schedule.standings place ≡ Some standing
+    root-with-box : (place : ℕ) (standing : FuncPlacement) (func : Func) (own : SourceBox) → slice_get schedule.standings place ≡ Some standing
         → slice_get pipeline.funcs place ≡ Some func
         → slice_get boxes.funcs place ≡ Some (Some own) → standing.place ≡ places.Root → IsNotAtRoot pipeline schedule boxes place → ⊥
     root-with-box place standing func own s f b root none =
@@ -91,7 +91,7 @@ module _ (pipeline : Pipeline) (schedule : Schedule) (boxes : Boxes) (accepted :
     passed-by : (place : ℕ) → IsNotAtRoot pipeline schedule boxes place → at_place place ≡ 0
     passed-by place none = by_all (slice_get schedule.standings place) (slice_get pipeline.funcs place) (slice_get boxes.funcs place) refl refl refl
       where
-        by_box : (standing : Standing) (func : Func) (own : Option SourceBox) (at : Place) → slice_get schedule.standings place ≡ Some standing
+        by_box : (standing : FuncPlacement) (func : Func) (own : Option SourceBox) (at : ComputeLevel) → slice_get schedule.standings place ≡ Some standing
             → slice_get pipeline.funcs place ≡ Some func
             → slice_get boxes.funcs place ≡ Some own → standing.place ≡ at → phases_of at func own ≡ 0
         by_box standing func None places.Root s f b p = refl
@@ -100,7 +100,7 @@ module _ (pipeline : Pipeline) (schedule : Schedule) (boxes : Boxes) (accepted :
         by_box standing func own (places.At at) s f b p = refl
         by_box standing func own places.Nowhere s f b p = refl
 
-        by_all : (standing : Option Standing) (func : Option Func) (own : Option (Option SourceBox)) → slice_get schedule.standings place ≡ standing
+        by_all : (standing : Option FuncPlacement) (func : Option Func) (own : Option (Option SourceBox)) → slice_get schedule.standings place ≡ standing
             → slice_get pipeline.funcs place ≡ func
             → slice_get boxes.funcs place ≡ own → count_at standing func own ≡ 0
         by_all None func own s f b = refl
@@ -119,10 +119,10 @@ module _ (pipeline : Pipeline) (schedule : Schedule) (boxes : Boxes) (accepted :
     at-root : (place : ℕ) (func : Func) (plan : FuncPlan) (own : SourceBox) → IsAtRoot pipeline schedule boxes place func plan own
         → at_place place ≡ length func.updates + 1
     at-root place func plan own root =
-        ap (λ (s : Option Standing). count_at s (slice_get pipeline.funcs place) (slice_get boxes.funcs place)) root.there.standing
+        ap (λ (s : Option FuncPlacement). count_at s (slice_get pipeline.funcs place) (slice_get boxes.funcs place)) root.there.standing
         ∙ (ap (λ (f : Option Func). count_at (Some root.standing) f (slice_get boxes.funcs place)) root.func_is
         ∙ (ap (λ (b : Option (Option SourceBox)). count_at (Some root.standing) (Some func) b) root.box_is
-        ∙ ap (λ (p : Place). phases_of p func (Some own)) root.placed_is))
+        ∙ ap (λ (p : ComputeLevel). phases_of p func (Some own)) root.placed_is))
 
     lowered-long : (count : ℕ) (made : List Phase) → AreLowered pipeline schedule boxes count made → length made ≡ total count at_place
     lowered-long _ _ No_func = refl

@@ -27,7 +27,7 @@ zeros zero i = refl
 zeros (suc n) zero = refl
 zeros (suc n) (suc i) = zeros n i
 
--- behind a list stand zeros
+-- after a list stand zeros
 pub before-zeros : (xs : List ℕ) (n i : ℕ) → i < length xs → slice_index (xs ++ replicate n 0) i ≡ slice_index xs i
 before-zeros xs n i l = get_or_append_left xs (replicate n 0) 0 i l
 
@@ -58,7 +58,7 @@ words-at (pixel ∷ pixels) n l = elim (cases_lt n 4) [
 
 -- ---- one picture
 
--- a pixel by its number, and 0 behind the last
+-- a pixel by its number, and 0 after the last
 module _ (picture : PictureContents) (rules : IsPicture picture) (n : ℕ) where
   shape : ((is_width picture.width && is_height picture.width picture.height) ≡ true) × ((length picture.pixels == picture.width * picture.height) ≡ true)
   shape = and_parts (is_width picture.width && is_height picture.width picture.height) (length picture.pixels == picture.width * picture.height) rules.limits
@@ -154,7 +154,7 @@ module _ (input : Input) (picture : PictureContents) (rules : IsPicture picture)
 
 -- ---- all inputs
 
--- what is found at a byte behind the control words: of an input, or 0
+-- what is found at a byte after the control words: of an input, or 0
 abbrev pub found_byte : List Input → Planes → Option Found → ℕ
 found_byte all inputs None = 0
 found_byte all inputs (Some found) = input_byte (slice_get all found.place) found.place inputs found.offset

@@ -3,7 +3,7 @@ use Rattle.std.proofs.Common.{◌≡◌, ℕ, ◌+◌, ◌*◌, ◌<◌, List, O
 use Rattle.std.specs.Prelude.{slice_get, slice_index}
 use Rattle.halide_pipeline.specs.declared.expressions.Source.TheVariants as sources
 use Rattle.schedule_lines.specs.declared.stages.Stage.{Stage}
-use Rattle.schedule.specs.declared.standings.Place.{Place as Standpoint}
+use Rattle.schedule.specs.declared.placements.ComputeLevel.{ComputeLevel as Standpoint}
 use Rattle.schedule_loops.specs.declared.extents.Extents.{Extents}
 use Rattle.bounds.specs.declared.boxes.SourceBox.{SourceBox}
 use Rattle.bounds.specs.declared.layout.Layout.{Layout}
@@ -56,7 +56,7 @@ module _ (own : CompiledContents) (rules : IsHeld own) (func : ℕ) (root : Root
       → IsOneRun (address_at own.pipeline own.schedule own.boxes.funcs 0 (sources.Func func)) extents stage written
       → IsOneRun (point_address own.boxes func) extents stage written
   same-run extents stage written one = record {
-    turns = one.turns;
+    iterations = one.iterations;
     are = one.are;
     all = λ x y byte visited small. ap (λ (a : ℕ). is_in (a + byte) written) (sym (lies x y)) ∙ one.all x y byte visited small;
     no_other = λ place there.

@@ -44,7 +44,7 @@ byte-small n (suc (suc zero)) = omega arith
 byte-small n (suc (suc (suc zero))) = omega arith
 byte-small n (suc (suc (suc (suc k)))) = omega arith
 
--- ---- zeros behind the inputs
+-- ---- zeros after the inputs
 
 module _ (all : List Input) (boxes : List (Option SourceBox)) (inputs : Planes) where
   abbrev holds_at : Part → ℕ

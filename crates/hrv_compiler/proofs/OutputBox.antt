@@ -12,13 +12,13 @@ use Rattle.halide_pipeline.specs.WellFormed.{IsWellFormed, is_func_of, is_width,
 use Rattle.halide_pipeline.specs.Pixel.{Planes, reads_of, pixels}
 use Rattle.schedule.specs.declared.plans.FuncPlan.{FuncPlan}
 use Rattle.schedule.specs.declared.schedules.Schedule.{Schedule}
-use Rattle.schedule.specs.declared.standings.Place.{Place}
-use Rattle.schedule.specs.declared.standings.Place.TheVariants as places
-use Rattle.schedule.specs.declared.standings.Standing.{Standing}
+use Rattle.schedule.specs.declared.placements.ComputeLevel.{ComputeLevel}
+use Rattle.schedule.specs.declared.placements.ComputeLevel.TheVariants as places
+use Rattle.schedule.specs.declared.placements.FuncPlacement.{FuncPlacement}
 use Rattle.schedule.specs.Accepted.{IsAccepted, IsPlan}
 use Rattle.schedule.specs.Legal.{is_inlined}
-use Rattle.schedule.specs.Standing as standing
-use Rattle.schedule.specs.Standing.{standings_from}
+use Rattle.schedule.specs.Placements as standing
+use Rattle.schedule.specs.Placements.{standings_from}
 use Rattle.schedule.proofs.Uses.{IsSome, output_standing, standing_some}
 use Rattle.bounds_ranges.specs.Laws.{Lies, AnswerWords}
 use Rattle.bounds_ranges.specs.Numbers.{origin}
@@ -51,14 +51,14 @@ record IsPlaced (start end : ℕ) (found : Option ℕ) (size : ℕ) : Type 0 whe
   pub above : start ≤ at
   pub within : at + size ≤ end
 
-whole_root : (place : Place) (own : Option SourceBox) → root_bytes place own % 4 ≡ 0
+whole_root : (place : ComputeLevel) (own : Option SourceBox) → root_bytes place own % 4 ≡ 0
 whole_root places.Root None = refl
 whole_root places.Root (Some own) = omega arith
 whole_root places.Inlined own = refl
 whole_root (places.At at) own = refl
 whole_root places.Nowhere own = refl
 
-root_at : (start : ℕ) (standings : List Standing) (boxes : List (Option SourceBox)) (place : ℕ) (standing : Standing) (own : Option SourceBox) → start % 4 ≡ 0
+root_at : (start : ℕ) (standings : List FuncPlacement) (boxes : List (Option SourceBox)) (place : ℕ) (standing : FuncPlacement) (own : Option SourceBox) → start % 4 ≡ 0
     → slice_get standings place ≡ Some standing → slice_get boxes place ≡ Some own
     → IsPlaced start (start + total (root_sizes standings boxes)) (slice_get (placed start (root_sizes standings boxes)) place) (root_bytes standing.place own)
 root_at start [] boxes place standing own aligned s b = absurd cc
@@ -66,7 +66,7 @@ root_at start (first ∷ standings) [] place standing own aligned s b = absurd c
 root_at start (first ∷ standings) (one ∷ boxes) zero standing own aligned s b =
     let same : first ≡ standing = cc in
     let like : one ≡ own = cc in
-    let size : root_bytes standing.place own ≡ root_bytes first.place one = sym (ap (λ (t : Standing). root_bytes t.place one) same
+    let size : root_bytes standing.place own ≡ root_bytes first.place one = sym (ap (λ (t : FuncPlacement). root_bytes t.place one) same
     ∙ ap (root_bytes standing.place) like) in
     record { at = start; is = refl; aligned = aligned; above = omega arith; within = omega (arith, size) }
 root_at start (first ∷ standings) (one ∷ boxes) (suc place) standing own aligned s b =
@@ -151,11 +151,11 @@ module _ (pipeline : Pipeline) (schedule : Schedule) (boxes : Boxes) (rules : Is
   own_standing =
       let drawn = drawn_func (slice_get pipeline.funcs output) pipeline.output.dimensions rules.drawn in
       let plan = pair_there IsPlan pipeline.funcs schedule.funcs output drawn.value accepted.plans drawn.is in
-      subst (λ (l : List Standing). IsSome (slice_get l output)) (sym all_standings) (standing_some pipeline schedule.funcs 0 schedule.funcs output plan.value
+      subst (λ (l : List FuncPlacement). IsSome (slice_get l output)) (sym all_standings) (standing_some pipeline schedule.funcs 0 schedule.funcs output plan.value
       plan.is)
 
   known : (own_standing.value.is_reached ≡ true) × (own_standing.value.place ≡ places.Root)
-  known = output_standing pipeline schedule.funcs own_standing.value (ap (λ (l : List Standing). slice_get l output) (sym all_standings) ∙ own_standing.is)
+  known = output_standing pipeline schedule.funcs own_standing.value (ap (λ (l : List FuncPlacement). slice_get l output) (sym all_standings) ∙ own_standing.is)
 
   output_computed : is_put_in (slice_get schedule.standings output) ≡ false
   output_computed = ap is_put_in own_standing.is ∙ (ap (λ (b : Bool). b && is_inlined own_standing.value.place) known.0 ∙ ap is_inlined known.1)
@@ -203,12 +203,12 @@ module _ (pipeline : Pipeline) (schedule : Schedule) (boxes : Boxes) (rules : Is
   lasts_none =
       let b = has_box pipeline schedule boxes accepted is output box_found.own box_found.is in
       let same : b.standing ≡ own_standing.value = let p = b.there.standing in let q = own_standing.is in cc in
-      b.lasts ∙ (ap (λ (t : Standing). lasts_of (consumer_in schedule boxes.funcs t.place)) same
-      ∙ ap (λ (p : Place). lasts_of (consumer_in schedule boxes.funcs p)) known.1)
+      b.lasts ∙ (ap (λ (t : FuncPlacement). lasts_of (consumer_in schedule boxes.funcs t.place)) same
+      ∙ ap (λ (p : ComputeLevel). lasts_of (consumer_in schedule boxes.funcs p)) known.1)
 
   rules_of : IsBox box_found.own
   rules_of =
-      (boxes_are_produced pipeline schedule boxes is output own_standing.value own_standing.is known.0 (subst (λ (p : Place). IsComputed output p) (sym known.1)
+      (boxes_are_produced pipeline schedule boxes is output own_standing.value own_standing.is known.0 (subst (λ (p : ComputeLevel). IsComputed output p) (sym known.1)
       tt) box_found.own box_found.is).box
 
   module _ (x y : ℕ) (inside_x : x < pipeline.output.width) (inside_y : y < pipeline.output.height) where
@@ -258,7 +258,7 @@ module _ (pipeline : Pipeline) (schedule : Schedule) (boxes : Boxes) (rules : Is
   placed_in = root_at roots_start schedule.standings boxes.funcs output own_standing.value (Some box_found.own) start_aligned own_standing.is box_found.is
 
   size_is : root_bytes own_standing.value.place (Some box_found.own) ≡ points box_found.own * 4
-  size_is = ap (λ (p : Place). root_bytes p (Some box_found.own)) known.1
+  size_is = ap (λ (p : ComputeLevel). root_bytes p (Some box_found.own)) known.1
 
   laid : boxes.layout ≡ laid_out pipeline schedule boxes.funcs
   laid = layout_is pipeline schedule boxes is

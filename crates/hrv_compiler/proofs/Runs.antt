@@ -8,9 +8,9 @@ use Rattle.halide_pipeline.specs.declared.expressions.Source.TheVariants as sour
 use Rattle.halide_pipeline.specs.Contents.{PictureContents}
 use Rattle.bounds.specs.Extents.{extent, extents_of, point_address}
 use Rattle.picture.specs.Evaluated.{judged}
-use Rattle.vector_codegen_sharing.specs.Promises.{RuleKept}
-use Rattle.vector_codegen_sharing.specs.Turns.{written_next}
-use Rattle.vector_codegen_sharing.proofs.Races.{rules-kept}
+use Rattle.work_sharing.specs.Promises.{RuleKept}
+use Rattle.work_sharing.specs.Turns.{written_next}
+use Rattle.work_sharing.proofs.Races.{rules-kept}
 use Rattle.vector_codegen_laws.specs.Points.{RootFunc, RootPoint, address_at}
 use Rattle.vector_codegen_laws.specs.Runs.{IsOneRun}
 use Rattle.vector_codegen_laws.specs.Sharing.{IsOwnedIn}

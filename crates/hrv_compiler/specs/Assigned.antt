@@ -12,7 +12,7 @@ use Rattle.halide_pipeline.specs.Pixel.{input_planes}
 use Rattle.schedule.specs.declared.schedules.Schedule.{Schedule}
 use Rattle.bounds.specs.declared.verdict.Boxes.{Boxes}
 use Rattle.loader.specs.Image.{ImageContents}
-use Rattle.vector_codegen_sharing.specs.Turns.{gate_word, Name, last_writer}
+use Rattle.work_sharing.specs.Turns.{gate_word, Name, last_writer}
 use Rattle.bounds.specs.Stages.{StagePlace, stages, iterations, writes}
 use Rattle.bounds.specs.Extents.{point_address}
 use Rattle.hrv_compiler.specs.Correct.{opening}

@@ -16,7 +16,7 @@ pub record CompiledContents : Type 0 where
   pub boxes : Boxes
   -- the machine's text, whose first word is the entry
   pub words : List ℕ
-  -- where the code of each phase ends in it: the place behind its last word, from 0 (Map.antt)
+  -- where the code of each phase ends in it: the place after its last word, from 0 (Map.antt)
   pub ends : List ℕ
   -- which words are the code of stages inside of phases, in the order of their code
   pub stages : List CodeStage

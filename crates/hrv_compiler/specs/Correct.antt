@@ -10,7 +10,7 @@ use Rattle.memory.specs.Access.{word_at}
 use Rattle.hart_core.specs.declared.harts.Status.TheVariants.{Finished}
 use Rattle.hart_core.specs.HartState.{HartState}
 use Rattle.multi_hart.specs.Run.{all_finished, State, opened, run}
-use Rattle.vector_codegen_sharing.specs.Turns.{arrived, gate_word, NoTrap, Name, OnlyBy, Waits, are_rounds, times_written, control_words, Race}
+use Rattle.work_sharing.specs.Turns.{arrived, gate_word, NoTrap, Name, OnlyBy, Waits, are_rounds, times_written, control_words, Race}
 use Rattle.halide_pipeline.specs.Pipelines.{Pipeline}
 use Rattle.halide_pipeline.specs.Contents.{PictureContents}
 use Rattle.halide_pipeline.specs.Pixel.{output_pixel}
@@ -50,7 +50,7 @@ pub record IsCorrect (pipeline : Pipeline) (pictures : List PictureContents) (ph
       → ShowsOutput pipeline pictures (run (opening image harts) turns) image.output
   -- from everywhere, further turns of these harts make all finish
   pub can_finish : (turns : List ℕ) → (more : List ℕ) × Name harts more × (all_finished (run (opening image harts) (turns ++ more)) ≡ true)
-  -- and after any turns so many rounds, in each of which every hart has at least one turn, make all finish; the count hangs on the image and on
+  -- and after any turns so many rounds, in each of which every hart has at least one turn, make all finish; the count depends on the image and on
   -- the number of harts, and not on the turns
   pub fair_ends : (count : ℕ)
       × ((turns : List ℕ) (rounds : List (List ℕ)) → are_rounds harts rounds ≡ true → count ≤ length rounds

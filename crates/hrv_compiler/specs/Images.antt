@@ -34,7 +34,7 @@ inputs_data [] pictures = []
 inputs_data (input ∷ inputs) [] = []
 inputs_data (input ∷ inputs) (picture ∷ pictures) = input_data input picture ++ inputs_data inputs pictures
 
--- the words by which harts share their work, and the inputs; all behind them are zeros
+-- the words by which harts share their work, and the inputs; all after them are zeros
 abbrev pub data_front : Layout → List Input → List PictureContents → List ℕ
 data_front layout inputs pictures = replicate (8 * layout.phases) 0 ++ inputs_data inputs pictures
 

@@ -1,4 +1,4 @@
--- Which words are the code of which phase, in a compiled program's text: the part behind the end of the phase before it, up to its own; and what
+-- Which words are the code of which phase, in a compiled program's text: the part after the end of the phase before it, up to its own; and what
 -- all images of the program do. This project's own.
 use Rattle.std.specs.Prelude.{◌≡◌, List, [], length, None}
 use Rattle.task_code_scalar.specs.Words.{Emits}
@@ -11,7 +11,7 @@ use Rattle.hrv_compiler.specs.Correct.{Correct}
 use Rattle.hrv_compiler.specs.Images.{ArePictures, image_of}
 use Rattle.hrv_compiler.specs.Runs.{WritesWholeRuns}
 
--- The text has as many parts as there are phases, one behind the other. Each draws tasks at the ticket word of its phase and waits at its gate
+-- The text has as many parts as there are phases, one after the other. Each draws tasks at the ticket word of its phase and waits at its gate
 -- (`phase_code`), and the ends are theirs.
 pub record ArePhases (own : CompiledContents) : Type 0 where
   pub parts : List Part

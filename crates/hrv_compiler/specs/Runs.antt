@@ -14,7 +14,7 @@ use Rattle.multi_hart.specs.Run.{is_in, run}
 use Rattle.bounds.specs.Stages.{IsAtRoot}
 use Rattle.schedule_loops.specs.Runs.{is_vectorized_first}
 use Rattle.vector_codegen_laws.specs.Runs.{IsOneRun}
-use Rattle.vector_codegen_sharing.specs.Turns.{written_next}
+use Rattle.work_sharing.specs.Turns.{written_next}
 use Rattle.hrv_compiler.specs.Assigned.{byte_of_point}
 use Rattle.hrv_compiler.specs.Compiled.{CompiledContents}
 use Rattle.hrv_compiler.specs.Correct.{opening}

@@ -14,7 +14,7 @@ ghost use Rattle.schedule.specs.Accepted.{IsAccepted};
 ghost use Rattle.hrv_compiler.specs.Assigned.{IsAssigned};
 ghost use Rattle.hrv_compiler.specs.Compiled.{output_in, output_of};
 ghost use Rattle.hrv_compiler.specs.Correct.{Correct};
-ghost use Rattle.vector_codegen_sharing.specs.Turns.{control_words};
+ghost use Rattle.work_sharing.specs.Turns.{control_words};
 ghost use Rattle.hrv_compiler.specs.Map.{AreAllRight, ArePhases};
 ghost use Rattle.hrv_map.specs.Maps.{map_text};
 ghost use Rattle.hrv_compiler.specs.Images.{ArePictures, IsRefusedInput, image_of};

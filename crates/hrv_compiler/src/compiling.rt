@@ -26,7 +26,7 @@ use lowering::phases::lower;
 use schedule::{Schedule, read};
 use std::alloc::Global;
 use task_code_scalar::CodeFault;
-use task_code_scalar::places::Places;
+use task_code_scalar::layouts::Places;
 use vector_codegen::{Program, generate};
 
 /// The boxes of a pipeline under a schedule, or the first fault that stands.

@@ -115,7 +115,7 @@ fn zeros(count: usize) -> &'static [u8]
     &ZEROS[..count.min(ZEROS.len())]
 }
 
-/// Puts zeros behind bytes, up to so many.
+/// Puts zeros after bytes, up to so many.
 fn pad(bytes: &mut Vec<u8>, size: usize) -> Result<(), AllocError>
     requires { length bytes.old.items ≤ size }
     ensures { OnOk result (bytes.new.items ≡ padded size bytes.old.items) }
@@ -127,7 +127,7 @@ fn pad(bytes: &mut Vec<u8>, size: usize) -> Result<(), AllocError>
 }
 
 /// Appends the first bytes of the data of an image with these input pictures: the words by which harts share their
-/// work, and the inputs. All behind them are zeros.
+/// work, and the inputs. All after them are zeros.
 fn push_front(
     bytes: &mut Vec<u8>,
     layout: &Layout,
@@ -145,7 +145,7 @@ fn push_front(
     Ok(())
 }
 
-/// The first bytes of the data of an image with these input pictures. All behind them are zeros.
+/// The first bytes of the data of an image with these input pictures. All after them are zeros.
 pub(crate) fn data_front(
     alloc: Global,
     layout: &Layout,

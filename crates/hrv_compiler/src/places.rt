@@ -11,16 +11,16 @@ ghost use Rattle.hrv_compiler.specs.Addresses.{AreAddresses, HasFewPoints, HaveF
 use bounds::boxes::{extents_of, points};
 use bounds::{Plan, SourceBox};
 use halide_pipeline::Input;
-use schedule::{Place as Standpoint, Standing};
+use schedule::{ComputeLevel, FuncPlacement};
 use sqlite_items::Items;
 use std::alloc::{AllocError, Global};
-use task_code_scalar::places::{Pixels, Place, Places};
+use task_code_scalar::layouts::{BufferLayout, Pixels, Places};
 
-fn input_place(at: u64, input: &Input) -> Place
+fn input_place(at: u64, input: &Input) -> BufferLayout
     requires { IsAddress at }
     ensures { result ≡ spec.input_place at input.now }
 {
-    Place {
+    BufferLayout {
         start: at as u32,
         width: input.width,
         distance: 0,
@@ -33,7 +33,11 @@ fn input_place(at: u64, input: &Input) -> Place
 }
 
 #[tactic(auto, unfolding(crate::specs::Addresses::AreAddresses))]
-fn input_places(alloc: Global, ats: &[u64], inputs: &[Input]) -> Result<Vec<Place>, AllocError>
+fn input_places(
+    alloc: Global,
+    ats: &[u64],
+    inputs: &[Input],
+) -> Result<Vec<BufferLayout>, AllocError>
     requires { AreAddresses ats.now }
     ensures { IfOk result (λ places. places.items ≡ spec.input_places ats.now inputs.now) }
 {
@@ -51,10 +55,10 @@ fn input_places(alloc: Global, ats: &[u64], inputs: &[Input]) -> Result<Vec<Plac
 }
 
 /// A place where nothing lies.
-fn nowhere() -> Place
+fn nowhere() -> BufferLayout
     ensures { result ≡ code.nowhere }
 {
-    Place {
+    BufferLayout {
         start: 0,
         width: 0,
         distance: 0,
@@ -71,7 +75,7 @@ fn copy_bytes(own: &SourceBox) -> u32
     4 * points(own) as u32
 }
 
-fn func_place(place: Standpoint, own: &Option<SourceBox>, root: u64, private: u64) -> Place
+fn func_place(place: ComputeLevel, own: &Option<SourceBox>, root: u64, private: u64) -> BufferLayout
     requires rules { IsBoxOrNone own.now }
     requires few { HasFewPoints own.now }
     requires root { IsAddress root }
@@ -83,30 +87,30 @@ fn func_place(place: Standpoint, own: &Option<SourceBox>, root: u64, private: u6
     };
     let width = extents_of(own).first_argument;
     match place {
-        Standpoint::Root => Place {
+        ComputeLevel::Root => BufferLayout {
             start: root as u32,
             width,
             distance: 0,
             pixels: Pixels::Words,
         },
-        Standpoint::At(_) => Place {
+        ComputeLevel::At(_) => BufferLayout {
             start: private as u32,
             width,
             distance: copy_bytes(own),
             pixels: Pixels::Words,
         },
-        Standpoint::Inlined | Standpoint::Nowhere => nowhere(),
+        ComputeLevel::Inlined | ComputeLevel::Nowhere => nowhere(),
     }
 }
 
 #[tactic(auto, unfolding(crate::specs::Addresses::AreAddresses, crate::specs::Addresses::HaveFewPoints))]
 fn func_places(
     alloc: Global,
-    standings: &[Standing],
+    standings: &[FuncPlacement],
     boxes: &[Option<SourceBox>],
     roots: &[u64],
     privates: &[u64],
-) -> Result<Vec<Place>, AllocError>
+) -> Result<Vec<BufferLayout>, AllocError>
     requires rules { AreBoxes boxes.now }
     requires few { HaveFewPoints boxes.now }
     requires roots { AreAddresses roots.now }

@@ -13,7 +13,7 @@ use Rattle.halide_pipeline.specs.Pipelines.{Pipeline}
 use Rattle.halide_parser_syntax.specs.declared.faults.ParseFault.{ParseFault}
 use Rattle.halide_parser_syntax.specs.declared.faults.ParseFault.TheVariants as fault
 use Rattle.halide_parser_syntax.specs.declared.tokens.Token.{Token}
-use Rattle.halide_parser_syntax.specs.declared.lines.Line.{Line}
+use Rattle.halide_parser_syntax.specs.declared.lines.AlgorithmLine.{AlgorithmLine}
 use Rattle.halide_parser_syntax.specs.Grammar.{Written}
 use Rattle.halide_parser_syntax.specs.declared.tokens.Token.TheVariants as t
 use Rattle.halide_parser_syntax.specs.declared.tokens.ProductOperator.TheVariants as product
@@ -21,7 +21,7 @@ use Rattle.halide_parser_syntax.specs.declared.tokens.SumOperator.TheVariants as
 use Rattle.halide_parser_syntax.specs.declared.tokens.CompareOperator.TheVariants as compare
 use Rattle.halide_parser_syntax.specs.Tokens.{equals_after, front_token, mark, number, then_equals, tokens_from, tokens_of, word}
 use Rattle.halide_parser_syntax.specs.inner.LineReading.{line_of}
-use Rattle.halide_parser.specs.declared.readers.Reader.{Reader}
+use Rattle.halide_parser.specs.declared.readers.AlgorithmReader.{AlgorithmReader}
 use Rattle.halide_parser.specs.Parsing.{finished, is_oversized, most_text, parsed, parsed_by, settled, settled_as, settled_if, start, taken_by}
 use Rattle.halide_parser.specs.Expressions.{exceeds, is_bad_divisor_at, scope_of}
 use Rattle.hrv_engines.specs.inner.Fronts.{IsLineTold, is_mark, is_of_tokens}
@@ -39,7 +39,7 @@ else_faulty false f found is = is
 true_faulty : (test : Bool) (f : ParseFault) → test ≡ true → IsFaulty (cond test (Some f) None)
 true_faulty test f e = rw e (f, refl)
 
-line_faulty : (reader : Reader) (tokens : List Token) (l : Line Written) → reader.is_oversized ≡ true → IsFaulty (fault_of reader tokens l)
+line_faulty : (reader : AlgorithmReader) (tokens : List Token) (l : AlgorithmLine Written) → reader.is_oversized ≡ true → IsFaulty (fault_of reader tokens l)
 unfolding fault_of
 line_faulty reader tokens l e =
     let over : is_over_limit (exceeds reader (scope_of reader l)) reader tokens l ≡ true = rw e refl in
@@ -55,16 +55,16 @@ line_faulty reader tokens l e =
 abbrev IsRefused : {A : Type 0} → Result A ParseFault → Type 0
 IsRefused {A} answer = (f : ParseFault) × (answer ≡ Err f)
 
-settled_refused : (reader : Reader) (l : Line Written) (found : Option ParseFault) → IsFaulty found → IsRefused (settled_as reader l found)
+settled_refused : (reader : AlgorithmReader) (l : AlgorithmLine Written) (found : Option ParseFault) → IsFaulty found → IsRefused (settled_as reader l found)
 settled_refused reader l None is = absurd cc
 settled_refused reader l (Some f) is = (f, refl)
 
-spelled_refused : (reader : Reader) (tokens : List Token) (found : Option (Line Written)) → reader.is_oversized ≡ true
+spelled_refused : (reader : AlgorithmReader) (tokens : List Token) (found : Option (AlgorithmLine Written)) → reader.is_oversized ≡ true
     → IsRefused (settled_if reader tokens found)
 spelled_refused reader tokens None e = (fault.Syntax, refl)
 spelled_refused reader tokens (Some l) e = settled_refused reader l (fault_of reader tokens l) (line_faulty reader tokens l e)
 
-line_refused : (reader : Reader) (line : List ℕ) → reader.is_oversized ≡ true → IsRefused (taken_by line_of reader line)
+line_refused : (reader : AlgorithmReader) (line : List ℕ) → reader.is_oversized ≡ true → IsRefused (taken_by line_of reader line)
 unfolding taken_by
 line_refused reader line e = by_tokens (tokens_of line)
   where
@@ -194,7 +194,7 @@ no_line_ends : is_of_tokens 10 ≡ true → ⊥
 unfolding is_of_tokens
 no_line_ends e = cc
 
--- the tokens behind one that was read, with so many steps left
+-- the tokens after one that was read, with so many steps left
 abbrev then : ℕ → Result (Token × List ℕ) ParseFault → Result (List Token) ParseFault
 then count found = found >>= λ first. tokens_from count first.1 >>= λ others. Ok (first.0 ∷ others)
 
@@ -423,7 +423,7 @@ no_feed : (front : List ℕ) → AllByRecursion (λ byte. is_of_tokens byte ≡ 
 no_feed [] are = tt
 no_feed (byte ∷ front) are = (λ feed. no_line_ends (subst (λ byte. is_of_tokens byte ≡ true) feed are.0), no_feed front are.1)
 
--- A line that begins so goes on behind the byte.
+-- A line that begins so goes on after the byte.
 record Begins (text front : List ℕ) (byte : ℕ) : Type 0 where
   rest : List ℕ
   others : List (List ℕ)
@@ -465,7 +465,7 @@ first_says front byte more are other = by (byte == 10) refl
           is_said = says_the_same byte other front begun.rest [] are;
         }
 
-same_line : (reader : Reader) (line other : List ℕ) → tokens_of other ≡ tokens_of line → taken_by line_of reader other ≡ taken_by line_of reader line
+same_line : (reader : AlgorithmReader) (line other : List ℕ) → tokens_of other ≡ tokens_of line → taken_by line_of reader other ≡ taken_by line_of reader line
 unfolding taken_by
 same_line reader line other e = ap (λ (found : Result (List Token) ParseFault). found >>= λ tokens. settled_if reader tokens (line_of tokens)) e
 

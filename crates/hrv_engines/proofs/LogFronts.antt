@@ -14,7 +14,7 @@ use Rattle.turn_log.specs.declared.log_faults.LogFault.{LogFault}
 use Rattle.turn_log.specs.declared.log_faults.LogFault.TheVariants.{Truncated, NotCanonical, Hart, Magic}
 use Rattle.turn_log.specs.declared.runs.Run.{Run}
 
--- An answer to a front stays where more bytes follow: what is read, with more left behind it, or a fault other than that the bytes end.
+-- An answer to a front stays where more bytes follow: what is read, with more left after it, or a fault other than that the bytes end.
 abbrev Stays : {A : Type 0} → List ℕ → Result (A × List ℕ) LogFault → Result (A × List ℕ) LogFault → Type 0
 Stays rest (Ok read) s = s ≡ Ok (read.0, read.1 ++ rest)
 Stays rest (Err fault) s = fault ≢ Truncated → s ≡ Err fault

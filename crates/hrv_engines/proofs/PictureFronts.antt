@@ -1,5 +1,5 @@
 -- A front of a picture with more bytes than any has decides its fault: each part of a picture is read from so many bytes, and where there
--- are more, what stands behind them changes nothing.
+-- are more, what stands after them changes nothing.
 use Rattle.std.proofs.Common.{◌≡◌, ◌∙◌, ◌<◌, ◌≤◌, ◌+◌, ◌-◌, ◌*◌, ◌^◌, ◌%◌, ◌&&◌, ℕ, zero, suc, Bool, true, false, cond, not, nat_lt, nat_le, nat_eq, List, []}
 use Rattle.std.proofs.Common.{◌∷◌, ◌++◌, length, take, drop, fold, codes, Option, Some, None, Result, Ok, Err, arith, refl, sym, ap, ap₂, subst, inl, inr}
 use Rattle.std.specs.Prelude.{◌==◌}
@@ -65,7 +65,7 @@ module _ {A B : Type 0} (most more : ℕ) (first : List ℕ → Read A) (next : 
           (sym same.0)
           (widened most more text read.1 rest (next read.0 read.1) (next read.0 (read.1 ++ rest)) same.1 (later read.0 text read.1 is read.1 rest more_left))
 
--- a word, and what is read behind it
+-- a word, and what is read after it
 module _ {B : Type 0} (word : List ℕ) (more : ℕ) (next : List ℕ → Read B) where
   word_then : IsLocal more next → IsLocal (length word + more) (λ text. behind word text >>= next)
   unfolding behind
@@ -148,7 +148,7 @@ digit_count text = prefix_len is_digit text
 
 module _ {B : Type 0} (more : ℕ) (test : Numeral → Result ℕ PictureFault) (fault : PictureFault) (fails : FailsPastTen test fault) (next : ℕ → List ℕ
     → Read B) where
-  -- a numeral that passes the test, and what is read behind it
+  -- a numeral that passes the test, and what is read after it
   abbrev tested : Read Numeral → Read B
   tested read = read >>= λ numeral. test numeral.0 >>= λ value. next value numeral.1
 

@@ -40,7 +40,7 @@ pub vector_lines-more : (hart : HartState) (v : ℕ) → vector_lines hart (v + 
 unfolding vector_lines
 vector_lines-more hart v = rw add-one refl
 
--- what stands behind texts before one more
+-- what stands after texts before one more
 abbrev pub separator : List (List ℕ) → List ℕ
 separator [] = []
 separator (text ∷ texts) = 32 ∷ []

@@ -2,8 +2,8 @@
 use Rattle.std.proofs.Common.{◌≡◌, ℕ, zero, suc, ◌+◌, ◌-◌, ◌<◌, ◌≤◌, Bool, true, false, true≢false, List, ◌++◌, length, refl, sym, ap, subst, ◌∙◌, arith}
 use Rattle.std.specs.Prelude.{nat_lt, Some, None, Result, Ok, Err, IsSome, OnOk}
 use Rattle.std.proofs.lemmas.Bool.Decides.{nat_tests}
-use Rattle.debugger.specs.declared.refusals.Refusal.{Refusal}
-use Rattle.debugger.specs.declared.refusals.Refusal.TheVariants.{PastEnd, BeforeStart, Address, TooManyMarks, NoStop, OutOfMemory}
+use Rattle.debugger.specs.declared.refusals.SessionRefusal.{SessionRefusal}
+use Rattle.debugger.specs.declared.refusals.SessionRefusal.TheVariants.{PastEnd, BeforeStart, Address, TooManyMarks, NoStop, OutOfMemory}
 use Rattle.debugger.specs.Places.{SessionState}
 use Rattle.debugger.specs.Refusals.{UnlessMemory, number_of}
 use Rattle.debugger.specs.Stops.{IsNextStop, NoNextStop, IsPreviousStop, NoPreviousStop, stops}
@@ -81,16 +81,16 @@ no_previous_found s h = ap (or_refusal NoStop) (none_before s s.place h.none)
 
 -- ---- answers that say so
 
-pub went_text : {X E : Type 0} (r : Result X E) (s : SessionState) (found : Result ℕ Refusal) (place : ℕ) (old new : List ℕ) → found ≡ Ok place
+pub went_text : {X E : Type 0} (r : Result X E) (s : SessionState) (found : Result ℕ SessionRefusal) (place : ℕ) (old new : List ℕ) → found ≡ Ok place
     → OnOk r (new ≡ old ++ place_text place) → OnOk r (new ≡ old ++ (went s found).text)
 went_text r s found place old new is h = subst (λ f. OnOk r (new ≡ old ++ (went s f).text)) (sym is) h
 
-pub went_next : {X E : Type 0} (r : Result X E) (s next : SessionState) (found : Result ℕ Refusal) → next ≡ (went s found).next
+pub went_next : {X E : Type 0} (r : Result X E) (s next : SessionState) (found : Result ℕ SessionRefusal) → next ≡ (went s found).next
     → OnOk r (next ≡ (went s found).next)
 went_next (Ok x) s next found h = h
 went_next (Err e) s next found h = tt
 
-not_memory : (refusal : Refusal) (F : Type 0) → IsSome (number_of refusal) → UnlessMemory refusal F → F
+not_memory : (refusal : SessionRefusal) (F : Type 0) → IsSome (number_of refusal) → UnlessMemory refusal F → F
 not_memory PastEnd F known h = h
 not_memory BeforeStart F known h = h
 not_memory Address F known h = h
@@ -99,7 +99,7 @@ not_memory NoStop F known h = h
 not_memory OutOfMemory F known h = absurd (true≢false (sym known))
 
 -- a search that found nothing is refused so, unless memory ran out
-pub refused_text : {X E : Type 0} (r : Result X E) (refusal : Refusal) (F : Type 0) (s : SessionState) (found : Result ℕ Refusal) (old new : List ℕ)
+pub refused_text : {X E : Type 0} (r : Result X E) (refusal : SessionRefusal) (F : Type 0) (s : SessionState) (found : Result ℕ SessionRefusal) (old new : List ℕ)
     → (F → found ≡ Err NoStop) → UnlessMemory refusal ((refusal ≡ NoStop) × F) → OnOk r (IsSome (number_of refusal))
     → OnOk r (new ≡ old ++ refusal_text refusal)
     → OnOk r (new ≡ old ++ (went s found).text)
@@ -108,7 +108,7 @@ refused_text (Ok x) refusal F s found old new none err known h =
     let fact = not_memory refusal ((refusal ≡ NoStop) × F) known err in
     subst (λ f. new ≡ old ++ (went s f).text) (sym (none fact.1)) (h ∙ ap (λ f. old ++ refusal_text f) fact.0)
 
-pub refused_next : {X E : Type 0} (r : Result X E) (refusal : Refusal) (F : Type 0) (s next : SessionState) (found : Result ℕ Refusal)
+pub refused_next : {X E : Type 0} (r : Result X E) (refusal : SessionRefusal) (F : Type 0) (s next : SessionState) (found : Result ℕ SessionRefusal)
     → (F → found ≡ Err NoStop) → UnlessMemory refusal ((refusal ≡ NoStop) × F) → OnOk r (IsSome (number_of refusal)) → next ≡ s
     → OnOk r (next ≡ (went s found).next)
 refused_next (Err e) refusal F s next found none err known h = tt

@@ -168,7 +168,7 @@ front_of : (xs ys : List ℕ) → take (length xs) (xs ++ ys) ≡ xs
 front_of [] ys = refl
 front_of (x ∷ xs) ys = ap (λ zs. x ∷ zs) (front_of xs ys)
 
--- a text that goes on behind another begins with it
+-- a text that goes on after another begins with it
 front_and_more : (xs ys zs : List ℕ) → xs ≡ ys ++ zs → take (length ys) xs ≡ ys
 front_and_more xs ys zs is = ap (take (length ys)) is ∙ front_of ys zs
 

@@ -17,7 +17,7 @@ use Rattle.std.proofs.lemmas.Str.{IsCharBoundary-from_take, IsUtf8-append, IsUtf
 use Rattle.hrv_engines.specs.declared.faults.Fault.{Fault}
 use Rattle.hrv_engines.specs.declared.faults.Fault.TheVariants.{Refused, File, Memory, Thread}
 use Rattle.hrv_engines.specs.declared.texts.Extent.{Extent}
-use Rattle.hrv_engines.specs.declared.texts.Kept.{Kept}
+use Rattle.hrv_engines.specs.declared.texts.KeptFront.{KeptFront}
 use Rattle.hrv_engines.specs.declared.texts.Extent.TheVariants.{All}
 use Rattle.hrv_engines.specs.Devices.{BeginsNoText, text_of}
 use Rattle.hrv_engines.specs.Engine.{Reads}
@@ -59,7 +59,7 @@ begins_none bytes count is long rest text =
     let found = by_chars text.0 bytes rest text.1.0 text.1.1 in
     is.longest found.count (omega (arith, found.near, long)) found.within found.front
 
--- behind a text stands a text, where both are one
+-- after a text stands a text, where both are one
 pub behind_text : (front rest : List ℕ) → IsUtf8 front → IsUtf8 (front ++ rest) → IsUtf8 rest
 behind_text front rest is whole =
     let taken : IsUtf8 (take (length front) (front ++ rest)) = subst IsUtf8 (sym (take-append_seam front rest)) is in
@@ -67,7 +67,7 @@ behind_text front rest is whole =
     subst IsUtf8 (drop-append_seam front rest)
     (IsUtf8-drop (front ++ rest) (length front) whole (IsCharBoundary-from_take (front ++ rest) (length front) whole within taken))
 
--- what comes behind a text begins none
+-- what comes after a text begins none
 pub none_behind : (passed unended piece all : List ℕ) (count : ℕ) → passed ++ unended ≡ all → IsUtf8 passed → IsLongestText (unended ++ piece) count
     → count + 3 < length (unended ++ piece) → BeginsNoText (all ++ piece)
 none_behind passed unended piece all count parts is longest long rest text =
@@ -76,7 +76,7 @@ none_behind passed unended piece all count parts is longest long rest text =
     ∙ append_assoc passed (unended ++ piece) rest in
     begins_none (unended ++ piece) count longest long rest (behind_text passed ((unended ++ piece) ++ rest) is (subst IsUtf8 whole text))
 
--- what is left behind the longest text is none
+-- what is left after the longest text is none
 pub left_none : (bytes : List ℕ) (count : ℕ) → IsLongestText bytes count → drop count bytes ≢ [] → IsUtf8 (drop count bytes) → ⊥
 left_none bytes count is some text =
     let whole : IsUtf8 bytes = subst IsUtf8 (take-append-drop count bytes) (IsUtf8-append (take count bytes) (drop count bytes) is.front text) in
@@ -95,7 +95,7 @@ left_none bytes count is some text =
 
 -- ---- bytes of an algorithm's first line
 
--- more bytes behind it leave it told
+-- more bytes after it leave it told
 pub still_told : (text more : List ℕ) → IsLineTold text → IsLineTold (text ++ more)
 still_told text more told = by (nat_eq (prefix_len is_of_tokens text) (length text)) refl
   where
@@ -123,7 +123,7 @@ told_behind text more told = by (nat_eq (prefix_len is_of_tokens text) (length t
 
 -- ---- a front that is kept
 
-pub kept_if : (kept : Kept) (text : List ℕ) → kept.bytes.items ≡ text → (kept.is_enough ≡ true → Decides kept.extent kept.bytes.items)
+pub kept_if : (kept : KeptFront) (text : List ℕ) → kept.bytes.items ≡ text → (kept.is_enough ≡ true → Decides kept.extent kept.bytes.items)
     → KeepsIf kept.is_enough kept text
 kept_if kept text whole decides = by kept.is_enough refl
   where
@@ -131,7 +131,7 @@ kept_if kept text whole decides = by kept.is_enough refl
     by true is = (decides is, ([], append-nil kept.bytes.items ∙ whole))
     by false is = whole
 
-pub all_so_far : (kept : Kept) (text : List ℕ) → kept.is_enough ≡ false → KeepsIf kept.is_enough kept text → kept.bytes.items ≡ text
+pub all_so_far : (kept : KeptFront) (text : List ℕ) → kept.is_enough ≡ false → KeepsIf kept.is_enough kept text → kept.bytes.items ≡ text
 all_so_far kept text is keeps = subst (λ enough. KeepsIf enough kept text) is keeps
 
 -- ---- a text of which all is kept

@@ -21,8 +21,8 @@ use Rattle.debugger_blame.specs.declared.writes.Write.{Write}
 use Rattle.hrv_engines.specs.BlameQuestions.{Given, wanted_of}
 use Rattle.hrv_engines.specs.Dump.{hex_word, newline, pixel_address}
 use Rattle.hrv_engines.specs.declared.questions.BlameFault.{BlameFault}
-use Rattle.hrv_engines.specs.declared.questions.Wanted.{Wanted}
-use Rattle.hrv_engines.specs.declared.questions.Wanted.TheVariants.{Word, Pixels}
+use Rattle.hrv_engines.specs.declared.questions.BlameQuestion.{BlameQuestion}
+use Rattle.hrv_engines.specs.declared.questions.BlameQuestion.TheVariants.{Word, Pixels}
 use Rattle.hrv_engines.specs.declared.faults.Refusal.{Refusal}
 use Rattle.hrv_engines.specs.declared.faults.Refusal.TheVariants.{Load, Log, Blame}
 
@@ -78,14 +78,14 @@ marks_text marking begin turns output = spelling.heading output.width output.hei
 
 -- ---- the answer
 
-abbrev pub answer_to : State → List ℕ → Wanted → List ℕ
+abbrev pub answer_to : State → List ℕ → BlameQuestion → List ℕ
 answer_to begin turns (Word address) = word_text begin turns address
 answer_to begin turns (Pixels output marking) = marks_text marking begin turns output
 
-abbrev pub blame_of : ImageContents → LogState → Wanted → List ℕ
+abbrev pub blame_of : ImageContents → LogState → BlameQuestion → List ℕ
 blame_of image log wanted = answer_to (machine_of image log.harts) log.turns wanted
 
-abbrev pub with_wanted : ImageContents → LogState → Result Wanted BlameFault → Result (List ℕ) Refusal
+abbrev pub with_wanted : ImageContents → LogState → Result BlameQuestion BlameFault → Result (List ℕ) Refusal
 with_wanted image log (Ok wanted) = Ok (blame_of image log wanted)
 with_wanted image log (Err fault) = Err (Blame fault)
 

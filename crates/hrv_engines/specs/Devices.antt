@@ -46,13 +46,13 @@ abbrev pub most_image_bytes : ℕ
 most_image_bytes = header_length Hrv2 + 4 * most_words + most_bytes
 
 -- A source of an image, which needn't be read further than it takes to refuse it: the law `long_images_are_refused_by_their_front` says that more
--- bytes than an image has are no image, and that whatever stands behind them, the fault is the same.
+-- bytes than an image has are no image, and that whatever stands after them, the fault is the same.
 abbrev pub image_bytes_of : {S : Type 0} (place : S → List ℕ) (failures : S → ℕ) (gave : S → List ℕ → S → Type 0) (ended : S → Type 0) (before after : S)
     → Sources (List ℕ)
 image_bytes_of = front_of most_image_bytes
 
 -- Bytes are no log, for another reason than that they end too soon. The law `logs_are_refused_by_their_front` says that they have the same
--- fault whatever stands behind them.
+-- fault whatever stands after them.
 abbrev pub IsNoLog : List ℕ → Type 0
 IsNoLog bytes = (fault : LogFault) × (fault ≢ Truncated) × (log_of bytes ≡ Err fault)
 
@@ -103,7 +103,7 @@ abbrev pub most_algorithm_bytes : ℕ
 most_algorithm_bytes = 65536
 
 -- A picture that is read has at most so many bytes: a heading of 32, and 12 for each pixel. The law `long_pictures_are_refused_by_their_front`
--- says so, and that of longer ones the fault hangs on a front of more bytes alone.
+-- says so, and that of longer ones the fault depends on a front of more bytes alone.
 abbrev pub most_picture_bytes : ℕ
 most_picture_bytes = 32 + 12 * 1048576
 

@@ -1,4 +1,4 @@
--- What a run of an image answers: a log of turns, and the dump after them. An image has many logs: which one comes out hangs on the
+-- What a run of an image answers: a log of turns, and the dump after them. An image has many logs: which one comes out depends on the
 -- threads. This project's own.
 use Rattle.std.specs.Prelude.{◌≡◌, ◌≤◌, ◌⊎◌, ℕ, List, [], take, Result, Ok, Err}
 use Rattle.std.specs.String.{string_bytes}

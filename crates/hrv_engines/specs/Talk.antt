@@ -6,8 +6,8 @@ use Rattle.std.specs.Fmt.{decimal}
 use Rattle.hart_core.specs.HartState.{HartState, register, vector}
 use Rattle.multi_hart.specs.Run.{State, hart_at, word_in}
 use Rattle.line_text.specs.Lines.{lines_of}
-use Rattle.debugger.specs.declared.refusals.Refusal.{Refusal}
-use Rattle.debugger.specs.declared.refusals.Refusal.TheVariants.{PastEnd, BeforeStart, Address, NoStop}
+use Rattle.debugger.specs.declared.refusals.SessionRefusal.{SessionRefusal}
+use Rattle.debugger.specs.declared.refusals.SessionRefusal.TheVariants.{PastEnd, BeforeStart, Address, NoStop}
 use Rattle.debugger.specs.Places.{SessionState, state_here, moved}
 use Rattle.debugger.specs.Marks.{with_break, with_watch}
 use Rattle.debugger.specs.Refusals.{number_of, or_address}
@@ -17,7 +17,7 @@ use Rattle.hrv_engines.specs.declared.commands.Command.TheVariants as c
 use Rattle.hrv_engines.specs.Commands.{command_of}
 use Rattle.hrv_engines.specs.Dump.{hex_of, hex_word, newline, status_text}
 
--- the line that answers, the session behind it, and whether the talk ends there
+-- the line that answers, the session after it, and whether the talk ends there
 pub record Answer : Type 0 where
   pub text : List ℕ
   pub next : SessionState
@@ -37,7 +37,7 @@ unfoldable pub place_text : ℕ → List ℕ
 place_text place = codes "at " ++ decimal place ++ newline
 
 -- `refused K`
-unfoldable pub refusal_text : Refusal → List ℕ
+unfoldable pub refusal_text : SessionRefusal → List ℕ
 refusal_text refusal = codes "refused " ++ decimal (unwrap_or (number_of refusal) 0) ++ newline
 
 -- ---- places to go to
@@ -52,37 +52,37 @@ unfoldable pub last_stop : SessionState → ℕ → Option ℕ
 last_stop session zero = None
 last_stop session (suc place) = if stops session place then Some place else last_stop session place
 
-abbrev pub or_refusal : Refusal → Option ℕ → Result ℕ Refusal
+abbrev pub or_refusal : SessionRefusal → Option ℕ → Result ℕ SessionRefusal
 or_refusal refusal None = Err refusal
 or_refusal refusal (Some place) = Ok place
 
-abbrev pub place_to_go : SessionState → ℕ → Result ℕ Refusal
+abbrev pub place_to_go : SessionState → ℕ → Result ℕ SessionRefusal
 place_to_go session place = if nat_le place (length session.log.turns) then Ok place else Err PastEnd
 
-abbrev pub place_before : SessionState → Result ℕ Refusal
+abbrev pub place_before : SessionState → Result ℕ SessionRefusal
 place_before session = if session.place == 0 then Err BeforeStart else Ok (session.place - 1)
 
-abbrev pub next_stop : SessionState → Result ℕ Refusal
+abbrev pub next_stop : SessionState → Result ℕ SessionRefusal
 next_stop session = or_refusal NoStop (first_stop session (session.place + 1) (length session.log.turns - session.place))
 
-abbrev pub previous_stop : SessionState → Result ℕ Refusal
+abbrev pub previous_stop : SessionState → Result ℕ SessionRefusal
 previous_stop session = or_refusal NoStop (last_stop session session.place)
 
 -- ---- answers
 
-abbrev pub went : SessionState → Result ℕ Refusal → Answer
+abbrev pub went : SessionState → Result ℕ SessionRefusal → Answer
 went session (Ok place) = says (place_text place) (moved session place)
 went session (Err refusal) = says (refusal_text refusal) session
 
-abbrev pub marked : SessionState → Result SessionState Refusal → Answer
+abbrev pub marked : SessionState → Result SessionState SessionRefusal → Answer
 marked session (Ok next) = says ok_text next
 marked session (Err refusal) = says (refusal_text refusal) session
 
 -- an address of 2 ^ 32 or more is refused as any other at which no word stands
-abbrev pub if_address : {A : Type 0} → ℕ → Result A Refusal → Result A Refusal
+abbrev pub if_address : {A : Type 0} → ℕ → Result A SessionRefusal → Result A SessionRefusal
 if_address address answer = if nat_lt address (2 ^ 32) then answer else Err Address
 
-abbrev pub word_text : Result ℕ Refusal → List ℕ
+abbrev pub word_text : Result ℕ SessionRefusal → List ℕ
 word_text (Ok word) = hex_word word ++ newline
 word_text (Err refusal) = refusal_text refusal
 

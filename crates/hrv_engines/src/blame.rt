@@ -10,7 +10,7 @@ ghost use Rattle.loader.specs.Loading.{machine_of};
 use crate::blame_texts::{last_lines, marks_picture, words_to_the_last};
 use crate::devices::{Sink, Source, read_image_bytes, read_log_bytes, write_all};
 use crate::faults::Fault;
-use crate::questions::{Question, Wanted, judge};
+use crate::questions::{BlameQuestion, Question, judge};
 use debugger_blame::{MarkedRange, Marking, last_write, mark_words};
 use loader::{Image, Output, read_image};
 use std::alloc::{AllocError, Global};
@@ -54,13 +54,18 @@ fn answer(alloc: Global, image: Vec<u8>, log: Vec<u8>, question: Question) -> Re
 }
 
 /// The answer to what is asked for of an image and a log.
-fn blame(alloc: Global, image: &Image, log: &TurnLog, wanted: Wanted) -> Result<Vec<u8>, AllocError>
+fn blame(
+    alloc: Global,
+    image: &Image,
+    log: &TurnLog,
+    wanted: BlameQuestion,
+) -> Result<Vec<u8>, AllocError>
     requires { PixelsLie wanted }
     ensures { IfOk result (λ text. text.items ≡ blame_of image.now log.now wanted) }
 {
     match wanted {
-        Wanted::Word(address) => blame_word(alloc, image, log, address),
-        Wanted::Pixels(output, marking) => blame_pixels(alloc, image, log, output, marking),
+        BlameQuestion::Word(address) => blame_word(alloc, image, log, address),
+        BlameQuestion::Pixels(output, marking) => blame_pixels(alloc, image, log, output, marking),
     }
 }
 

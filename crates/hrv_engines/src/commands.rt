@@ -58,7 +58,7 @@ pub fn read_command(line: &[u8]) -> Option<Command>
     with_two(name, read_number(first)?, read_number(second)?)
 }
 
-/// The first word, and what follows the space behind it, if there is one.
+/// The first word, and what follows the space after it, if there is one.
 #[tactic(auto, using(crate::proofs::Splits::one_word, crate::proofs::Splits::word_and_more))]
 fn first_word(line: &[u8]) -> (&[u8], Option<&[u8]>)
     ensures { MatchOption result.1 (spec.words_of line.now ≡ result.0.now ∷ [])
@@ -178,7 +178,7 @@ fn hexadecimal_digit(byte: u8) -> u8
     }
 }
 
-/// A number with a digit behind it, if it is below 2 ^ 64.
+/// A number with a digit after it, if it is below 2 ^ 64.
 fn with_digit(number: u64, base: u64, digit: u8) -> Option<u64>
     ensures { result ≡ spec.below_most (number * base + digit) }
 {

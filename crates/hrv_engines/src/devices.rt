@@ -146,11 +146,11 @@ pub const MOST_IMAGE_BYTES: usize = 36 + 4 * MOST_WORDS + MOST_BYTES;
 /// How many bytes an algorithm that is accepted has at most.
 pub const MOST_ALGORITHM_BYTES: usize = 65_536;
 
-/// How many bytes a picture that is read has at most: those of a heading, of 1,048,576 numbers, and of a byte behind
+/// How many bytes a picture that is read has at most: those of a heading, of 1,048,576 numbers, and of a byte after
 /// each.
 pub const MOST_PICTURE_BYTES: usize = 32 + 12 * 1_048_576;
 
-/// Whether bytes are no log, whatever stands behind them.
+/// Whether bytes are no log, whatever stands after them.
 fn is_no_log(alloc: Global, bytes: &[u8]) -> Result<bool, Fault>
     ensures ok { IfOk result (λ is. is ≡ true → IsNoLog bytes.now) }
     ensures err { IfErr result (λ fault. fault ≡ Memory) }
@@ -162,7 +162,7 @@ fn is_no_log(alloc: Global, bytes: &[u8]) -> Result<bool, Fault>
     }
 }
 
-/// Reads all that a source has left, or a front of it that is no log, whatever stands behind: it is looked at whenever
+/// Reads all that a source has left, or a front of it that is no log, whatever stands after: it is looked at whenever
 /// it has become twice as long.
 pub fn read_log_bytes<S: Source>(alloc: Global, source: &mut S) -> Result<Vec<u8>, Fault>
     requires { S.failed source.old + 1 < 2 ^ 64 }

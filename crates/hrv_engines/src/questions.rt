@@ -23,7 +23,7 @@ pub struct Question<'a> {
 
 /// What a question asks for.
 #[derive(Clone, Copy, Debug)]
-pub enum Wanted {
+pub enum BlameQuestion {
     /// The last write of a word of data.
     Word(u32),
     /// A mark for each pixel of the output.
@@ -61,7 +61,7 @@ impl BlameFault {
 }
 
 /// What a question asks for of an image.
-pub fn judge(image: &Image, question: Question) -> Result<Wanted, BlameFault>
+pub fn judge(image: &Image, question: Question) -> Result<BlameQuestion, BlameFault>
     ensures value { result ≡ spec.wanted_of image.now (spec.given_by question.entry) }
     ensures lies { IfOk result spec.PixelsLie }
 {
@@ -75,14 +75,14 @@ pub fn judge(image: &Image, question: Question) -> Result<Wanted, BlameFault>
 }
 
 /// All pixels of an image's output.
-fn wanted_pixels(image: &Image, with_turns: bool) -> Result<Wanted, BlameFault>
+fn wanted_pixels(image: &Image, with_turns: bool) -> Result<BlameQuestion, BlameFault>
     ensures value { result ≡ spec.pixels_of image.now.output with_turns }
     ensures lies { IfOk result spec.PixelsLie }
 {
     let Some(output) = image.output() else {
         return Err(BlameFault::NoOutput);
     };
-    Ok(Wanted::Pixels(output, marking_of(with_turns)))
+    Ok(BlameQuestion::Pixels(output, marking_of(with_turns)))
 }
 
 /// What pixels are marked with.
@@ -97,7 +97,7 @@ fn marking_of(with_turns: bool) -> Marking
 }
 
 /// A pixel of an image's output, by its numbers' texts.
-fn wanted_pixel(image: &Image, x: &str, y: &str) -> Result<Wanted, BlameFault>
+fn wanted_pixel(image: &Image, x: &str, y: &str) -> Result<BlameQuestion, BlameFault>
     ensures value { result ≡ spec.pixel_of image.now.output (number_of x.now) (number_of y.now) }
     ensures lies { IfOk result spec.PixelsLie }
 {
@@ -113,7 +113,7 @@ fn wanted_pixel(image: &Image, x: &str, y: &str) -> Result<Wanted, BlameFault>
     if x >= u64::from(output.width) || y >= u64::from(output.height) {
         return Err(BlameFault::OutsideOutput);
     }
-    Ok(Wanted::Word(address_of(output, x as u32, y as u32)))
+    Ok(BlameQuestion::Word(address_of(output, x as u32, y as u32)))
 }
 
 /// The address of a pixel.
@@ -127,7 +127,7 @@ fn address_of(output: Output, x: u32, y: u32) -> u32
 }
 
 /// The word of an image's data at an address, by its text.
-fn wanted_word(image: &Image, address: &str) -> Result<Wanted, BlameFault>
+fn wanted_word(image: &Image, address: &str) -> Result<BlameQuestion, BlameFault>
     ensures value { result ≡ spec.word_of (length image.now.bytes) (number_of address.now) }
     ensures lies { IfOk result spec.PixelsLie }
 {
@@ -137,7 +137,7 @@ fn wanted_word(image: &Image, address: &str) -> Result<Wanted, BlameFault>
     if !is_data_word(image.data().len(), address) {
         return Err(BlameFault::NoDataWord);
     }
-    Ok(Wanted::Word(address as u32))
+    Ok(BlameQuestion::Word(address as u32))
 }
 
 /// Whether a word of data begins at an address, where there are so many bytes of data.

@@ -12,7 +12,7 @@ ghost use Rattle.hrv_engines.specs.TalkSoFar.{Took};
 use crate::commands::{Command, read_command};
 use crate::cuts::cut_at;
 use crate::dumps::{integer_register, push_hex, push_hex_word, push_status, vector_register};
-use debugger::{Refusal, Session};
+use debugger::{Session, SessionRefusal};
 use std::alloc::{AllocError, Global};
 
 /// A talk over a session, with the bytes of a line that has not ended.
@@ -200,7 +200,7 @@ fn set_break(session: &mut Session, address: u64, text: &mut String) -> Result<(
     ensures next { OnOk result (session.new.state ≡ (spec.answer_to session.old.state (Command.Break address)).next) }
 {
     let Ok(pc) = u32::try_from(address) else {
-        return push_refusal(text, Refusal::Address);
+        return push_refusal(text, SessionRefusal::Address);
     };
     match session.set_break(pc) {
         Ok(()) => push_ok(text),
@@ -215,7 +215,7 @@ fn set_watch(session: &mut Session, address: u64, text: &mut String) -> Result<(
     ensures next { OnOk result (session.new.state ≡ (spec.answer_to session.old.state (Command.Watch address)).next) }
 {
     let Ok(address) = u32::try_from(address) else {
-        return push_refusal(text, Refusal::Address);
+        return push_refusal(text, SessionRefusal::Address);
     };
     match session.set_watch(address) {
         Ok(()) => push_ok(text),
@@ -267,7 +267,7 @@ fn push_word(text: &mut String, session: &Session, address: u64) -> Result<(), A
         ++ (spec.answer_to session.now.state (Command.Word address)).text) }
 {
     let Ok(address) = u32::try_from(address) else {
-        return push_refusal(text, Refusal::Address);
+        return push_refusal(text, SessionRefusal::Address);
     };
     match session.word(address) {
         Ok(word) => {
@@ -326,7 +326,7 @@ fn push_place(text: &mut String, place: u64) -> Result<(), AllocError>
 
 /// `refused K`. A refusal for want of memory is no answer, but a lack of memory here too.
 #[tactic(auto, unfolding(crate::specs::Talk::refusal_text))]
-fn push_refusal(text: &mut String, refusal: Refusal) -> Result<(), AllocError>
+fn push_refusal(text: &mut String, refusal: SessionRefusal) -> Result<(), AllocError>
     ensures text { OnOk result (string_bytes text.new ≡ string_bytes text.old ++ spec.refusal_text refusal) }
     ensures known { OnOk result (IsSome (number_of refusal)) }
 {

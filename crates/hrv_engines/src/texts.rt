@@ -30,7 +30,7 @@ pub(crate) enum Extent {
 
 /// The front of a text that is kept.
 #[derive(Drop)]
-pub(crate) struct Kept {
+pub(crate) struct KeptFront {
     pub extent: Extent,
     pub bytes: Vec<u8>,
     /// Whether a byte is among them that ends what an algorithm's first line says.
@@ -42,8 +42,8 @@ pub(crate) struct Kept {
 /// A text of which some pieces came.
 #[derive(Drop)]
 pub(crate) struct Reading {
-    pub kept: Kept,
-    /// The bytes behind the last whole character, three at most.
+    pub kept: KeptFront,
+    /// The bytes after the last whole character, three at most.
     pub unended: Vec<u8>,
 }
 
@@ -85,7 +85,8 @@ fn valid_len(bytes: &[u8]) -> usize
 
 /// Whether a front of so many bytes decides what is to be said of the text.
 fn is_enough(extent: Extent, count: usize, is_line_told: bool) -> bool
-    ensures { (text : List ℕ) → count ≡ length text → (is_line_told ≡ true → IsLineTold text) → result ≡ true → Decides extent text }
+    ensures { (text : List ℕ) → count ≡ length text → (is_line_told ≡ true → IsLineTold text) → result ≡ true
+        → Decides extent text }
 {
     match extent {
         Extent::All => false,
@@ -94,7 +95,7 @@ fn is_enough(extent: Extent, count: usize, is_line_told: bool) -> bool
     }
 }
 
-/// Whether an algorithm's first line is told in bytes, or in what comes behind them.
+/// Whether an algorithm's first line is told in bytes, or in what comes after them.
 #[tactic(auto, using(crate::proofs::TextFronts::still_told, crate::proofs::TextFronts::told_behind))]
 fn is_told(before: bool, front: &[u8]) -> bool
     ensures { (text : List ℕ) → (before ≡ true → IsLineTold text) → result ≡ true → IsLineTold (text ++ front.now) }
@@ -102,7 +103,7 @@ fn is_told(before: bool, front: &[u8]) -> bool
     before || tokens_len(front) < front.len()
 }
 
-impl Kept {
+impl KeptFront {
     /// Keeps what comes next, unless there is enough.
     fn push(&mut self, front: &[u8]) -> Result<(), AllocError>
         ensures keeps { (text : List ℕ) → Keeps self.old text → IsUtf8 front.now
@@ -141,7 +142,8 @@ impl Reading {
 
 /// The text whose pieces all came, or the front of it that is kept; none where the last character isn't whole.
 fn finished(reading: Reading) -> Option<String>
-    ensures some { IfSome result (λ text. (all : List ℕ) → IsReadSoFar reading all → IsUtf8 all × KeepsOf reading.kept.extent (string_bytes text) all) }
+    ensures some { IfSome result (λ text. (all : List ℕ) → IsReadSoFar reading all
+        → IsUtf8 all × KeepsOf reading.kept.extent (string_bytes text) all) }
     ensures none { IfNone result ((all : List ℕ) → IsReadSoFar reading all → IsUtf8 all → ⊥) }
 {
     let Reading { kept, unended } = reading;
@@ -166,7 +168,7 @@ pub(crate) fn read_kept<S: Source>(
     // Made before the first read, so that a read that fails needs no memory.
     let path = String::from_str(alloc, source.path())?;
     let mut reading = Reading {
-        kept: Kept {
+        kept: KeptFront {
             extent,
             bytes: Vec::new(alloc),
             is_line_told: false,
@@ -205,8 +207,8 @@ pub(crate) fn read_text<S: Source>(alloc: Global, source: &mut S) -> Result<Stri
 /// first line says.
 pub(crate) fn read_algorithm<S: Source>(alloc: Global, source: &mut S) -> Result<String, Fault>
     requires { S.failed source.old + 1 < 2 ^ 64 }
-    ensures { Reads string_bytes (kept_text_of (FirstLine most_algorithm_bytes) S.place S.failed S.gave S.ended source.old
-        source.new) result }
+    ensures { Reads string_bytes
+        (kept_text_of (FirstLine most_algorithm_bytes) S.place S.failed S.gave S.ended source.old source.new) result }
 {
     read_kept(alloc, source, Extent::FirstLine(MOST_ALGORITHM_BYTES))
 }
@@ -214,7 +216,8 @@ pub(crate) fn read_algorithm<S: Source>(alloc: Global, source: &mut S) -> Result
 /// Reads a picture. Of one that is longer than any, more bytes than it may have are kept.
 pub(crate) fn read_picture_text<S: Source>(alloc: Global, source: &mut S) -> Result<String, Fault>
     requires { S.failed source.old + 1 < 2 ^ 64 }
-    ensures { Reads string_bytes (kept_text_of (Bytes most_picture_bytes) S.place S.failed S.gave S.ended source.old source.new) result }
+    ensures { Reads string_bytes
+        (kept_text_of (Bytes most_picture_bytes) S.place S.failed S.gave S.ended source.old source.new) result }
 {
     read_kept(alloc, source, Extent::Bytes(MOST_PICTURE_BYTES))
 }

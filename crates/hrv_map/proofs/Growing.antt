@@ -5,7 +5,7 @@ use Rattle.hrv_map.specs.Lines.{control_line}
 use Rattle.line_text.specs.Lines.{lines_of}
 use Rattle.halide_parser_syntax.specs.Tokens.{tokens_of}
 use Rattle.hrv_map.specs.Names.{and_names, name_by, names_in}
-use Rattle.hrv_map.specs.declared.names.Kind.{Kind}
+use Rattle.hrv_map.specs.declared.names.NameKind.{NameKind}
 
 -- a text that grew twice
 pub joined : (start middle end front back all : List ℕ) → middle ≡ start ++ front → end ≡ middle ++ back → all ≡ front ++ back → end ≡ start ++ all
@@ -23,16 +23,16 @@ pub and_names-front : (name : Option (List ℕ)) (names : List (List ℕ)) → a
 and_names-front None names = refl
 and_names-front (Some name) names = refl
 
-names_here : (k : Kind) (first : List ℕ) (others : List (List ℕ)) → and_names (name_by k (tokens_of first)) (names_in k others) ≡ names_in k (first ∷ others)
+names_here : (k : NameKind) (first : List ℕ) (others : List (List ℕ)) → and_names (name_by k (tokens_of first)) (names_in k others) ≡ names_in k (first ∷ others)
 unfolding names_in
 names_here k first others = refl
 
-none_here : (kind : Kind) → [] ≡ names_in kind (lines_of [])
+none_here : (kind : NameKind) → [] ≡ names_in kind (lines_of [])
 unfolding names_in lines_of
 none_here kind = refl
 
 -- one line more
-pub one_line : (kind : Kind) (rest after line : List ℕ) (name : Option (List ℕ)) (start new all : List (List ℕ)) → lines_of rest ≡ line ∷ lines_of after
+pub one_line : (kind : NameKind) (rest after line : List ℕ) (name : Option (List ℕ)) (start new all : List (List ℕ)) → lines_of rest ≡ line ∷ lines_of after
     → name ≡ name_by kind (tokens_of line) → new ≡ start ++ and_names name [] → start ++ names_in kind (lines_of rest) ≡ all
     → new ++ names_in kind (lines_of after) ≡ all
 one_line kind rest after line name start new all e f g h =
@@ -44,7 +44,7 @@ one_line kind rest after line name start new all e f g h =
     ∙ ap (λ (ls : List (List ℕ)). names_in kind ls) (sym e)))) ∙ h))
 
 -- no line is left
-pub all_lines : (kind : Kind) (rest : List ℕ) (names all : List (List ℕ)) → rest ≡ [] → names ++ names_in kind (lines_of rest) ≡ all → names ≡ all
+pub all_lines : (kind : NameKind) (rest : List ℕ) (names all : List (List ℕ)) → rest ≡ [] → names ++ names_in kind (lines_of rest) ≡ all → names ≡ all
 all_lines kind rest names all e h = sym (append-nil names) ∙ (ap (λ (ls : List (List ℕ)). names ++ ls) nothing ∙ h)
   where
     nothing : [] ≡ names_in kind (lines_of rest)

@@ -6,10 +6,10 @@ use Rattle.halide_pipeline.specs.declared.definitions.Input.{Input}
 use Rattle.bounds_ranges.specs.Numbers.{origin}
 use Rattle.bounds.specs.declared.boxes.SourceBox.{SourceBox}
 use Rattle.bounds.specs.Extents.{extent}
-use Rattle.hrv_map.specs.declared.areas.Area.{Area}
+use Rattle.hrv_map.specs.declared.areas.PixelArea.{PixelArea}
 
 -- an input begins at point 0, 0
-abbrev pub input_area : ℕ → Input → Area
+abbrev pub input_area : ℕ → Input → PixelArea
 input_area at input = record {
   left = origin;
   top = origin;
@@ -21,7 +21,7 @@ input_area at input = record {
 
 -- A Func's box begins at the lowest end of each of its ranges. Where a range has a base, that is so while all loops of the base have the value 0;
 -- elsewhere it begins so much further as the base then is.
-abbrev pub func_area : ℕ → SourceBox → Area
+abbrev pub func_area : ℕ → SourceBox → PixelArea
 func_area at own = record { left = own.x.low; top = own.y.low; width = extent own.x; height = extent own.y; address = at; pixel = 4 }
 
 -- an end of a range, signed
@@ -29,7 +29,7 @@ abbrev pub end_text : ℕ → List ℕ
 end_text end = if nat_le origin end then decimal (end - origin) else codes "-" ++ decimal (origin - end)
 
 -- ` corner X Y extents W H address A row BYTES pixel BYTES`
-unfoldable pub area_text : Area → List ℕ
+unfoldable pub area_text : PixelArea → List ℕ
 area_text area =
     codes " corner " ++ end_text area.left ++ codes " " ++ end_text area.top
     ++ codes " extents " ++ decimal area.width ++ codes " " ++ decimal area.height

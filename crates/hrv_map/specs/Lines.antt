@@ -9,16 +9,16 @@ use Rattle.schedule_lines.specs.declared.stages.LoopId.{LoopId}
 use Rattle.schedule_lines.specs.Directives.{same_id}
 use Rattle.schedule.specs.declared.plans.FuncPlan.{FuncPlan}
 use Rattle.schedule.specs.declared.schedules.Schedule.{Schedule}
-use Rattle.schedule.specs.declared.standings.LoopPlace.{LoopPlace}
-use Rattle.schedule.specs.declared.standings.Place.{Place}
-use Rattle.schedule.specs.declared.standings.Place.TheVariants as places
-use Rattle.schedule.specs.declared.standings.Standing.{Standing}
+use Rattle.schedule.specs.declared.placements.LoopPlace.{LoopPlace}
+use Rattle.schedule.specs.declared.placements.ComputeLevel.{ComputeLevel}
+use Rattle.schedule.specs.declared.placements.ComputeLevel.TheVariants as places
+use Rattle.schedule.specs.declared.placements.FuncPlacement.{FuncPlacement}
 use Rattle.bounds.specs.declared.boxes.SourceBox.{SourceBox}
 use Rattle.bounds.specs.declared.layout.Layout.{Layout}
 use Rattle.bounds.specs.declared.verdict.Boxes.{Boxes}
 use Rattle.bounds.specs.Extents.{box_in, points}
 use Rattle.bounds.specs.Layout.{data_start}
-use Rattle.hrv_map.specs.declared.names.Names.{Names}
+use Rattle.hrv_map.specs.declared.names.SourceNames.{SourceNames}
 use Rattle.hrv_map.specs.Areas.{area_text, func_area, input_area}
 use Rattle.hrv_map.specs.Names.{name_at}
 
@@ -75,7 +75,7 @@ loop_name_in id (Some plan) = loop_name id plan.pure.loops
 unfoldable pub root_line : List ℕ → ℕ → SourceBox → List ℕ
 root_line name at own = codes "func " ++ name ++ codes " root" ++ area_text (func_area at own) ++ newline
 
--- ` copies 8 distance BYTES`: there is one for each of 8 harts, each so far behind the one before it
+-- ` copies 8 distance BYTES`: there is one for each of 8 harts, each so far after the one before it
 unfoldable pub copies_text : ℕ → List ℕ
 copies_text distance = codes " copies 8 distance " ++ decimal distance ++ newline
 
@@ -98,13 +98,13 @@ module _ (names : List (List ℕ)) (schedule : Schedule) (boxes : Boxes) where
       place) own
 
   -- by where it is computed, and the box of one iteration; nothing where it is inlined
-  abbrev pub func_line_by : ℕ → Place → Option SourceBox → List ℕ
+  abbrev pub func_line_by : ℕ → ComputeLevel → Option SourceBox → List ℕ
   func_line_by place places.Root own = root_if names boxes place own
   func_line_by place (places.At at) own = copies_if place at own
   func_line_by place places.Inlined own = []
   func_line_by place places.Nowhere own = []
 
-  abbrev pub func_line_if : ℕ → Option Standing → List ℕ
+  abbrev pub func_line_if : ℕ → Option FuncPlacement → List ℕ
   func_line_if place None = []
   func_line_if place (Some standing) = func_line_by place standing.place (box_in (slice_get boxes.funcs place))
 

@@ -10,9 +10,9 @@ use Rattle.halide_pipeline.specs.declared.definitions.Update.{Update}
 use Rattle.halide_pipeline.specs.Pipelines.{Pipeline}
 use Rattle.schedule_lines.specs.declared.stages.StageName.{StageName}
 use Rattle.schedule.specs.declared.schedules.Schedule.{Schedule}
-use Rattle.schedule.specs.declared.standings.Place.{Place}
-use Rattle.schedule.specs.declared.standings.Place.TheVariants as places
-use Rattle.schedule.specs.declared.standings.Standing.{Standing}
+use Rattle.schedule.specs.declared.placements.ComputeLevel.{ComputeLevel}
+use Rattle.schedule.specs.declared.placements.ComputeLevel.TheVariants as places
+use Rattle.schedule.specs.declared.placements.FuncPlacement.{FuncPlacement}
 use Rattle.bounds.specs.declared.boxes.SourceBox.{SourceBox}
 use Rattle.bounds.specs.declared.verdict.Boxes.{Boxes}
 use Rattle.bounds.specs.Extents.{box_in}
@@ -33,13 +33,13 @@ abbrev pub stages_in : ℕ → Func → Option SourceBox → List StageName
 stages_in place func None = []
 stages_in place func (Some own) = record { func = place; update = None } ∷ updates_from place 0 func.updates
 
-abbrev pub stages_where : ℕ → Func → Option SourceBox → Place → List StageName
+abbrev pub stages_where : ℕ → Func → Option SourceBox → ComputeLevel → List StageName
 stages_where place func own places.Root = stages_in place func own
 stages_where place func own (places.At at) = []
 stages_where place func own places.Inlined = []
 stages_where place func own places.Nowhere = []
 
-abbrev pub stages_if : ℕ → Func → Option SourceBox → Option Standing → List StageName
+abbrev pub stages_if : ℕ → Func → Option SourceBox → Option FuncPlacement → List StageName
 stages_if place func own None = []
 stages_if place func own (Some standing) = stages_where place func own standing.place
 
@@ -74,7 +74,7 @@ abbrev pub update_text : Option ℕ → List ℕ
 update_text None = []
 update_text (Some at) = codes "." ++ decimal at
 
--- ` tasks N code FIRST BEHIND`, by the addresses of the first word and behind the last one
+-- ` tasks N code FIRST BEHIND`, by the first word's address and that past the last
 unfoldable pub code_text : CodePhase → List ℕ
 code_text phase =
     update_text phase.stage.update ++ codes " tasks " ++ decimal phase.tasks ++ codes " code "

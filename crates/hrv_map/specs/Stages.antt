@@ -15,7 +15,7 @@ use Rattle.hrv_map.specs.Phases.{phase_line, update_text}
 abbrev pub is_inside : CodePhase → CodeStage → Bool
 is_inside phase own = nat_le phase.first own.first && nat_lt own.first own.behind && nat_le own.behind phase.behind
 
--- what stands behind the name: ` FIRST BEHIND`, by the addresses of the first word and behind the last one
+-- what stands after the name: ` FIRST BEHIND`, by the first word's address and that past the last
 unfoldable pub range_text : CodeStage → List ℕ
 range_text own =
     update_text own.stage.update ++ codes " " ++ hexadecimal_text 8 (text_start + 4 * own.first)
@@ -29,12 +29,12 @@ module _ (names : List (List ℕ)) where
   abbrev pub line_inside : CodePhase → CodeStage → List ℕ
   line_inside phase own = if is_inside phase own then stage_line phase own else []
 
--- of the first ones, up to one that begins behind the phase
+-- of the first ones, up to one that begins after the phase
 unfoldable pub stage_lines : List (List ℕ) → CodePhase → List CodeStage → List ℕ
 stage_lines names phase [] = []
 stage_lines names phase (own ∷ others) = if nat_lt own.first phase.behind then line_inside names phase own ++ stage_lines names phase others else []
 
--- that one, and those behind it
+-- that one, and those after it
 unfoldable pub stages_behind : CodePhase → List CodeStage → List CodeStage
 stages_behind phase [] = []
 stages_behind phase (own ∷ others) = if nat_lt own.first phase.behind then stages_behind phase others else own ∷ others

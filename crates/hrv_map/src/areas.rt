@@ -14,7 +14,7 @@ use std::alloc::{AllocError, Global};
 
 /// Where the pixels of a source lie: by rows, each from the left, without gaps.
 #[derive(Clone, Copy, Debug)]
-pub struct Area {
+pub struct PixelArea {
     /// The first column, with 2^62 added.
     pub left: u64,
     /// The first row, with 2^62 added.
@@ -30,10 +30,10 @@ pub struct Area {
 }
 
 /// Where an input lies.
-pub(crate) fn input_area(at: u64, input: &Input) -> Area
+pub(crate) fn input_area(at: u64, input: &Input) -> PixelArea
     ensures { result ≡ spec.input_area at input.now }
 {
-    Area {
+    PixelArea {
         left: ORIGIN,
         top: ORIGIN,
         width: input.width,
@@ -44,12 +44,12 @@ pub(crate) fn input_area(at: u64, input: &Input) -> Area
 }
 
 /// Where the box of a Func lies.
-pub(crate) fn func_area(at: u64, own: &SourceBox) -> Area
+pub(crate) fn func_area(at: u64, own: &SourceBox) -> PixelArea
     requires { IsBox own.now }
     ensures { result ≡ spec.func_area at own.now }
 {
     let extents = extents_of(own);
-    Area {
+    PixelArea {
         left: own.x.low,
         top: own.y.low,
         width: extents.first_argument,
@@ -73,10 +73,10 @@ fn push_end(text: &mut String, end: u64) -> Result<(), AllocError>
 
 /// ` corner X Y extents W H address A row BYTES pixel BYTES`
 #[tactic(auto, unfolding(crate::specs::Areas::area_text))]
-pub(crate) fn area_text(alloc: Global, area: Area) -> Result<String, AllocError>
+pub(crate) fn area_text(alloc: Global, area: PixelArea) -> Result<String, AllocError>
     ensures { IfOk result (λ text. string_bytes text ≡ spec.area_text area) }
 {
-    let Area {
+    let PixelArea {
         left,
         top,
         width,

@@ -16,4 +16,4 @@ mod phases;
 mod stages;
 
 pub use crate::maps::map_text;
-pub use crate::names::{Names, names_of};
+pub use crate::names::{SourceNames, names_of};

@@ -13,7 +13,7 @@ use bounds::layout::{DATA_START, FRAME};
 use bounds::{Boxes, Layout, Plan, SourceBox};
 use disassembler::push_hexadecimal;
 use halide_pipeline::{Func, Input};
-use schedule::{LoopPlace, Place, Schedule};
+use schedule::{ComputeLevel, LoopPlace, Schedule};
 use schedule_lines::stages::{Loop, LoopId, same_id};
 use sqlite_items::Items;
 use std::alloc::{AllocError, Global};
@@ -266,9 +266,9 @@ fn push_func_line(
         return Ok(());
     };
     match standing.place {
-        Place::Root => push_root(alloc, out, names, plan.boxes(), place)?,
-        Place::At(at) => push_copies(alloc, out, names, plan, place, at)?,
-        Place::Inlined | Place::Nowhere => {}
+        ComputeLevel::Root => push_root(alloc, out, names, plan.boxes(), place)?,
+        ComputeLevel::At(at) => push_copies(alloc, out, names, plan, place, at)?,
+        ComputeLevel::Inlined | ComputeLevel::Nowhere => {}
     }
     Ok(())
 }

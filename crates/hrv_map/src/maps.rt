@@ -5,7 +5,7 @@ ghost use Rattle.hrv_map.specs.Lines as lines;
 ghost use Rattle.hrv_map.specs.Maps as spec;
 
 use crate::lines::{control_line, push_frames_line, push_func_lines, push_input_lines};
-use crate::names::{Names, names_of};
+use crate::names::{SourceNames, names_of};
 use crate::phases::{CodePhase, push_phase_lines, push_phases, push_tasks, stages_of};
 use bounds::Plan;
 use std::alloc::{AllocError, Global};
@@ -37,7 +37,7 @@ fn push_control_lines(alloc: Global, out: &mut Vec<u8>, phases: u64) -> Result<(
 fn push_layout(
     alloc: Global,
     out: &mut Vec<u8>,
-    names: &Names,
+    names: &SourceNames,
     plan: &Plan<'_>,
 ) -> Result<(), AllocError>
     requires { plan.now.boxes.layout.phases ≤ 4194304 }
@@ -74,8 +74,8 @@ fn phases_of(alloc: Global, plan: &Plan<'_>, ends: &[u32]) -> Result<Vec<CodePha
 }
 
 /// The text of a plan: where the parts of the data lie, and which words of the machine's text are the code of each
-/// phase, and of stages inside. Names are those that the algorithm's text gives; the code of each phase ends at a word
-/// of the machine's text, by its place from 0, and stages inside are in the order of their code.
+/// phase, and of stages inside. Names are those that the algorithm's text gives; the code of each phase ends at a
+/// word of the machine's text, by its place from 0, and stages inside are in the order of their code.
 ///
 /// # Errors
 ///

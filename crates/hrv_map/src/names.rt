@@ -13,7 +13,7 @@ use std::alloc::{AllocError, Global};
 
 /// What a line names.
 #[derive(Clone, Copy, Debug, PartialEq, Eq)]
-pub enum Kind {
+pub enum NameKind {
     /// `input NAME ..`
     Inputs,
     /// `func NAME ..`
@@ -22,21 +22,21 @@ pub enum Kind {
 
 /// The names of the inputs and of the Funcs, each in order of the text.
 #[derive(Drop)]
-pub struct Names {
+pub struct SourceNames {
     pub inputs: Items<Items<u8>>,
     pub funcs: Items<Items<u8>>,
 }
 
 /// Whether lines of a kind begin with a token.
-fn begins(kind: Kind, token: &Token) -> bool
+fn begins(kind: NameKind, token: &Token) -> bool
     ensures { result ≡ spec.begins kind token.now }
 {
     match kind {
-        Kind::Inputs => match token {
+        NameKind::Inputs => match token {
             Token::Input => true,
             _ => false,
         },
-        Kind::Funcs => match token {
+        NameKind::Funcs => match token {
             Token::Func => true,
             _ => false,
         },
@@ -54,7 +54,7 @@ fn word_in(alloc: Global, token: &Token) -> Result<Option<Items<u8>>, AllocError
 }
 
 /// What tokens name, if their line is of a kind.
-fn name_in(alloc: Global, kind: Kind, tokens: &[Token]) -> Result<Option<Items<u8>>, AllocError>
+fn name_in(alloc: Global, kind: NameKind, tokens: &[Token]) -> Result<Option<Items<u8>>, AllocError>
     ensures { IfOk result (λ name. name ≡ spec.name_in kind tokens.now) }
 {
     let [first, second, ..] = tokens else {
@@ -68,7 +68,7 @@ fn name_in(alloc: Global, kind: Kind, tokens: &[Token]) -> Result<Option<Items<u
 }
 
 /// What a line names, if it is of a kind.
-fn name_of(alloc: Global, kind: Kind, line: &[u8]) -> Result<Option<Items<u8>>, AllocError>
+fn name_of(alloc: Global, kind: NameKind, line: &[u8]) -> Result<Option<Items<u8>>, AllocError>
     ensures { IfOk result (λ name. name ≡ spec.name_by kind (tokens_in line.now)) }
 {
     match tokens_of(alloc, line) {
@@ -92,7 +92,7 @@ fn push_name(names: &mut Vec<Items<u8>>, name: Option<Items<u8>>) -> Result<(), 
 }
 
 /// The names of a kind in a text.
-fn names_in(alloc: Global, kind: Kind, text: &[u8]) -> Result<Vec<Items<u8>>, AllocError>
+fn names_in(alloc: Global, kind: NameKind, text: &[u8]) -> Result<Vec<Items<u8>>, AllocError>
     ensures { IfOk result (λ names. names.items ≡ spec.names_in kind (lines_of text.now)) }
 {
     let mut names = Vec::new(alloc);
@@ -111,12 +111,12 @@ fn names_in(alloc: Global, kind: Kind, text: &[u8]) -> Result<Vec<Items<u8>>, Al
 /// # Errors
 ///
 /// Memory ran out.
-pub fn names_of(alloc: Global, algorithm: &str) -> Result<Names, AllocError>
+pub fn names_of(alloc: Global, algorithm: &str) -> Result<SourceNames, AllocError>
     ensures { IfOk result (λ names. names ≡ spec.names_of algorithm.now) }
 {
-    let inputs = names_in(alloc, Kind::Inputs, algorithm.as_bytes())?;
-    let funcs = names_in(alloc, Kind::Funcs, algorithm.as_bytes())?;
-    Ok(Names {
+    let inputs = names_in(alloc, NameKind::Inputs, algorithm.as_bytes())?;
+    let funcs = names_in(alloc, NameKind::Funcs, algorithm.as_bytes())?;
+    Ok(SourceNames {
         inputs: Items::from_vec(inputs),
         funcs: Items::from_vec(funcs),
     })

@@ -19,7 +19,7 @@ use bounds::{Boxes, Plan};
 use disassembler::push_hexadecimal;
 use halide_pipeline::{Func, Update};
 use memory::TEXT_START;
-use schedule::{Place, Schedule};
+use schedule::{ComputeLevel, Schedule};
 use schedule_lines::stages::StageName;
 use sqlite_items::Items;
 use std::alloc::{AllocError, Global};
@@ -35,7 +35,7 @@ pub struct CodePhase {
     pub tasks: u32,
     /// The place of its first word in the text, from 0.
     pub first: u32,
-    /// The place behind its last word.
+    /// The place after its last word.
     pub behind: u32,
 }
 
@@ -98,8 +98,8 @@ fn push_stages_of(
         return Ok(());
     };
     match standing.place {
-        Place::Root => push_all(stages, boxes, place, func)?,
-        Place::At(_) | Place::Inlined | Place::Nowhere => {}
+        ComputeLevel::Root => push_all(stages, boxes, place, func)?,
+        ComputeLevel::At(_) | ComputeLevel::Inlined | ComputeLevel::Nowhere => {}
     }
     Ok(())
 }
@@ -230,7 +230,7 @@ pub(crate) fn address_of(place: u32) -> u64
     u64::from(TEXT_START) + 4 * u64::from(place)
 }
 
-/// What stands behind the name of a phase's stage: ` tasks N code FIRST BEHIND`.
+/// What stands after the name of a phase's stage: ` tasks N code FIRST BEHIND`.
 #[tactic(auto, unfolding(crate::specs::Phases::code_text))]
 fn code_text(alloc: Global, phase: &CodePhase) -> Result<String, AllocError>
     ensures { IfOk result (λ text. string_bytes text ≡ spec.code_text phase.now) }
@@ -273,7 +273,7 @@ fn push_phase_line(
     Ok(())
 }
 
-/// The lines of phases, behind each of them those of the stages inside it.
+/// The lines of phases, after each of them those of the stages inside it.
 #[tactic(auto, unfolding(crate::specs::Stages::phase_lines))]
 pub(crate) fn push_phase_lines(
     alloc: Global,

@@ -19,7 +19,7 @@ fn is_inside(phase: &CodePhase, own: &CodeStage) -> bool
     phase.first <= own.first && own.first < own.behind && own.behind <= phase.behind
 }
 
-/// What stands behind the name of a stage: `.PLACE` of an update, and ` FIRST BEHIND`.
+/// What stands after the name of a stage: `.PLACE` of an update, and ` FIRST BEHIND`.
 #[tactic(auto, unfolding(crate::specs::Stages::range_text))]
 fn range_text(alloc: Global, own: &CodeStage) -> Result<String, AllocError>
     ensures { IfOk result (λ text. string_bytes text ≡ spec.range_text own.now) }
@@ -78,7 +78,7 @@ fn push_inside(
     Ok(())
 }
 
-/// The lines of the stages inside a phase, in front of those that begin behind it, and which these are.
+/// The lines of the stages inside a phase, in front of those that begin after it, and which these are.
 #[tactic(auto, unfolding(crate::specs::Stages::stage_lines, crate::specs::Stages::stages_behind))]
 pub(crate) fn push_stage_lines<'a>(
     alloc: Global,

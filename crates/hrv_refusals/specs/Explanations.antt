@@ -8,7 +8,7 @@ use Rattle.hrv_refusals.specs.declared.table.TheConstants.{REFUSALS}
 
 -- ---- headings
 
--- the code behind a blank (32), where there is one
+-- the code after a blank (32), where there is one
 abbrev pub behind_blank : List ℕ → List ℕ
 behind_blank [] = []
 behind_blank (digit ∷ digits) = 32 ∷ digit ∷ digits

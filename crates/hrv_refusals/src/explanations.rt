@@ -151,7 +151,7 @@ fn is_heading(line: &[u8], family: &str, code: &str) -> bool
     !is_indented(line) && is_name(line, family.as_bytes(), code.as_bytes())
 }
 
-/// Whether a line is a family, and behind a blank a code where there is one.
+/// Whether a line is a family, and after a blank a code where there is one.
 fn is_name(line: &[u8], family: &[u8], code: &[u8]) -> bool
     ensures { result ≡ bytes_eq line.now (spec.name family.now code.now) }
 {
@@ -177,7 +177,7 @@ fn is_behind_blank(text: &[u8], code: &[u8]) -> bool
     }
 }
 
-/// The family, and behind a blank the code where there is one.
+/// The family, and after a blank the code where there is one.
 fn push_name(out: &mut Vec<u8>, family: &str, code: &str) -> Result<(), AllocError>
     ensures { OnOk result (out.new.items ≡ out.old.items ++ spec.name family.now code.now) }
 {

@@ -1,8 +1,8 @@
-//! The refusals of the program, as data: the tables of the pages have these texts, and `bench/refusal_tables` compares
-//! them.
+//! The refusals of the program, as data: the tables of the pages have these texts, and `bench/checks/refusal_tables`
+//! compares them.
 
 /// A line for each family, and for each of its codes as often as it has causes, in the order in which they are judged.
-/// Below it stand, behind two blanks, what the family says, and the cause with what helps.
+/// Below it stand, after two blanks, what the family says, and the cause with what helps.
 #[rattlefmt::skip]
 pub static REFUSALS: [u8; 8553] = *b"\
 file\n\

@@ -1,4 +1,4 @@
--- The contents of an image, spelled and read again, behind which anything may stand.
+-- The contents of an image, spelled and read again, after which anything may stand.
 use Rattle.std.proofs.Common.{◌≡◌, ℕ, ◌+◌, ◌*◌, ◌%◌, ◌^◌, ◌<◌, ◌≤◌, true, false, List, [], ◌∷◌, ◌++◌, length, take, drop, Option, Some, None, refl, sym, ap}
 use Rattle.std.proofs.Common.{◌∙◌, append_assoc, arith}
 use Rattle.std.specs.Prelude.{IfSome, IsTrue, nat_le, nat_lt, ◌&&◌, ◌==◌}
@@ -45,7 +45,7 @@ has_width bytes output e =
 
 -- ---- the header
 
--- a number behind what stands in front
+-- a number after what stands in front
 pub number_behind : (bytes tail : List ℕ) (m n k : ℕ) → drop m bytes ≡ tail → m + n ≡ k → number_at bytes k ≡ number_at tail n
 unfolding number_at
 number_behind bytes tail m n k e sum_is =
@@ -94,7 +94,7 @@ output_again bytes rest count (Some o) e lies fits =
     )
     (cond-false (o.address == 0 && o.width == 0 && o.height == 0 && o.stride == 0) None (Some o) no_zeros)
 
--- the part of a header that both formats have, and what stands behind it
+-- the part of a header that both formats have, and what stands after it
 record ReadsStart (format : Format) (image : ImageContents) (bytes rest : List ℕ) : Type 0 where
   pub begins : format_of bytes ≡ Some format
   pub entry : number_at bytes 4 ≡ image.entry
@@ -132,7 +132,7 @@ start_again Hrv2 image rest rules =
       behind = sym (drop-drop 16 16 (spelled_start Hrv2 image ++ rest)) ∙ drop_at fields rest 16 (length-output_fields image.output);
     }
 
--- a header, and what stands behind it
+-- a header, and what stands after it
 pub record ReadsHeader (format : Format) (image : ImageContents) (bytes rest : List ℕ) : Type 0 where
   pub begins : format_of bytes ≡ Some format
   pub entry : number_at bytes 4 ≡ image.entry

@@ -92,7 +92,7 @@ start_cut format bytes fits long begins =
     ∙ assembled (magic format) (at 4) (at 8) (at 12) (at 16) (at 20) (at 24) (at 28) (drop 32 bytes)
     ∙ ap (λ (fields : List ℕ). (magic format ++ at 4 ++ at 8 ++ at 12 ++ spelled_numbers fields) ++ drop 32 bytes) (sym (fields_are bytes))
 
--- and behind it what the second format has more
+-- and after it what the second format has more
 field_cut : (format : Format) (bytes : List ℕ) → IsBytes bytes → header_length format ≤ length bytes
     → drop 32 bytes ≡ stored_field format (stored_count format bytes) ++ drop (header_length format) bytes
 field_cut Hrv1 bytes fits long = refl
@@ -112,7 +112,7 @@ header_cut format bytes fits framed =
     ∙ ap (λ (xs : List ℕ). start ++ xs) (field_cut format bytes fits header)
     ∙ sym (append_assoc start (stored_field format (stored_count format bytes)) (drop (header_length format) bytes))
 
--- the words and the data behind a header
+-- the words and the data after a header
 behind_cut : (format : Format) (bytes : List ℕ) → IsBytes bytes → IsFramed format bytes
     → drop (header_length format) bytes ≡ spelled_numbers (numbers_in (word_count bytes) (drop (header_length format) bytes)) ++ stored_in format bytes
 behind_cut format bytes fits framed =

@@ -67,7 +67,7 @@ trimmed_zeros (suc count) = ap (in_front 0) (trimmed_zeros count)
 abbrev ends_in_zero : List ℕ → Bool
 ends_in_zero bytes = is_zero (slice_get bytes (length bytes - 1))
 
--- the end of bytes is that of those behind the first
+-- the end of bytes is that of those after the first
 later_end : (byte next : ℕ) (bytes : List ℕ) → ends_in_zero (byte ∷ next ∷ bytes) ≡ ends_in_zero (next ∷ bytes)
 later_end byte next bytes =
     let place : length (byte ∷ next ∷ bytes) - 1 ≡ suc (length (next ∷ bytes) - 1) = omega arith in
@@ -130,7 +130,7 @@ kept_whole bytes byte other = ap trimmed (sym (append-nil (bytes ++ byte ∷ [])
   ends (first ∷ []) = ne_eqb byte 0 other
   ends (first ∷ second ∷ front) = later_end first second (front ++ byte ∷ []) ∙ ends (second ∷ front)
 
--- a zero behind so many bytes is passed
+-- a zero after so many bytes is passed
 pub zero_passed : (bytes : List ℕ) (count : ℕ) → count < length bytes → get_or bytes count 0 ≡ 0 → trimmed (take (count + 1) bytes) ≡ trimmed (take count bytes)
 zero_passed bytes count lt is_zero =
     ap trimmed (take_more bytes count 0 lt) ∙ ap (λ (byte : ℕ). trimmed (take count bytes ++ byte ∷ [])) is_zero ∙ trimmed_more (take count bytes)
@@ -156,7 +156,7 @@ other_before bytes count some within other =
 
 -- ---- eight zeros at once
 
--- zeros behind other bytes are lost
+-- zeros after other bytes are lost
 lost_behind : (front zeros : List ℕ) → trimmed zeros ≡ [] → trimmed (front ++ zeros) ≡ trimmed front
 lost_behind [] zeros none = none
 lost_behind (byte ∷ front) zeros none = ap (in_front byte) (lost_behind front zeros none)
@@ -165,7 +165,7 @@ lost_behind (byte ∷ front) zeros none = ap (in_front byte) (lost_behind front 
 all_zeros : (last : List ℕ) → length last ≡ 8 → ((i : ℕ) → get_or last i 0 < 256) → from_le_bytes w64 last ≡ 0 → trimmed last ≡ []
 all_zeros last len small is = ap trimmed (sym (le_bytes_8 last 0 len small (sym is)))
 
--- zeros that are put behind bytes are lost again
+-- zeros that are put after bytes are lost again
 pub trimmed_front : (size : ℕ) (front : List ℕ) → trimmed (padded size front) ≡ trimmed front
 trimmed_front size front = lost_behind front (replicate (size - length front) 0) (trimmed_zeros (size - length front))
 

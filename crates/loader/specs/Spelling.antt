@@ -125,7 +125,7 @@ whole_length format bytes = stored_place format bytes + stored_count format byte
 abbrev pub stored_in : Format → List ℕ → List ℕ
 stored_in format bytes = take (stored_count format bytes) (drop (stored_place format bytes) bytes)
 
--- so many bytes: these, and zeros behind them
+-- so many bytes: these, and zeros after them
 abbrev pub padded : ℕ → List ℕ → List ℕ
 padded count bytes = bytes ++ replicate (count - length bytes) 0
 

@@ -34,7 +34,7 @@ pub fn load(alloc: Global, bytes: &[u8], harts: usize) -> Result<Machine, LoadFa
     // What spells an image is loaded with 1 to 8 harts, unless memory runs out.
     ensures only { (image : ImageContents) → IsImage image → Spells bytes.now image → 1 ≤ harts → harts ≤ 8
         → Answers result (Ok (machine_of image harts)) }
-    // The refusal is the first in the format's order, and that of the harts behind it.
+    // The refusal is the first in the format's order, and that of the harts after it.
     ensures exact { Answers result (loaded bytes.now harts) }
 {
     let image = read_image(alloc, bytes)?;

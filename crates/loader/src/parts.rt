@@ -2,7 +2,7 @@
 
 use crate::outputs::Output;
 
-/// The parts of an image whose data are some bytes and zeros behind them, so that the zeros need no memory.
+/// The parts of an image whose data are some bytes and zeros after them, so that the zeros need no memory.
 /// `specs/Parts.antt` has what such an image holds.
 #[derive(Clone, Copy)]
 pub struct ImageParts<'a> {

@@ -123,7 +123,7 @@ fn words_of(alloc: Global, count: usize, text: &[u8]) -> Result<Vec<u32>, AllocE
     Ok(words)
 }
 
-/// So many bytes: these, and zeros behind them.
+/// So many bytes: these, and zeros after them.
 fn padded(alloc: Global, count: usize, bytes: &[u8]) -> Result<Vec<u8>, AllocError>
     requires { length bytes.now ≤ count }
     ensures { IfOk result (λ padding. padding.items ≡ padded count bytes.now) }

@@ -1,4 +1,4 @@
--- Rounds of which none loads what an earlier one stores leave at once what they leave in turn.
+-- Lanes of which none loads what an earlier one stores leave at once what they leave in order.
 use Rattle.std.proofs.Common.{◌≡◌, ℕ, zero, suc, ◌<◌, Bool, true, false, cond, ap, sym, subst, ◌∙◌, refl, List, [], ◌∷◌, ◌++◌, Option, Some, None, arith}
 use Rattle.std.proofs.Common.{true≢false}
 use Rattle.std.specs.Prelude.{◌&&◌, ◌==◌, not, nat_lt}
@@ -18,15 +18,15 @@ use Rattle.loop_ir.specs.declared.statements.Stmt.TheOpen.{Stmt-F}
 use Rattle.loop_ir.specs.declared.statements.Stmt.TheOpen as layer
 use Rattle.loop_ir.specs.declared.statements.Stmt.TheVariants.{rolls-Store, rolls-Sequence, rolls-For, rolls-Bind}
 use Rattle.loop_ir.specs.declared.statements.Stmt.TheVariants as s
-use Rattle.loop_ir.specs.AtOnce.{Effect, effect, effect_at, put_effect, RoundsAtOnceDoWhatTurnsDo}
+use Rattle.loop_ir.specs.AtOnce.{Effect, effect, effect_at, put_effect, LanesAtOnceDoWhatIterationsDo}
 use Rattle.loop_ir.specs.Buffers.{Points, put}
 use Rattle.loop_ir.specs.Counters.{Values, with}
 use Rattle.loop_ir.specs.Expressions.{value, loads}
-use Rattle.loop_ir.specs.Rounds.{Rounds, rounds, misses, are_apart, is_source_of, all_but, all_points, everywhere}
-use Rattle.loop_ir.specs.Running.{run, turns, whole_value}
+use Rattle.loop_ir.specs.LoopLanes.{LoopLanes, loop_lanes, misses, are_apart, is_source_of, all_but, all_points, everywhere}
+use Rattle.loop_ir.specs.Running.{run, iterated, whole_value}
 use Rattle.loop_ir.specs.Soundness.{every, is_sound, store_loads}
 use Rattle.loop_ir.proofs.Loads.{values_depend_on_loads}
-use Rattle.loop_ir.proofs.Rounds.{rounds_sequence, rounds_for, rounds_bind, touches_are}
+use Rattle.loop_ir.proofs.LoopLanes.{lanes_sequence, lanes_of_loop, lanes_bind, touches_are}
 use Rattle.loop_ir.proofs.Sound.{sound_store, sound_bind}
 use Rattle.loop_ir.proofs.Trees.{run_store, run_bind}
 
@@ -44,7 +44,7 @@ each (suc n) test is k below = by_test (nat_lt k n) refl (λ less. each n test (
         let same : n ≡ k = omega (arith, below, last) in
         subst (λ (m : ℕ). test m ≡ true) same (and_parts (every n test) (test n) is).1
 
--- ---- what a round stores, in terms of its parts
+-- ---- what a lane stores, in terms of its parts
 
 module _ (reads : Reads) where
   abbrev of : Stmt → Values → Option Effect
@@ -81,7 +81,7 @@ module _ (reads : Reads) where
 
 module _ (points : Points) (inputs : Planes) (reads : Reads) where
   abbrev Does : Stmt → Type 0
-  Does statement = (rounds reads statement).is_one_store ≡ true
+  Does statement = (loop_lanes reads statement).is_one_store ≡ true
       → (values : Values) (funcs : Planes) → run points inputs statement values funcs ≡ put_effect points (effect (reads_of inputs funcs) statement values)
       funcs
 
@@ -97,23 +97,23 @@ module _ (points : Points) (inputs : Planes) (reads : Reads) where
     where
       by_test : (test : Bool) → cond test (run points inputs body (with counter (whole_value whole values) values) funcs) funcs
           ≡ put_effect points (cond test (effect (reads_of inputs funcs) body (with counter (whole_value whole values) values)) None) funcs
-      by_test true = does (sym (ap (λ (own : Rounds). own.is_one_store) (rounds_bind reads counter whole extent body))
+      by_test true = does (sym (ap (λ (own : LoopLanes). own.is_one_store) (lanes_bind reads counter whole extent body))
           ∙ is) (with counter (whole_value whole values) values) funcs
       by_test false = refl
 
   does_by_layer : (X : Type 0) (part : X → Stmt) → ((x : X) → Does (part x)) → (y : Stmt-F X) → Does (roll-Stmt (map-Stmt X Stmt part y))
   does_by_layer X part holds (layer.Store store) = subst Does (sym (rolls-Store store)) (store_does store)
   does_by_layer X part holds (layer.Sequence a b) = subst Does (sym (rolls-Sequence (part a) (part b)))
-      (λ is. absurd (true≢false (sym is ∙ ap (λ (own : Rounds). own.is_one_store) (rounds_sequence reads (part a) (part b)))))
+      (λ is. absurd (true≢false (sym is ∙ ap (λ (own : LoopLanes). own.is_one_store) (lanes_sequence reads (part a) (part b)))))
   does_by_layer X part holds (layer.For counter count kind a) = subst Does (sym (rolls-For counter count kind (part a)))
-      (λ is. absurd (true≢false (sym is ∙ ap (λ (own : Rounds). own.is_one_store) (rounds_for reads counter count kind (part a)))))
+      (λ is. absurd (true≢false (sym is ∙ ap (λ (own : LoopLanes). own.is_one_store) (lanes_of_loop reads counter count kind (part a)))))
   does_by_layer X part holds (layer.Bind counter whole extent a) = subst Does (sym (rolls-Bind counter whole extent (part a))) (bind_does counter whole extent
       (part a) (holds a))
 
   pub one_does : (statement : Stmt) → Does statement
   one_does = ind-Stmt Does (λ x y is. subst (λ (l : Stmt-F Stmt). Does (roll-Stmt l)) is (does_by_layer _ (λ e. e.0) (λ e. e.1) y))
 
--- ---- reads that agree at all that a round loads make it store the same
+-- ---- reads that agree at all that a lane loads make it store the same
 
 -- of so many tests, each passes at the point
 abbrev Pass : ℕ → (ℕ → Point → Bool) → Point → Type 0
@@ -235,31 +235,31 @@ module _ (points : Points) (inputs : Planes) (reads : Reads) (point : Point) whe
   pub missed_stays : (statement : Stmt) → Stays statement
   missed_stays = ind-Stmt Stays (λ x y is. subst (λ (l : Stmt-F Stmt). Stays (roll-Stmt l)) is (stays_by_layer _ (λ e. e.0) (λ e. e.1) y))
 
--- ---- all rounds
+-- ---- all lanes
 
 module _ (points : Points) (inputs : Planes) (body : Stmt) (at : ℕ → Values) (funcs : Planes) where
   abbrev before : Reads
   before = reads_of inputs funcs
 
-  abbrev own : Rounds
-  own = rounds before body
+  abbrev own : LoopLanes
+  own = loop_lanes before body
 
   abbrev stores : ℕ → Planes
-  stores n = turns n (λ round. put_effect points (effect before body (at round))) funcs
+  stores n = iterated n (λ lane. put_effect points (effect before body (at lane))) funcs
 
-  -- behind so many rounds a point that all of them miss is answered as before
+  -- after so many lanes a point that all of them miss is answered as before
   answered : (n : ℕ) (point : Point) → Pass n (λ k. misses own (at k)) point → AgreeAt before (reads_of inputs (stores n)) point
-  unfolding turns
+  unfolding iterated
   answered zero point pass = refl
   answered (suc n) point pass =
       missed_stays points inputs before point body (at n) (sym (ap (λ (test : Values → Bool). test (at n)) (touches_are before (all_but point) all_points body))
       ∙ pass n (omega arith)) (stores n)
       ∙ answered n point (λ k below. pass k (omega (arith, below)))
 
-  -- so a round stores what it stores from what was there before the first
-  pub same_round : (n : ℕ) → are_apart own at (suc n) ≡ true → effect (reads_of inputs (stores n)) body (at n) ≡ effect before body (at n)
+  -- so a lane stores what it stores from what was there before the first
+  pub same_lane : (n : ℕ) → are_apart own at (suc n) ≡ true → effect (reads_of inputs (stores n)) body (at n) ≡ effect before body (at n)
   unfolding every
-  same_round n apart =
+  same_lane n apart =
       let parts = and_parts (are_apart own at n) (every n (λ earlier. own.touches everywhere (misses own (at earlier)) (at n))) apart in
       same_effect before (reads_of inputs (stores n)) n (λ k. misses own (at k)) (answered n) body (at n)
       (λ k below. sym (ap (λ (test : Values → Bool). test (at n)) (touches_are before everywhere (misses own (at k)) body))
@@ -269,13 +269,13 @@ module _ (points : Points) (inputs : Planes) (body : Stmt) (at : ℕ → Values)
   unfolding every
   fewer_apart n apart = (and_parts (are_apart own at n) (every n (λ earlier. own.touches everywhere (misses own (at earlier)) (at n))) apart).0
 
-  pub in_turn : (n : ℕ) → own.is_one_store ≡ true → are_apart own at n ≡ true → turns n (λ turn. run points inputs body (at turn)) funcs ≡ stores n
-  unfolding turns
-  in_turn zero is apart = refl
-  in_turn (suc n) is apart =
-      ap (run points inputs body (at n)) (in_turn n is (fewer_apart n apart))
+  pub in_order : (n : ℕ) → own.is_one_store ≡ true → are_apart own at n ≡ true → iterated n (λ iteration. run points inputs body (at iteration)) funcs ≡ stores n
+  unfolding iterated
+  in_order zero is apart = refl
+  in_order (suc n) is apart =
+      ap (run points inputs body (at n)) (in_order n is (fewer_apart n apart))
       ∙ one_does points inputs before body is (at n) (stores n)
-      ∙ ap (λ e. put_effect points e (stores n)) (same_round n apart)
+      ∙ ap (λ e. put_effect points e (stores n)) (same_lane n apart)
 
-pub rounds_at_once : RoundsAtOnceDoWhatTurnsDo
-rounds_at_once points inputs body at count funcs is apart = in_turn points inputs body at funcs count is apart
+pub lanes_at_once : LanesAtOnceDoWhatIterationsDo
+lanes_at_once points inputs body at count funcs is apart = in_order points inputs body at funcs count is apart

@@ -11,6 +11,6 @@ pub mod Sums
 pub mod Traces
 pub mod Trees
 pub mod Bound
-pub mod Turns
-pub mod Rounds
+pub mod Iterations
+pub mod LoopLanes
 pub mod Runs

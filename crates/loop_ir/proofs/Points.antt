@@ -20,8 +20,8 @@ within : (width height x y : ℕ) → x < width → y < height → y * width + x
 within width height x y below_x below_y =
     let next : suc y ≤ height = omega arith in
     let row : suc y * width ≡ y * width + width = omega arith in
-    let turned : height * width ≡ width * height = omega arith in
-    omega (arith, row, turned, mul-le-mul_right {m = suc y} {n = height} width next)
+    let swapped : height * width ≡ width * height = omega arith in
+    omega (arith, row, swapped, mul-le-mul_right {m = suc y} {n = height} width next)
 
 inside : (width height x y pixel i j : ℕ) (pixels : List ℕ) → x < width → y < height → i < width → length pixels ≡ width * height
     → get_or (set pixels (y * width + x) pixel) (j * width + i) 0 ≡ (if i == x && j == y then pixel else get_or pixels (j * width + i) 0)

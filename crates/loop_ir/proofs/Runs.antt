@@ -13,7 +13,7 @@ use Rattle.loop_ir.specs.declared.statements.Stmt.TheOpen as layer
 use Rattle.loop_ir.specs.declared.statements.Stmt.TheVariants.{rolls-Store, rolls-Sequence, rolls-For, rolls-Bind}
 use Rattle.loop_ir.specs.declared.statements.Stmt.TheVariants as s
 use Rattle.loop_ir.specs.Counters.{Values, with}
-use Rattle.loop_ir.specs.Rounds.{is_vectorized, all_but, all_points}
+use Rattle.loop_ir.specs.LoopLanes.{is_vectorized, all_but, all_points}
 use Rattle.loop_ir.specs.Running.{whole_value}
 use Rattle.loop_ir.specs.Runs.{is_about, is_about_at, Runs, runs, runs_at, stores_in_runs, point_of, RunsMissWhatIsSound, OthersStoreInNoRun}
 use Rattle.loop_ir.specs.Soundness.{every, is_sound, is_sound_at}
@@ -126,7 +126,7 @@ module _ (reads : Reads) (func x y : ℕ) (expected : Values → Bool) where
 
   -- ---- statements of another Func
 
-  every_true : (n : ℕ) (test : ℕ → Bool) → ((turn : ℕ) → test turn ≡ true) → every n test ≡ true
+  every_true : (n : ℕ) (test : ℕ → Bool) → ((iteration : ℕ) → test iteration ≡ true) → every n test ≡ true
   unfolding every
   every_true zero test each = refl
   every_true (suc n) test each = and_from (every n test) (test n) (every_true n test each) (each n)
@@ -156,14 +156,14 @@ module _ (reads : Reads) (func x y : ℕ) (expected : Values → Bool) where
     for_avoids counter count kind body avoids is values =
         let parts = and_parts (counter.func == place) (is_about place body) (sym (about_for place counter count kind body) ∙ is) in
         ap (λ (own : Runs). own.are_runs values) (runs_for counter count kind body)
-        ∙ ap (λ (b : Bool). cond (is_vectorized kind && b) (are_same_run counter count body values) (every count (λ turn. stores_in_runs reads func x y expected
-        body (with counter turn values)))) (other counter.func parts.0)
-        ∙ plain (is_vectorized kind) (are_same_run counter count body values) (every count (λ turn. stores_in_runs reads func x y expected body
-        (with counter turn values)))
-        ∙ every_true count (λ turn. stores_in_runs reads func x y expected body (with counter turn values)) (λ turn. avoids parts.1 (with counter turn values))
+        ∙ ap (λ (b : Bool). cond (is_vectorized kind && b) (are_same_run counter count body values) (every count (λ iteration. stores_in_runs reads func x y expected
+        body (with counter iteration values)))) (other counter.func parts.0)
+        ∙ plain (is_vectorized kind) (are_same_run counter count body values) (every count (λ iteration. stores_in_runs reads func x y expected body
+        (with counter iteration values)))
+        ∙ every_true count (λ iteration. stores_in_runs reads func x y expected body (with counter iteration values)) (λ iteration. avoids parts.1 (with counter iteration values))
       where
         are_same_run : Counter → ℕ → Stmt → Values → Bool
-        are_same_run counter count body values = cond (every count (λ round. (runs reads func x y expected body).misses (with counter round values)))
+        are_same_run counter count body values = cond (every count (λ lane. (runs reads func x y expected body).misses (with counter lane values)))
             (not (expected values)) (not (not (expected values)))
 
     bind_avoids : (counter : Counter) (whole : Whole) (extent : ℕ) (body : Stmt) → Avoids body → Avoids (s.Bind counter whole extent body)

@@ -34,8 +34,8 @@ module _ (reads : Reads) (written : Points) (loaded : Point → Bool) where
       ∙ ap (λ (sound : Values → Bool). sound values) (fold-roll-Stmt (Values → Bool) (is_sound_at reads written loaded) (layer.Sequence first second))
 
   pub sound_for : (counter : Counter) (count : ℕ) (kind : LoopKind) (body : Stmt) (values : Values)
-      → is_sound reads written loaded (s.For counter count kind body) values ≡ every count (λ turn. is_sound reads written loaded body
-      (with counter turn values))
+      → is_sound reads written loaded (s.For counter count kind body) values ≡ every count (λ iteration. is_sound reads written loaded body
+      (with counter iteration values))
   unfolding is_sound
   sound_for counter count kind body values =
       ap (λ statement. of statement values) (sym (rolls-For counter count kind body))

@@ -15,7 +15,7 @@ use Rattle.loop_ir.specs.declared.statements.Stmt.TheVariants as s
 use Rattle.loop_ir.specs.Buffers.{Points, put}
 use Rattle.loop_ir.specs.Counters.{Values, with}
 use Rattle.loop_ir.specs.Expressions.{value}
-use Rattle.loop_ir.specs.Running.{run, turns, whole_value}
+use Rattle.loop_ir.specs.Running.{run, iterated, whole_value}
 use Rattle.loop_ir.specs.Stores.{Trace, trace, trace_at, TracesFollowRuns, OtherPointsStay, StoredStaysStored}
 use Rattle.loop_ir.proofs.Traces.{trace_store, trace_sequence, trace_for, trace_bind}
 use Rattle.loop_ir.proofs.Trees.{run_store, run_sequence, run_for, run_bind}
@@ -89,22 +89,22 @@ module _ (points : Points) (inputs : Planes) (func x y : ℕ) where
       (both_go so_far middle (traced second values middle) (run points inputs first values so_far.funcs) (run points inputs second values) (one values so_far)
       (two values middle))
 
-  turns_go : (n : ℕ) (body : Stmt) (at : ℕ → Values) → Holds body → (so_far : Trace)
-      → Goes so_far (turns n (λ turn. traced body (at turn)) so_far) (turns n (λ turn. run points inputs body (at turn)) so_far.funcs)
-  unfolding turns
-  turns_go zero body at holds so_far = none_goes so_far
-  turns_go (suc n) body at holds so_far =
-      let middle = turns n (λ turn. traced body (at turn)) so_far in
-      both_go so_far middle (traced body (at n) middle) (turns n (λ turn. run points inputs body (at turn)) so_far.funcs) (run points inputs body (at n))
-      (turns_go n body at holds so_far) (holds (at n) middle)
+  iterations_go : (n : ℕ) (body : Stmt) (at : ℕ → Values) → Holds body → (so_far : Trace)
+      → Goes so_far (iterated n (λ iteration. traced body (at iteration)) so_far) (iterated n (λ iteration. run points inputs body (at iteration)) so_far.funcs)
+  unfolding iterated
+  iterations_go zero body at holds so_far = none_goes so_far
+  iterations_go (suc n) body at holds so_far =
+      let middle = iterated n (λ iteration. traced body (at iteration)) so_far in
+      both_go so_far middle (traced body (at n) middle) (iterated n (λ iteration. run points inputs body (at iteration)) so_far.funcs) (run points inputs body (at n))
+      (iterations_go n body at holds so_far) (holds (at n) middle)
 
   at_for : (counter : Counter) (count : ℕ) (kind : LoopKind) (body : Stmt) → Holds body → Holds (s.For counter count kind body)
   at_for counter count kind body holds values so_far =
-      moved so_far (turns count (λ turn. traced body (with counter turn values)) so_far) (traced (s.For counter count kind body) values so_far)
-      (turns count (λ turn. run points inputs body (with counter turn values)) so_far.funcs) (run points inputs (s.For counter count kind body) values
+      moved so_far (iterated count (λ iteration. traced body (with counter iteration values)) so_far) (traced (s.For counter count kind body) values so_far)
+      (iterated count (λ iteration. run points inputs body (with counter iteration values)) so_far.funcs) (run points inputs (s.For counter count kind body) values
       so_far.funcs)
       (trace_for points inputs func x y counter count kind body values so_far) (run_for points inputs counter count kind body values so_far.funcs)
-      (turns_go count body (λ turn. with counter turn values) holds so_far)
+      (iterations_go count body (λ iteration. with counter iteration values) holds so_far)
 
   at_bind : (counter : Counter) (whole : Whole) (extent : ℕ) (body : Stmt) → Holds body → Holds (s.Bind counter whole extent body)
   at_bind counter whole extent body holds values so_far =

@@ -105,18 +105,18 @@ taken v s old middle new rest l one others =
     ap (λ (k : ℕ). k % 2 ^ 32) a ∙ in_sum (new + rest) (old + o) p (others ∙ one) ∙ ap (λ (k : ℕ). k % 2 ^ 32) b
     ∙ in_sum (o + p) 0 old (cancelled v s l) ∙ ap (λ (k : ℕ). k % 2 ^ 32) zero_more
 
-pub first_taken : (values : Values) (others : List Term) (other : Term) (turned : ℕ) (old middle new : List Term) → 1 ≤ length others
+pub first_taken : (values : Values) (others : List Term) (other : Term) (negated : ℕ) (old middle new : List Term) → 1 ≤ length others
     → (get_or others 0 other).stride < 2 ^ 32
-    → turned ≡ word.subtract 0 (get_or others 0 other).stride
-    → sum_of values middle % 2 ^ 32 ≡ (sum_of values old + values (get_or others 0 other).counter * turned) % 2 ^ 32
+    → negated ≡ word.subtract 0 (get_or others 0 other).stride
+    → sum_of values middle % 2 ^ 32 ≡ (sum_of values old + values (get_or others 0 other).counter * negated) % 2 ^ 32
     → (sum_of values new + sum_of values (take (length others - 1) (drop 1 others))) % 2 ^ 32 ≡ sum_of values middle % 2 ^ 32
     → (sum_of values new + sum_of values others) % 2 ^ 32 ≡ sum_of values old % 2 ^ 32
-first_taken values [] other turned old middle new some l turns one rest = absurd (omega (arith, some))
-first_taken values (first ∷ others) other turned old middle new some l turns one rest =
+first_taken values [] other negated old middle new some l is_negated one rest = absurd (omega (arith, some))
+first_taken values (first ∷ others) other negated old middle new some l is_negated one rest =
     let n : suc (length others) - 1 ≡ length others = omega arith in
     let left : take (suc (length others) - 1) others ≡ others = ap (λ (k : ℕ). take k others) n ∙ take-length others in
     taken (values first.counter) first.stride (sum_of values old) (sum_of values middle) (sum_of values new) (sum_of values others) l
-    (one ∙ ap (λ (k : ℕ). (sum_of values old + values first.counter * k) % 2 ^ 32) turns)
+    (one ∙ ap (λ (k : ℕ). (sum_of values old + values first.counter * k) % 2 ^ 32) is_negated)
     (ap (λ (ts : List Term). (sum_of values new + sum_of values ts) % 2 ^ 32) (sym left) ∙ rest)
 
 -- ---- words
@@ -141,11 +141,11 @@ pub sums_apart : (own other old others new : ℕ) → own < 2 ^ 32 → other < 2
 sums_apart own other old others new lo lt e =
     let d = word.subtract own other in
     let same : (d + new) + (other + others) ≡ (d + other) + (new + others) = omega arith in
-    let turned : own + (new + others) ≡ (new + others) + own = omega arith in
+    let swapped : own + (new + others) ≡ (new + others) + own = omega arith in
     let back : old + own ≡ own + old = omega arith in
     let own_is : own % 2 ^ 32 ≡ own = mod-eq_of_lt {n = own} {m = 2 ^ 32} lo in
     let whole : ((d + new) % 2 ^ 32 + (other + others) % 2 ^ 32) % 2 ^ 32 ≡ (own + old) % 2 ^ 32 =
     both (d + new) (other + others) ∙ ap (λ (k : ℕ). k % 2 ^ 32) same
     ∙ in_sum (d + other) own (new + others) (difference own other lo lt ∙ sym own_is)
-    ∙ ap (λ (k : ℕ). k % 2 ^ 32) turned ∙ in_sum (new + others) old own e ∙ ap (λ (k : ℕ). k % 2 ^ 32) back in
+    ∙ ap (λ (k : ℕ). k % 2 ^ 32) swapped ∙ in_sum (new + others) old own e ∙ ap (λ (k : ℕ). k % 2 ^ 32) back in
     remains ((d + new) % 2 ^ 32) ((own + old) % 2 ^ 32) ((other + others) % 2 ^ 32) (omega arith) (omega arith) (omega arith) whole

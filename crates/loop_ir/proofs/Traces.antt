@@ -12,7 +12,7 @@ use Rattle.loop_ir.specs.declared.statements.Stmt.TheVariants.{rolls-Store, roll
 use Rattle.loop_ir.specs.declared.statements.Stmt.TheVariants as s
 use Rattle.loop_ir.specs.Buffers.{Points}
 use Rattle.loop_ir.specs.Counters.{Values, with}
-use Rattle.loop_ir.specs.Running.{turns, whole_value}
+use Rattle.loop_ir.specs.Running.{iterated, whole_value}
 use Rattle.loop_ir.specs.Stores.{Trace, trace, trace_at}
 
 module _ (points : Points) (inputs : Planes) (func x y : ℕ) where
@@ -36,7 +36,7 @@ module _ (points : Points) (inputs : Planes) (func x y : ℕ) where
       → Trace) (trace_at points inputs func x y) (layer.Sequence first second))
 
   pub trace_for : (counter : Counter) (count : ℕ) (kind : LoopKind) (body : Stmt) (values : Values) (so_far : Trace)
-      → traced (s.For counter count kind body) values so_far ≡ turns count (λ turn. traced body (with counter turn values)) so_far
+      → traced (s.For counter count kind body) values so_far ≡ iterated count (λ iteration. traced body (with counter iteration values)) so_far
   unfolding trace
   trace_for counter count kind body values so_far =
       ap (λ statement. traced statement values so_far) (sym (rolls-For counter count kind body))

@@ -12,7 +12,7 @@ use Rattle.loop_ir.specs.declared.statements.Stmt.TheVariants.{rolls-Store, roll
 use Rattle.loop_ir.specs.declared.statements.Stmt.TheVariants as s
 use Rattle.loop_ir.specs.Buffers.{Points}
 use Rattle.loop_ir.specs.Counters.{Values, with}
-use Rattle.loop_ir.specs.Running.{run, run_at, stored, turns, whole_value}
+use Rattle.loop_ir.specs.Running.{run, run_at, stored, iterated, whole_value}
 
 module _ (points : Points) (inputs : Planes) where
   pub run_store : (store : Store) (values : Values) (funcs : Planes) → run points inputs (s.Store store) values funcs ≡ stored points (reads_of inputs funcs)
@@ -31,7 +31,7 @@ module _ (points : Points) (inputs : Planes) where
       → Planes) (run_at points inputs) (layer.Sequence first second))
 
   pub run_for : (counter : Counter) (count : ℕ) (kind : LoopKind) (body : Stmt) (values : Values) (funcs : Planes)
-      → run points inputs (s.For counter count kind body) values funcs ≡ turns count (λ turn. run points inputs body (with counter turn values)) funcs
+      → run points inputs (s.For counter count kind body) values funcs ≡ iterated count (λ iteration. run points inputs body (with counter iteration values)) funcs
   unfolding run
   run_for counter count kind body values funcs =
       ap (λ statement. run points inputs statement values funcs) (sym (rolls-For counter count kind body))

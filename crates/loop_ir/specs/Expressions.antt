@@ -35,7 +35,7 @@ value reads values e = fold-Expr ℕ (value_at reads values) e
 
 -- ---- loads
 
--- Both arms of a select are evaluated. A load stands behind those of its indexes.
+-- Both arms of a select are evaluated. A load stands after those of its indexes.
 abbrev pub loads_at : Expr-F Seen → List Point
 loads_at (layer.Number n) = []
 loads_at (layer.Linear own) = []

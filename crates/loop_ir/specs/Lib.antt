@@ -9,5 +9,5 @@ pub mod Running
 pub mod Sizes
 pub mod Soundness
 pub mod Stores
-pub mod Rounds
+pub mod LoopLanes
 pub mod Runs

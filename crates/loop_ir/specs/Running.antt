@@ -24,10 +24,10 @@ abbrev pub whole_value : Whole → Values → ℕ
 whole_value whole values =
     word.add (at_most whole.last (word.multiply (values whole.outer) whole.factor)) (values whole.inner)
 
--- the turns 0 to n - 1, one after the other
-unfoldable pub turns : {A : Type 0} → ℕ → (ℕ → A → A) → A → A
-turns zero one start = start
-turns (suc n) one start = one n (turns n one start)
+-- the iterations 0 to n - 1, one after the other
+unfoldable pub iterated : {A : Type 0} → ℕ → (ℕ → A → A) → A → A
+iterated zero one start = start
+iterated (suc n) one start = one n (iterated n one start)
 
 abbrev pub stored : Points → Reads → Store → Values → Planes → Planes
 stored points reads store values funcs =
@@ -36,7 +36,7 @@ stored points reads store values funcs =
 abbrev pub run_at : Points → Planes → Stmt-F (Values → Planes → Planes) → Values → Planes → Planes
 run_at points inputs (layer.Store store) values funcs = stored points (reads_of inputs funcs) store values funcs
 run_at points inputs (layer.Sequence first second) values funcs = second values (first values funcs)
-run_at points inputs (layer.For counter count kind body) values funcs = turns count (λ turn. body (with counter turn values)) funcs
+run_at points inputs (layer.For counter count kind body) values funcs = iterated count (λ iteration. body (with counter iteration values)) funcs
 run_at points inputs (layer.Bind counter whole extent body) values funcs =
     if nat_lt (whole_value whole values) extent then body (with counter (whole_value whole values) values) funcs else funcs
 
@@ -54,4 +54,4 @@ run_task points inputs phase task funcs = run points inputs phase.body (task_val
 
 -- all its tasks, in rising order
 abbrev pub run_phase : Points → Planes → Phase → Planes → Planes
-run_phase points inputs phase funcs = turns phase.tasks (run_task points inputs phase) funcs
+run_phase points inputs phase funcs = iterated phase.tasks (run_task points inputs phase) funcs

@@ -1,7 +1,7 @@
--- Where a Func's points are stored by runs of its vectorized loops: all rounds of such a loop, while all other loops stay.
+-- Where a Func's points are stored by runs of its vectorized loops: all lanes of such a loop, while all other loops stay.
 --
 -- A statement stores in runs if it stores in the Func's buffer in vectorized loops of the Func alone, and a run of one stores at the point exactly
--- if that is expected of it: for all points, at exactly those. That each round stores once at most is said of rounds (`Rounds.antt`).
+-- if that is expected of it: for all points, at exactly those. That each lane stores once at most is said of lanes (`LoopLanes.antt`).
 -- This project's own.
 use Rattle.std.specs.Prelude.{◌≡◌, ◌≢◌, ℕ, ◌==◌, ◌&&◌, not, nat_lt, if◌then◌else◌, Bool, true}
 use Rattle.halide_pipeline.specs.declared.expressions.Source.TheVariants as sources
@@ -11,7 +11,7 @@ use Rattle.loop_ir.specs.declared.statements.Stmt.{Stmt, fold-Stmt, map-Stmt}
 use Rattle.loop_ir.specs.declared.statements.Stmt.TheOpen.{Stmt-F}
 use Rattle.loop_ir.specs.declared.statements.Stmt.TheOpen as layer
 use Rattle.loop_ir.specs.Counters.{Values, with}
-use Rattle.loop_ir.specs.Rounds.{is_vectorized, all_but, all_points}
+use Rattle.loop_ir.specs.LoopLanes.{is_vectorized, all_but, all_points}
 use Rattle.loop_ir.specs.Running.{whole_value}
 use Rattle.loop_ir.specs.Soundness.{every, is_sound, is_sound_at}
 
@@ -48,8 +48,8 @@ are_runs_at func expected (layer.Store store) values = not (store.func == func)
 are_runs_at func expected (layer.Sequence first second) values = first.are_runs values && second.are_runs values
 are_runs_at func expected (layer.For counter count kind body) values =
     if is_vectorized kind && counter.func == func
-    then are_same (every count (λ round. body.misses (with counter round values))) (not (expected values))
-    else every count (λ turn. body.are_runs (with counter turn values))
+    then are_same (every count (λ lane. body.misses (with counter lane values))) (not (expected values))
+    else every count (λ iteration. body.are_runs (with counter iteration values))
 are_runs_at func expected (layer.Bind counter whole extent body) values =
     if nat_lt (whole_value whole values) extent then body.are_runs (with counter (whole_value whole values) values) else true
 

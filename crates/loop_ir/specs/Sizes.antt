@@ -1,4 +1,4 @@
--- How many words of code a statement may ask for, with a copy of the body of an unrolled loop for each of its rounds: a bound
+-- How many words of code a statement may ask for, with a copy of the body of an unrolled loop for each of its iterations: a bound
 -- for whoever makes such code of it, wherever the values of its expressions stand. This project's own.
 use Rattle.std.specs.Prelude.{ℕ, ◌+◌, ◌*◌, ◌&&◌, Bool, true, false, nat_lt, if◌then◌else◌, length}
 use Rattle.loop_ir.specs.declared.expressions.Expr.{Expr, fold-Expr}
@@ -51,21 +51,21 @@ size e = (size_of e).words
 abbrev pub store_size : Store → ℕ
 store_size store = size store.x + size store.y + size store.value + 18
 
--- whether a loop is laid out, one copy of its body a round
+-- whether a loop is laid out, one copy of its body an iteration
 abbrev pub is_laid_out : LoopKind → Bool
 is_laid_out kinds.Serial = false
 is_laid_out kinds.Unrolled = true
 is_laid_out kinds.Vectorized = false
 
--- there is a copy for each round; a loop of no rounds is counted
+-- there is a copy for each iteration; a loop of none is counted
 abbrev pub are_copies : Bool → ℕ → Bool
 are_copies is_laid count = is_laid && nat_lt 0 count
 
--- of a loop in so many turns, with a body of so many words: one that is laid out asks for a word at first and another one behind each copy
+-- of a loop in so many iterations, with a body of so many words: one that is laid out asks for a word at first and another one after each copy
 abbrev pub loop_size : Bool → ℕ → ℕ → ℕ
 loop_size is_laid count body = if are_copies is_laid count then count * (body + 1) + 1 else body + 7
 
--- and with room for what held registers want: their values before the first round, and their steps
+-- and with room for what held registers want: their values before the first iteration, and their steps
 abbrev pub loop_room : Bool → ℕ → ℕ → ℕ
 loop_room is_laid count body = loop_size is_laid count body + 31
 

@@ -15,7 +15,7 @@ use Rattle.loop_ir.specs.Counters.{Values, with}
 use Rattle.loop_ir.specs.Expressions.{value, loads}
 use Rattle.loop_ir.specs.Running.{whole_value}
 
--- Each of the turns 0 to n - 1 passes.
+-- Each of the iterations 0 to n - 1 passes.
 unfoldable pub every : ℕ → (ℕ → Bool) → Bool
 every zero test = true
 every (suc n) test = every n test && test n
@@ -31,7 +31,7 @@ is_sound_store reads written loaded store values =
 abbrev pub is_sound_at : Reads → Points → (Point → Bool) → Stmt-F (Values → Bool) → Values → Bool
 is_sound_at reads written loaded (layer.Store store) values = is_sound_store reads written loaded store values
 is_sound_at reads written loaded (layer.Sequence first second) values = first values && second values
-is_sound_at reads written loaded (layer.For counter count kind body) values = every count (λ turn. body (with counter turn values))
+is_sound_at reads written loaded (layer.For counter count kind body) values = every count (λ iteration. body (with counter iteration values))
 is_sound_at reads written loaded (layer.Bind counter whole extent body) values =
     if nat_lt (whole_value whole values) extent then body (with counter (whole_value whole values) values) else true
 
@@ -39,7 +39,7 @@ is_sound_at reads written loaded (layer.Bind counter whole extent body) values =
 unfoldable pub is_sound : Reads → Points → (Point → Bool) → Stmt → Values → Bool
 is_sound reads written loaded statement = fold-Stmt (Values → Bool) (is_sound_at reads written loaded) statement
 
--- So it is under all answers that are as wanted. What a store is answered hangs on the stores before it, so what is wanted is to hold of
+-- So it is under all answers that are as wanted. What a store is answered depends on the stores before it, so what is wanted is to hold of
 -- the buffers all along.
 abbrev pub IsSound : (Reads → Type 0) → Points → (Point → Bool) → Stmt → Values → Type 0
 IsSound IsWanted written loaded statement values = (reads : Reads) → IsWanted reads → is_sound reads written loaded statement values ≡ true

@@ -1,6 +1,6 @@
 -- Whether a statement stores at a point of a Func's buffer.
 --
--- Which points it stores at may hang on what buffers hold, so the test goes along with the run.
+-- Which points it stores at may depend on what buffers hold, so the test goes along with the run.
 -- This project's own.
 use Rattle.std.specs.Prelude.{◌≡◌, ℕ, ◌==◌, ◌&&◌, ◌||◌, nat_lt, if◌then◌else◌, Bool, true, false}
 use Rattle.halide_pipeline.specs.Pixel.{Planes, reads_of}
@@ -11,7 +11,7 @@ use Rattle.loop_ir.specs.declared.statements.Stmt.TheOpen as layer
 use Rattle.loop_ir.specs.Buffers.{Points}
 use Rattle.loop_ir.specs.Counters.{Values, with}
 use Rattle.loop_ir.specs.Expressions.{value}
-use Rattle.loop_ir.specs.Running.{stored, turns, whole_value, task_values, run}
+use Rattle.loop_ir.specs.Running.{stored, iterated, whole_value, task_values, run}
 
 -- what buffers hold so far, and whether any store so far was at the point
 pub record Trace : Type 0 where
@@ -25,7 +25,7 @@ trace_at points inputs func x y (layer.Store store) values so_far = record {
       || (store.func == func && (value (reads_of inputs so_far.funcs) values store.x == x && value (reads_of inputs so_far.funcs) values store.y == y));
 }
 trace_at points inputs func x y (layer.Sequence first second) values so_far = second values (first values so_far)
-trace_at points inputs func x y (layer.For counter count kind body) values so_far = turns count (λ turn. body (with counter turn values)) so_far
+trace_at points inputs func x y (layer.For counter count kind body) values so_far = iterated count (λ iteration. body (with counter iteration values)) so_far
 trace_at points inputs func x y (layer.Bind counter whole extent body) values so_far =
     if nat_lt (whole_value whole values) extent then body (with counter (whole_value whole values) values) so_far else so_far
 

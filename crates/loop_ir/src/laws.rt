@@ -1,8 +1,8 @@
 //! Laws of the definitions, each the contract of a function that does nothing.
 
-ghost use Rattle.loop_ir.specs.AtOnce.{RoundsAtOnceDoWhatTurnsDo};
+ghost use Rattle.loop_ir.specs.AtOnce.{LanesAtOnceDoWhatIterationsDo};
 ghost use Rattle.loop_ir.specs.Expressions.{SeesValues, ValuesDependOnLoads};
-ghost use Rattle.loop_ir.specs.Rounds.{RoundsTouchWhatIsSound};
+ghost use Rattle.loop_ir.specs.LoopLanes.{LanesTouchWhatIsSound};
 ghost use Rattle.loop_ir.specs.Runs.{OthersStoreInNoRun, RunsMissWhatIsSound};
 ghost use Rattle.loop_ir.specs.Stores.{OtherPointsStay, StoredStaysStored, TracesFollowRuns};
 
@@ -31,14 +31,14 @@ pub fn other_points_stay()
     ensures { OtherPointsStay }
 {}
 
-/// What is looked at of a statement to see whether rounds may be done at once is what soundness looks at.
-pub fn rounds_touch_what_is_sound()
-    ensures { RoundsTouchWhatIsSound }
+/// What is looked at of a statement to see whether lanes may be done at once is what soundness looks at.
+pub fn lanes_touch_what_is_sound()
+    ensures { LanesTouchWhatIsSound }
 {}
 
-/// Rounds of one store at most, of which none loads what an earlier one stores, leave at once what they leave in turn.
-pub fn rounds_at_once_do_what_turns_do()
-    ensures { RoundsAtOnceDoWhatTurnsDo }
+/// Lanes of one store at most, of which none loads what an earlier one stores, leave at once what they leave in order.
+pub fn lanes_at_once_do_what_iterations_do()
+    ensures { LanesAtOnceDoWhatIterationsDo }
 {}
 
 /// What is looked at of a statement to see at which points a run stores is what soundness looks at.

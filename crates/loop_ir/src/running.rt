@@ -155,8 +155,8 @@ fn execute(stmt: &Stmt, inputs: &[Buffer], bindings: &Bindings, funcs: &mut [Buf
             execute(second.get(), inputs, bindings, funcs);
         }
         Stmt::For(counter, count, _, body) => {
-            for turn in 0..*count {
-                let inside = Bindings::Bound(*counter, turn, &*bindings);
+            for iteration in 0..*count {
+                let inside = Bindings::Bound(*counter, iteration, &*bindings);
                 execute(body.get(), inputs, &inside, funcs);
             }
         }

@@ -7,7 +7,7 @@ use crate::expressions::{Counter, Expr};
 use crate::parts::{StmtParts, StoreParts};
 use sqlite_items::{Boxed, Items};
 
-/// How the rounds of a loop are to be made. They do the same in each of these ways.
+/// How the iterations of a loop are to be made. They do the same in each of these ways.
 #[derive(Clone, Copy, Debug, PartialEq, Eq)]
 pub enum LoopKind {
     Serial,
@@ -56,11 +56,11 @@ pub struct Whole {
     pub outer: Counter,
     pub inner: Counter,
     pub factor: u32,
-    /// Under a shift, where the last round of the outer loop begins: the product is at most this.
+    /// Under a shift, where the last iteration of the outer loop begins: the product is at most this.
     pub last: Option<u32>,
 }
 
-/// A statement. No loop's count and no test hangs on what buffers hold.
+/// A statement. No loop's count and no test depends on what buffers hold.
 #[derive(Debug)]
 pub enum Stmt {
     Store(Store),

@@ -16,7 +16,7 @@ use Rattle.halide_pipeline.specs.declared.environments.Environment.{Environment}
 use Rattle.halide_pipeline.specs.Pixel.{variable, points, second_extent, second_value, at_reduction}
 use Rattle.schedule_lines.specs.declared.stages.LoopId.TheVariants as ids
 use Rattle.schedule.specs.declared.schedules.Schedule.{Schedule}
-use Rattle.schedule.specs.declared.standings.Standing.{Standing}
+use Rattle.schedule.specs.declared.placements.FuncPlacement.{FuncPlacement}
 use Rattle.schedule.specs.Uses.{IsReached}
 use Rattle.schedule_loops.specs.declared.extents.Extents.{Extents}
 use Rattle.schedule_loops.specs.Visits as loops
@@ -37,9 +37,9 @@ use Rattle.lowering_nests.specs.Nests.{put_loops}
 use Rattle.lowering_expressions.specs.declared.calls.Corner.{Corner}
 use Rattle.lowering.specs.Planes.{has_point}
 use Rattle.lowering.specs.PurePhases.{whole_at}
-use Rattle.lowering.specs.Updates.{visited_point, second_reduced, in_place, is_visited, IsCornerAt, IsBegin, consumer_at, produced_turns}
+use Rattle.lowering.specs.Updates.{visited_point, second_reduced, in_place, is_visited, IsCornerAt, IsBegin, consumer_at, produced_iterations}
 use Rattle.lowering.proofs.Begins.{on_from, offset_in, on_back}
-use Rattle.lowering.proofs.Offsets.{add_turned}
+use Rattle.lowering.proofs.Offsets.{add_swapped}
 use Rattle.lowering.proofs.UpdateFacts.{has_first, no_second, points_are, first_extent, second_few, remainder_is, quotient_is}
 
 -- ---- where loops stand
@@ -59,13 +59,13 @@ same_point a b c d x y z w ea eb ec ed =
 
 module _ (pipeline : Pipeline) (schedule : Schedule) (boxes : Boxes) (rules : IsWellFormed pipeline) (is : inferred pipeline schedule ≡ Ok boxes)
     (place : ℕ) (func : Func) (own : SourceBox) (func_is : slice_get pipeline.funcs place ≡ Some func) (box_is : slice_get boxes.funcs place ≡ Some (Some own))
-    (standing : Standing) (there : IsReached schedule.standings place standing) (computed : IsComputed place standing.place)
+    (standing : FuncPlacement) (there : IsReached schedule.standings place standing) (computed : IsComputed place standing.place)
     (at : ℕ) (update : Update) (update_is : slice_get func.updates at ≡ Some update)
-    (turns : List ℕ) (below : Below (produced_turns schedule boxes standing turns) (lasts_of (consumer_at schedule boxes standing)))
-    (begin : BoxCorner) (begins : IsBegin (produced_turns schedule boxes standing turns) own begin)
+    (iterations : List ℕ) (below : Below (produced_iterations schedule boxes standing iterations) (lasts_of (consumer_at schedule boxes standing)))
+    (begin : BoxCorner) (begins : IsBegin (produced_iterations schedule boxes standing iterations) own begin)
     (before : Values) (corner : Corner) (corner_is : IsCornerAt place before corner begin) where
   abbrev values : List ℕ
-  values = produced_turns schedule boxes standing turns
+  values = produced_iterations schedule boxes standing iterations
 
   abbrev extents : Extents
   extents = update_extents own update
@@ -166,7 +166,7 @@ module _ (pipeline : Pipeline) (schedule : Schedule) (boxes : Boxes) (rules : Is
     second_is : (second : Option Reduction) → second_reduced now place second ≡ second_value second (visit.number / update.first.extent)
     second_is None = refl
     second_is (Some reduction) =
-        add_turned (whole_at now place variables.SecondReduction) reduction.minimum
+        add_swapped (whole_at now place variables.SecondReduction) reduction.minimum
         ∙ ap (word.add reduction.minimum)
         (stands_now variables.SecondReduction second_whole
         ∙ sym (quotient_is update box_rule (inner (ids.Whole variables.FirstReduction)) (inner (ids.Whole variables.SecondReduction)) reduced))
@@ -181,7 +181,7 @@ module _ (pipeline : Pipeline) (schedule : Schedule) (boxes : Boxes) (rules : Is
         ∙ ap (word.add visit.x) (corner_is inner).0)
         (ap (λ (n : ℕ). word.add n (linear_value now corner.y)) (stands_now variables.SecondArgument (omega (arith, down, high)))
         ∙ ap (word.add visit.y) (corner_is inner).1)
-        (add_turned (whole_at now place variables.FirstReduction) update.first.minimum
+        (add_swapped (whole_at now place variables.FirstReduction) update.first.minimum
         ∙ ap (word.add update.first.minimum)
         (stands_now variables.FirstReduction (omega (arith, reduced, first_few.1))
         ∙ sym (remainder_is update box_rule (inner (ids.Whole variables.FirstReduction)) (inner (ids.Whole variables.SecondReduction)) reduced)))
@@ -193,7 +193,7 @@ module _ (pipeline : Pipeline) (schedule : Schedule) (boxes : Boxes) (rules : Is
     in_slice : (test : Bool) (argument n c far : ℕ) → (test ≡ true → n ≡ argument) → argument ≡ word.add far c → (test ≡ false → far ≡ 0) → far < 2 ^ 32
         → c < 2 ^ 32 → in_place test (word.subtract n c) ≡ far
     in_slice true argument n c far same is zero_so few small =
-        ap (λ (m : ℕ). word.subtract m c) (same refl ∙ is ∙ add_turned far c) ∙ on_back c far few small
+        ap (λ (m : ℕ). word.subtract m c) (same refl ∙ is ∙ add_swapped far c) ∙ on_back c far few small
     in_slice false argument n c far same is zero_so few small = sym (zero_so refl)
 
     column_of : (a : ℕ) → (is_first_in_place update ≡ true → a ≡ x) → column_in (word.subtract a begin.x) ≡ visit.x

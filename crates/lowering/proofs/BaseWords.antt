@@ -27,8 +27,8 @@ sum_last values (first ∷ terms) counter stride = omega (arith, sum_last values
 times_same : (v s n : ℕ) → s % 2 ^ 32 ≡ n % 2 ^ 32 → (v * s) % 2 ^ 32 ≡ (v * n) % 2 ^ 32
 times_same v s n e = sym (mul-mod_second v s (2 ^ 32)) ∙ ap (λ (k : ℕ). (v * k) % 2 ^ 32) e ∙ mul-mod_second v n (2 ^ 32)
 
-times_turned : (a b : ℕ) → a * b ≡ b * a
-times_turned a b = mul_comm a b
+times_swapped : (a b : ℕ) → a * b ≡ b * a
+times_swapped a b = mul_comm a b
 
 pub term_more : (values : Values) (terms : List Term) (counter : Counter) (stride more less : ℕ) → (stride + less) % 2 ^ 32 ≡ more % 2 ^ 32
     → (sum_of values (terms ++ record { counter = counter; stride = stride } ∷ []) + less * values counter) % 2 ^ 32
@@ -37,18 +37,18 @@ term_more values terms counter stride more less e =
     let v = values counter in
     let same = times_same v (stride + less) more e in
     let parts : v * (stride + less) ≡ v * stride + v * less = mul-add v stride less in
-    omega (arith, same, parts, sum_last values terms counter stride, times_turned less v, times_turned more v)
+    omega (arith, same, parts, sum_last values terms counter stride, times_swapped less v, times_swapped more v)
 
 pub sums_follow : (old mid new more less more_rest less_rest : ℕ) → (mid + less) % 2 ^ 32 ≡ (old + more) % 2 ^ 32
     → (new + less_rest) % 2 ^ 32 ≡ (mid + more_rest) % 2 ^ 32
     → (new + (less + less_rest)) % 2 ^ 32 ≡ (old + (more + more_rest)) % 2 ^ 32
 sums_follow old mid new more less more_rest less_rest e f = omega (arith, e, f)
 
-pub begins_at : (values : Values) (terms : List Term) (range : Range) (turns : List ℕ) (number : ℕ) → number ≡ word_at range.low
-    → (sum_of values terms + less_sum range.base turns) % 2 ^ 32 ≡ (sum_of values [] + more_sum range.base turns) % 2 ^ 32
-    → linear_value values (record { number = number; terms = terms }) ≡ first_of range turns
+pub begins_at : (values : Values) (terms : List Term) (range : Range) (iterations : List ℕ) (number : ℕ) → number ≡ word_at range.low
+    → (sum_of values terms + less_sum range.base iterations) % 2 ^ 32 ≡ (sum_of values [] + more_sum range.base iterations) % 2 ^ 32
+    → linear_value values (record { number = number; terms = terms }) ≡ first_of range iterations
 unfolding linear_value word.add word.subtract
-begins_at values terms range turns number n e = omega (arith, n, e)
+begins_at values terms range iterations number n e = omega (arith, n, e)
 
 pub added_is : (values : Values) (a : ℕ) (second : Linear) → word.subtract a (word.subtract 0 (linear_value values second))
     ≡ word.add a (linear_value values second)

@@ -1,7 +1,7 @@
 -- Loops of a consumer with the nests of the Funcs that are computed at them.
 --
--- In each turn the Funcs that are computed at a loop, or at one outside of it, have their pixels in their buffers, each from the corner of its box
--- in these turns on.
+-- In each iteration the Funcs that are computed at a loop, or at one outside of it, have their pixels in their buffers, each from the corner of its box
+-- in these iterations on.
 use Rattle.std.proofs.Common.{◌≡◌, ℕ, zero, suc, ◌+◌, ◌<◌, ◌≤◌, Bool, true, false, cond, List, [], ◌∷◌, ◌++◌, length, take, drop, Option, Some, None, refl, sym}
 use Rattle.std.proofs.Common.{ap, subst, ◌∙◌, arith, inl, inr, true≢false, length-append, append_assoc}
 use Rattle.std.specs.Prelude.{◌==◌, ◌&&◌, ◌||◌, slice_get, nat_lt, Contains, Ok}
@@ -21,24 +21,24 @@ use Rattle.schedule_lines.specs.declared.stages.LoopId.{LoopId}
 use Rattle.schedule_lines.specs.declared.stages.LoopId.TheVariants as ids
 use Rattle.schedule.specs.declared.plans.FuncPlan.{FuncPlan}
 use Rattle.schedule.specs.declared.schedules.Schedule.{Schedule}
-use Rattle.schedule.specs.declared.standings.LoopPlace.{LoopPlace}
-use Rattle.schedule.specs.declared.standings.Place.{Place}
-use Rattle.schedule.specs.declared.standings.Place.TheVariants as places
-use Rattle.schedule.specs.declared.standings.Standing.{Standing}
+use Rattle.schedule.specs.declared.placements.LoopPlace.{LoopPlace}
+use Rattle.schedule.specs.declared.placements.ComputeLevel.{ComputeLevel}
+use Rattle.schedule.specs.declared.placements.ComputeLevel.TheVariants as places
+use Rattle.schedule.specs.declared.placements.FuncPlacement.{FuncPlacement}
 use Rattle.schedule.specs.Accepted.{IsAccepted, IsPlan, IsConsumer, IsProduced as HasConsumer}
-use Rattle.schedule.specs.Standing.{comes_first, pure_loops_of}
+use Rattle.schedule.specs.Placements.{comes_first, pure_loops_of}
 use Rattle.schedule.specs.Uses.{IsReached, IsRootReached, HasConsumerAtRoot}
 use Rattle.schedule.proofs.Uses.{numbered_at, some_before}
 use Rattle.schedule_loops.specs.declared.extents.Extents.{Extents}
 use Rattle.schedule_loops.specs.Visits as loops
 use Rattle.schedule_loops.specs.Reach.{wholes}
-use Rattle.schedule_loops.specs.Runs.{AreTurns}
+use Rattle.schedule_loops.specs.Runs.{AreIterations}
 use Rattle.schedule_loops.specs.Stages.{IsStageOf, IsVisitOf, first_loops, has_variable, extent_in}
 use Rattle.schedule_loops.specs.Visits.{upto, over_loops, visit_of}
 use Rattle.schedule_loops.proofs.FirstLoops.{plain, sound_made}
 use Rattle.schedule_loops.proofs.Nesting.{nest-append}
 use Rattle.schedule_loops.proofs.Selecting.{Unique}
-use Rattle.schedule_loops.proofs.TurnsFound.{of_all}
+use Rattle.schedule_loops.proofs.IterationsFound.{of_all}
 use Rattle.bounds_ranges.specs.Laws.{Below, AnswerWords}
 use Rattle.bounds.specs.declared.boxes.SourceBox.{SourceBox}
 use Rattle.bounds.specs.declared.verdict.Boxes.{Boxes}
@@ -47,34 +47,34 @@ use Rattle.bounds.specs.Extents.{extent, extents_of}
 use Rattle.bounds.specs.Verdict.{inferred}
 use Rattle.bounds.specs.Views.{inner_count, consumer_loop, consumer_loop_in, lasts_in}
 use Rattle.bounds_laws.specs.Callers.{IsReadWithin, StandsAt, HasLoop, IsWithin}
-use Rattle.bounds_laws.specs.ConsumerLaws.{gone, IsFrom, IsTakenTo, IsReachedIn, AreTurnsFrom, turns_from, values_in}
+use Rattle.bounds_laws.specs.ConsumerLaws.{gone, IsFrom, IsTakenTo, IsReachedIn, AreIterationsFrom, iterations_from, values_in}
 use Rattle.bounds_laws.specs.Laws.{LiesIn, pure_points}
 use Rattle.bounds_laws.proofs.Found.{no_below}
-use Rattle.bounds_laws.proofs.ConsumerArguments.{turns_below}
+use Rattle.bounds_laws.proofs.ConsumerArguments.{iterations_below}
 use Rattle.bounds_laws.proofs.InViews.{consumer_is}
 use Rattle.bounds_laws.proofs.PutIn.{pair_there}
 use Rattle.bounds_laws.proofs.StandingWithin.{one_standing}
 use Rattle.loop_ir.specs.declared.statements.Stmt.{Stmt}
 use Rattle.loop_ir.specs.Counters.{Values, with}
-use Rattle.loop_ir.specs.Running.{run, turns}
+use Rattle.loop_ir.specs.Running.{run, iterated}
 use Rattle.lowering_nests.specs.Nests.{put_loops, all, AreSmall, Repeats}
 use Rattle.lowering_expressions.specs.Lowering.{placed}
-use Rattle.lowering.specs.Corners.{first_of, turns_for, turns_at}
+use Rattle.lowering.specs.Corners.{first_of, iterations_for, iterations_at}
 use Rattle.lowering.specs.Consuming.{consuming, Holds, Keeps, Leaves, IsAnswered, AreUpdatesAnswered, DoesNests, IsNestAt, HasNests, None_left, One_more}
 use Rattle.lowering.specs.Consuming.{HasLoops, No_loops, One_outside}
 use Rattle.lowering.specs.Planes.{box_points}
 use Rattle.lowering.specs.PurePhases.{IsStoreOf}
 use Rattle.bounds.specs.Stages.{IsComputedAt, IsAtRoot}
 use Rattle.lowering.proofs.Facts.{staged, lasts_are, produced_before, few, splits}
-use Rattle.lowering_nests.proofs.Few.{few_turns}
+use Rattle.lowering_nests.proofs.Few.{iterations_few}
 use Rattle.schedule_loops.proofs.Ids.{with_same}
 use Rattle.lowering.proofs.Filling.{loops_consuming}
 use Rattle.lowering.proofs.Lists.{all_upto}
-use Rattle.lowering.proofs.LoopTurns.{count_at, counted_is, count_found, count_first, drop_front, turns_drop, turns_take, turns_with, none_outside, turns_stay}
-use Rattle.lowering.proofs.LoopTurns.{consuming_with, small_with, nest_takes, all_contained}
+use Rattle.lowering.proofs.LoopIterations.{count_at, counted_is, count_found, count_first, drop_front, iterations_drop, iterations_take, iterations_with, none_outside, iterations_stay}
+use Rattle.lowering.proofs.LoopIterations.{consuming_with, small_with, nest_takes, all_contained}
 use Rattle.lowering.proofs.Painting.{Writes, Paints, paints}
 use Rattle.lowering.proofs.Offsets.{more_none, less_none}
-use Rattle.lowering.proofs.SplitsApart.{loops_put, turns_kept}
+use Rattle.lowering.proofs.SplitsApart.{loops_put, iterations_kept}
 use Rattle.lowering.proofs.Values.{answered, answered_beside}
 use Rattle.lowering.proofs.Writing as writing
 
@@ -87,10 +87,10 @@ some_length [] k x e = absurd cc
 some_length (y ∷ ys) zero x e = omega arith
 some_length (y ∷ ys) (suc k) x e = omega (arith, some_length ys k x e)
 
-one_loop : (a b : LoopPlace) (p : Place) → p ≡ places.At a → p ≡ places.At b → a ≡ b
+one_loop : (a b : LoopPlace) (p : ComputeLevel) → p ≡ places.At a → p ≡ places.At b → a ≡ b
 one_loop a b p e f = cc
 
-not_root : (p : Place) (loop : LoopPlace) → p ≡ places.At loop → p ≡ places.Root → ⊥
+not_root : (p : ComputeLevel) (loop : LoopPlace) → p ≡ places.At loop → p ≡ places.Root → ⊥
 not_root p loop e f = cc
 
 module _ (pipeline : Pipeline) (schedule : Schedule) (boxes : Boxes) (rules : IsWellFormed pipeline) (accepted : IsAccepted pipeline schedule)
@@ -121,18 +121,18 @@ module _ (pipeline : Pipeline) (schedule : Schedule) (boxes : Boxes) (rules : Is
   -- ---- the Funcs that are computed at its loops
 
   pub record IsProduced (k : ℕ) (loop : LoopPlace) : Type 0 where
-    pub standing : Standing
+    pub standing : FuncPlacement
     pub there : IsReached schedule.standings k standing
     pub placed_is : standing.place ≡ places.At loop
     pub same : loop.func ≡ consumer
 
-  one_place : (k : ℕ) (a b : Standing) → IsReached schedule.standings k a → IsReached schedule.standings k b → a.place ≡ b.place
-  one_place k a b there also = ap (λ (s : Standing). s.place) (one_standing schedule.standings k a b there.standing also.standing)
+  one_place : (k : ℕ) (a b : FuncPlacement) → IsReached schedule.standings k a → IsReached schedule.standings k b → a.place ≡ b.place
+  one_place k a b there also = ap (λ (s : FuncPlacement). s.place) (one_standing schedule.standings k a b there.standing also.standing)
 
   produced_loop : (k : ℕ) (loop other : LoopPlace) → IsProduced k loop → IsProduced k other → loop ≡ other
   produced_loop k loop other h g = one_loop loop other h.standing.place h.placed_is (one_place k h.standing g.standing h.there g.there ∙ g.placed_is)
 
-  pub root_not_produced : (k : ℕ) (standing : Standing) → IsReached schedule.standings k standing → standing.place ≡ places.Root → (loop : LoopPlace)
+  pub root_not_produced : (k : ℕ) (standing : FuncPlacement) → IsReached schedule.standings k standing → standing.place ≡ places.Root → (loop : LoopPlace)
       → IsProduced k loop → ⊥
   root_not_produced k standing there root loop h = not_root standing.place loop (one_place k standing h.standing there h.there ∙ h.placed_is) root
 
@@ -155,20 +155,20 @@ module _ (pipeline : Pipeline) (schedule : Schedule) (boxes : Boxes) (rules : Is
       subst (λ (q : FuncPlan). inner_count loop.inside q.pure.loops < length q.pure.loops) p
       (subst (λ (id : LoopId). inner_count id o.plan.pure.loops < length o.plan.pure.loops) o.id_is (count_found o.name o.plan.pure.loops o.loop o.loop_is))
 
-  -- ---- what stands in the buffers in some turns
+  -- ---- what stands in the buffers in some iterations
 
   abbrev Shared : Planes → Type 0
-  Shared funcs = (k : ℕ) (standing : Standing) → k < consumer → IsReached schedule.standings k standing → standing.place ≡ places.Root
+  Shared funcs = (k : ℕ) (standing : FuncPlacement) → k < consumer → IsReached schedule.standings k standing → standing.place ≡ places.Root
       → (box : SourceBox) → slice_get boxes.funcs k ≡ Some (Some box) → Holds k box no_loops (pixel k) funcs
 
   -- of a Func at a loop
   abbrev HoldsAt : loops.Values → ℕ → LoopPlace → Planes → Type 0
-  HoldsAt turned k loop funcs = (box : SourceBox) → slice_get boxes.funcs k ≡ Some (Some box) → Holds k box (values_in plan loop.inside turned) (pixel k) funcs
+  HoldsAt in_task k loop funcs = (box : SourceBox) → slice_get boxes.funcs k ≡ Some (Some box) → Holds k box (values_in plan loop.inside in_task) (pixel k) funcs
 
   -- The Funcs at loops with so many inside, or more, have their pixels.
-  pub record State (inner : ℕ) (turned : loops.Values) (funcs : Planes) : Type 0 where
+  pub record State (inner : ℕ) (in_task : loops.Values) (funcs : Planes) : Type 0 where
     pub shared : Shared funcs
-    pub produced : (k : ℕ) (loop : LoopPlace) → IsProduced k loop → inner ≤ inner_count loop.inside loops_in → HoldsAt turned k loop funcs
+    pub produced : (k : ℕ) (loop : LoopPlace) → IsProduced k loop → inner ≤ inner_count loop.inside loops_in → HoldsAt in_task k loop funcs
 
   -- It isn't a Func at a loop with fewer inside.
   abbrev pub IsOuter : ℕ → ℕ → Type 0
@@ -180,8 +180,8 @@ module _ (pipeline : Pipeline) (schedule : Schedule) (boxes : Boxes) (rules : Is
 
   -- ---- a Func that is computed at a loop
 
-  module _ (inside : List Loop) (mid : Loop) (outside : List Loop) (loops_are : loops_in ≡ inside ++ mid ∷ outside) (turned : loops.Values)
-      (are : AreTurns counts (mid ∷ outside) turned) where
+  module _ (inside : List Loop) (mid : Loop) (outside : List Loop) (loops_are : loops_in ≡ inside ++ mid ∷ outside) (in_task : loops.Values)
+      (are : AreIterations counts (mid ∷ outside) in_task) where
     unique_here : Unique (inside ++ mid ∷ outside)
     unique_here = subst Unique loops_are unique
 
@@ -195,27 +195,27 @@ module _ (pipeline : Pipeline) (schedule : Schedule) (boxes : Boxes) (rules : Is
     abbrev pub loop_here : LoopPlace
     loop_here = record { func = consumer; inside = mid.id }
 
-    pub turns_here : AreTurnsFrom plan own mid.id turned
-    turns_here =
-        subst (λ (n : ℕ). AreTurns counts (drop n loops_in) turned) (sym mid_count)
-        (subst (λ (l : List Loop). AreTurns counts (drop (length inside) l) turned) (sym loops_are)
-        (subst (λ (l : List Loop). AreTurns counts l turned) (sym (drop_front inside (mid ∷ outside))) are))
+    pub iterations_here : AreIterationsFrom plan own mid.id in_task
+    iterations_here =
+        subst (λ (n : ℕ). AreIterations counts (drop n loops_in) in_task) (sym mid_count)
+        (subst (λ (l : List Loop). AreIterations counts (drop (length inside) l) in_task) (sym loops_are)
+        (subst (λ (l : List Loop). AreIterations counts l in_task) (sym (drop_front inside (mid ∷ outside))) are))
 
-    pub below_lasts : Below (values_in plan mid.id turned) (lasts_in extents plan.pure.splits loops_in)
+    pub below_lasts : Below (values_in plan mid.id in_task) (lasts_in extents plan.pure.splits loops_in)
     below_lasts =
-        subst (λ (n : ℕ). Below (turns_from n turned loops_in) (lasts_in extents plan.pure.splits loops_in)) (sym mid_count)
-        (turns_below extents plan.pure.splits turned inside (mid ∷ outside) loops_in loops_are are)
+        subst (λ (n : ℕ). Below (iterations_from n in_task loops_in) (lasts_in extents plan.pure.splits loops_in)) (sym mid_count)
+        (iterations_below extents plan.pure.splits in_task inside (mid ∷ outside) loops_in loops_are are)
 
-    pub turns_are : turns_for schedule.funcs (places.At loop_here) (consuming consumer turned) ≡ values_in plan mid.id turned
-    turns_are = ap (λ (p : Option FuncPlan). turns_at loop_here p (consuming consumer turned)) at.plan_is
-        ∙ ap (values_in plan mid.id) (loops_consuming consumer turned)
+    pub iterations_are : iterations_for schedule.funcs (places.At loop_here) (consuming consumer in_task) ≡ values_in plan mid.id in_task
+    iterations_are = ap (λ (p : Option FuncPlan). iterations_at loop_here p (consuming consumer in_task)) at.plan_is
+        ∙ ap (values_in plan mid.id) (loops_consuming consumer in_task)
 
     -- the Funcs at this loop that stand before one have their pixels
     abbrev HeldBefore : ℕ → Planes → Type 0
-    HeldBefore from funcs = (k : ℕ) (loop : LoopPlace) → k < from → IsProduced k loop → loop.inside ≡ mid.id → HoldsAt turned k loop funcs
+    HeldBefore from funcs = (k : ℕ) (loop : LoopPlace) → k < from → IsProduced k loop → loop.inside ≡ mid.id → HoldsAt in_task k loop funcs
 
     record Begins (from : ℕ) (funcs : Planes) : Type 0 where
-      state : State (suc (length inside)) turned funcs
+      state : State (suc (length inside)) in_task funcs
       held : HeldBefore from funcs
 
     lasts_in_consumer : (id : LoopId) → (consumer_loop plan own id).lasts ≡ lasts_in extents plan.pure.splits loops_in
@@ -230,9 +230,9 @@ module _ (pipeline : Pipeline) (schedule : Schedule) (boxes : Boxes) (rules : Is
       pub g_before : g < consumer
       g_before = before_consumer g loop_here produced_here
 
-      pub below : Below (values_in plan mid.id turned) box.lasts
+      pub below : Below (values_in plan mid.id in_task) box.lasts
       below =
-          subst (λ (l : List ℕ). Below (values_in plan mid.id turned) l)
+          subst (λ (l : List ℕ). Below (values_in plan mid.id in_task) l)
           (sym (lasts_are pipeline schedule boxes g nested nested_plan box accepted is (places.At loop_here) g_before parts
           ∙ ap lasts_of (consumer_is schedule boxes.funcs (places.At loop_here) loop_here consumer plan own refl refl at.plan_is at.box_is)
           ∙ lasts_in_consumer mid.id))
@@ -263,14 +263,14 @@ module _ (pipeline : Pipeline) (schedule : Schedule) (boxes : Boxes) (rules : Is
       produced_read k w loop placed = record { standing = w.own; there = w.there; placed_is = placed; same = of_consumer k w loop placed }
 
       module _ (funcs : Planes) (begins : Begins g funcs) where
-        roots_hold : (k : ℕ) (standing : Standing) → k < g → IsReached schedule.standings k standing → standing.place ≡ places.Root
+        roots_hold : (k : ℕ) (standing : FuncPlacement) → k < g → IsReached schedule.standings k standing → standing.place ≡ places.Root
             → (other : SourceBox) → slice_get boxes.funcs k ≡ Some (Some other) → Holds k other no_loops (pixels pipeline.funcs inputs g k) funcs
         roots_hold k standing before there root other other_is x y lx ly =
             begins.state.shared k standing (omega (arith, before, g_before)) there root other other_is x y lx ly
             ∙ pixels_fewer pipeline.funcs inputs consumer g k (word.add (first_of other.x no_loops) x) (word.add (first_of other.y no_loops) y) before
             (omega (arith, g_before))
 
-        holds_by : (k : ℕ) (w : IsReadWithin schedule g k) (loop : LoopPlace) (placed : w.own.place ≡ places.At loop) → HoldsAt turned k loop funcs
+        holds_by : (k : ℕ) (w : IsReadWithin schedule g k) (loop : LoopPlace) (placed : w.own.place ≡ places.At loop) → HoldsAt in_task k loop funcs
         holds_by k w loop placed = elim (cases_eq (inner_count loop.inside loops_in) (length inside)) [
           | inl e ↦ begins.held k loop w.before (produced_read k w loop placed) (sym (mid_is loop.inside e))
           | inr d ↦ begins.state.produced k loop (produced_read k w loop placed) (omega (arith, (stands_inside k w loop placed (w.within loop placed)).1, d))
@@ -278,55 +278,55 @@ module _ (pipeline : Pipeline) (schedule : Schedule) (boxes : Boxes) (rules : Is
 
         loops_hold : (k : ℕ) (w : IsReadWithin schedule g k) (loop : LoopPlace) → w.own.place ≡ places.At loop
             → (other : SourceBox) → slice_get boxes.funcs k ≡ Some (Some other)
-            → Holds k other (values_in plan loop.inside turned) (pixels pipeline.funcs inputs g k) funcs
+            → Holds k other (values_in plan loop.inside in_task) (pixels pipeline.funcs inputs g k) funcs
         loops_hold k w loop placed other other_is x y lx ly =
             holds_by k w loop placed other other_is x y lx ly
-            ∙ pixels_fewer pipeline.funcs inputs consumer g k (word.add (first_of other.x (values_in plan loop.inside turned)) x)
-            (word.add (first_of other.y (values_in plan loop.inside turned)) y) w.before (omega (arith, g_before))
+            ∙ pixels_fewer pipeline.funcs inputs consumer g k (word.add (first_of other.x (values_in plan loop.inside in_task)) x)
+            (word.add (first_of other.y (values_in plan loop.inside in_task)) y) w.before (omega (arith, g_before))
 
-        reads_answered : (values : List ℕ) → values ≡ values_in plan mid.id turned → IsAnswered pipeline schedule boxes consumer g nested box values inputs
-            turned funcs
+        reads_answered : (values : List ℕ) → values ≡ values_in plan mid.id in_task → IsAnswered pipeline schedule boxes consumer g nested box values inputs
+            in_task funcs
         reads_answered values e corners are_corners counters counters_are now keeps x y lies =
-            let lies_here : LiesIn (values_in plan mid.id turned) box x y = subst (λ (l : List ℕ). LiesIn l box x y) e lies in
+            let lies_here : LiesIn (values_in plan mid.id in_task) box x y = subst (λ (l : List ℕ). LiesIn l box x y) e lies in
             answered pipeline schedule boxes rules accepted is (places.At loop_here) g nested nested_plan box g_before parts inputs begun consumer func plan own
-            at turned funcs roots_hold of_consumer loops_hold
-            counters (λ id. ap (values_in plan id) counters_are) corners are_corners now keeps (values_in plan mid.id turned) below x y lies_here
-            (λ k w loop placed. (turns_here, lies_here))
+            at in_task funcs roots_hold of_consumer loops_hold
+            counters (λ id. ap (values_in plan id) counters_are) corners are_corners now keeps (values_in plan mid.id in_task) below x y lies_here
+            (λ k w loop placed. (iterations_here, lies_here))
 
-        updates_answered : (values : List ℕ) → values ≡ values_in plan mid.id turned → AreUpdatesAnswered pipeline schedule boxes consumer g nested box values
-            inputs turned funcs
+        updates_answered : (values : List ℕ) → values ≡ values_in plan mid.id in_task → AreUpdatesAnswered pipeline schedule boxes consumer g nested box values
+            inputs in_task funcs
         updates_answered values e corners are_corners counters counters_are now keeps number_at update update_is number x y few lies own_plane words =
-            let lies_here : LiesIn (values_in plan mid.id turned) box x y = subst (λ (l : List ℕ). LiesIn l box x y) e lies in
+            let lies_here : LiesIn (values_in plan mid.id in_task) box x y = subst (λ (l : List ℕ). LiesIn l box x y) e lies in
             answered_beside pipeline schedule boxes rules accepted is (places.At loop_here) g nested nested_plan box g_before parts inputs begun consumer func
-            plan own at turned funcs roots_hold of_consumer loops_hold
-            counters (λ id. ap (values_in plan id) counters_are) corners are_corners now keeps (values_in plan mid.id turned) below x y lies_here
-            (λ k w loop placed. (turns_here, lies_here)) number_at update update_is number few
+            plan own at in_task funcs roots_hold of_consumer loops_hold
+            counters (λ id. ap (values_in plan id) counters_are) corners are_corners now keeps (values_in plan mid.id in_task) below x y lies_here
+            (λ k w loop placed. (iterations_here, lies_here)) number_at update update_is number few
             (reads_of inputs (with_plane g own_plane (pixels pipeline.funcs inputs g))) words
 
         -- what its nest leaves
         module _ (made : Stmt) (does : DoesNests pipeline schedule boxes loop_here g nested box (length nested.updates) made) where
           abbrev after : Planes
-          after = run points inputs made (consuming consumer turned) funcs
+          after = run points inputs made (consuming consumer in_task) funcs
 
-          leaves : Leaves g box (values_in plan mid.id turned) (stage g nested inputs (pixels pipeline.funcs inputs g) (length nested.updates)) funcs after
+          leaves : Leaves g box (values_in plan mid.id in_task) (stage g nested inputs (pixels pipeline.funcs inputs g) (length nested.updates)) funcs after
           leaves =
-              subst (λ (l : List ℕ). Leaves g box l (stage g nested inputs (pixels pipeline.funcs inputs g) (length nested.updates)) funcs after) turns_are
-              (does inputs begun turned
-              (subst (λ (l : List ℕ). Below l box.lasts) (sym turns_are) below) funcs
-              (reads_answered (turns_for schedule.funcs (places.At loop_here) (consuming consumer turned)) turns_are)
-              (updates_answered (turns_for schedule.funcs (places.At loop_here) (consuming consumer turned)) turns_are))
+              subst (λ (l : List ℕ). Leaves g box l (stage g nested inputs (pixels pipeline.funcs inputs g) (length nested.updates)) funcs after) iterations_are
+              (does inputs begun in_task
+              (subst (λ (l : List ℕ). Below l box.lasts) (sym iterations_are) below) funcs
+              (reads_answered (iterations_for schedule.funcs (places.At loop_here) (consuming consumer in_task)) iterations_are)
+              (updates_answered (iterations_for schedule.funcs (places.At loop_here) (consuming consumer in_task)) iterations_are))
 
           same_box : (a b : SourceBox) → Some (Some a) ≡ Some (Some b) → a ≡ b
           same_box a b e = cc
 
-          holds_after : HoldsAt turned g loop_here after
+          holds_after : HoldsAt in_task g loop_here after
           holds_after other other_is =
-              subst (λ (b : SourceBox). Holds g b (values_in plan mid.id turned) (pixel g) after) (same_box box other (sym parts.box_is ∙ other_is))
+              subst (λ (b : SourceBox). Holds g b (values_in plan mid.id in_task) (pixel g) after) (same_box box other (sym parts.box_is ∙ other_is))
               (λ x y lx ly. leaves.holds x y lx ly
-              ∙ sym (pixels_before pipeline.funcs inputs consumer g (word.add (first_of box.x (values_in plan mid.id turned)) x)
-              (word.add (first_of box.y (values_in plan mid.id turned)) y) g_before
-              ∙ ap (λ (f : Option Func). func_plane g f inputs (pixels pipeline.funcs inputs g) (word.add (first_of box.x (values_in plan mid.id turned)) x)
-              (word.add (first_of box.y (values_in plan mid.id turned)) y)) parts.func_is))
+              ∙ sym (pixels_before pipeline.funcs inputs consumer g (word.add (first_of box.x (values_in plan mid.id in_task)) x)
+              (word.add (first_of box.y (values_in plan mid.id in_task)) y) g_before
+              ∙ ap (λ (f : Option Func). func_plane g f inputs (pixels pipeline.funcs inputs g) (word.add (first_of box.x (values_in plan mid.id in_task)) x)
+              (word.add (first_of box.y (values_in plan mid.id in_task)) y)) parts.func_is))
 
           begins_after : Begins (suc g) after
           begins_after = record {
@@ -343,7 +343,7 @@ module _ (pipeline : Pipeline) (schedule : Schedule) (boxes : Boxes) (rules : Is
             held = λ k loop before h here. elim (cases_eq k g) [
               | inl e ↦
                   let here_is : loop_here ≡ loop = produced_loop g loop_here loop produced_here (subst (λ (n : ℕ). IsProduced n loop) e h) in
-                  subst (λ (n : ℕ). HoldsAt turned n loop after) (sym e) (subst (λ (l : LoopPlace). HoldsAt turned g l after) here_is holds_after)
+                  subst (λ (n : ℕ). HoldsAt in_task n loop after) (sym e) (subst (λ (l : LoopPlace). HoldsAt in_task g l after) here_is holds_after)
               | inr d ↦ λ other other_is x y lx ly. leaves.keeps k x y d ∙ begins.held k loop (omega (arith, before, d)) h here other other_is x y lx ly
             ];
           }
@@ -358,8 +358,8 @@ module _ (pipeline : Pipeline) (schedule : Schedule) (boxes : Boxes) (rules : Is
 
     record Begun (inner body : Stmt) (funcs : Planes) : Type 0 where
       between : Planes
-      runs : run points inputs body (consuming consumer turned) funcs ≡ run points inputs inner (consuming consumer turned) between
-      state : State (length inside) turned between
+      runs : run points inputs body (consuming consumer in_task) funcs ≡ run points inputs inner (consuming consumer in_task) between
+      state : State (length inside) in_task between
       keeps : KeepsOuter (suc (length inside)) funcs between
 
     begins_next : (from : ℕ) (funcs : Planes) → IsNestAt pipeline schedule boxes loop_here from None → Begins from funcs → Begins (suc from) funcs
@@ -401,14 +401,14 @@ module _ (pipeline : Pipeline) (schedule : Schedule) (boxes : Boxes) (rules : Is
     }
     nests from inner body (One_more _ None _ rest _ none more does) funcs begins =
         let b = nests (suc from) inner rest more funcs (begins_next from funcs none begins) in
-        record { between = b.between; runs = does.runs points inputs (consuming consumer turned) funcs ∙ b.runs; state = b.state; keeps = b.keeps }
+        record { between = b.between; runs = does.runs points inputs (consuming consumer in_task) funcs ∙ b.runs; state = b.state; keeps = b.keeps }
     nests from inner body (One_more _ (Some first) _ rest _ nest_of more does) funcs begins =
-        let after = run points inputs first (consuming consumer turned) funcs in
+        let after = run points inputs first (consuming consumer in_task) funcs in
         let b = nests (suc from) inner rest more after (begins_after from nest_of.func nest_of.plan nest_of.own nest_of.parts funcs begins first nest_of.does)
         in
         record {
           between = b.between;
-          runs = does.runs points inputs (consuming consumer turned) funcs ∙ b.runs;
+          runs = does.runs points inputs (consuming consumer in_task) funcs ∙ b.runs;
           state = b.state;
           keeps = λ k x y outer. b.keeps k x y outer ∙ keeps_after from nest_of.func nest_of.plan nest_of.own nest_of.parts funcs begins first nest_of.does k x
               y outer;
@@ -417,12 +417,12 @@ module _ (pipeline : Pipeline) (schedule : Schedule) (boxes : Boxes) (rules : Is
   -- ---- the store of the consumer
 
   module _ (store : Stmt) (store_of : IsStoreOf pipeline schedule boxes places.Root consumer func own store) where
-    pub no_turns_below : Below no_loops own.lasts
-    no_turns_below = subst (λ (l : List ℕ). Below no_loops l) (sym (lasts_are pipeline schedule boxes consumer func plan own accepted is places.Root tt at))
+    pub no_iterations_below : Below no_loops own.lasts
+    no_iterations_below = subst (λ (l : List ℕ). Below no_loops l) (sym (lasts_are pipeline schedule boxes consumer func plan own accepted is places.Root tt at))
         no_below
 
     abbrev pub plane : Plane
-    plane = writing.plane pipeline schedule boxes rules accepted is places.Root consumer func plan own tt at store store_of inputs no_loops no_turns_below
+    plane = writing.plane pipeline schedule boxes rules accepted is places.Root consumer func plan own tt at store store_of inputs no_loops no_iterations_below
         (consuming consumer (λ id. 0)) (λ inner. refl)
 
     abbrev pub x_of : loops.Values → ℕ
@@ -447,8 +447,8 @@ module _ (pipeline : Pipeline) (schedule : Schedule) (boxes : Boxes) (rules : Is
 
     -- ---- where no loop is inside
 
-    module _ (turned : loops.Values) (are : AreTurns counts loops_in turned) (all_visited : AllByRecursion IsVisited (wholes extents plan.pure.splits []
-        turned)) where
+    module _ (in_task : loops.Values) (are : AreIterations counts loops_in in_task) (all_visited : AllByRecursion IsVisited (wholes extents plan.pure.splits []
+        in_task)) where
       stands_root : (k : ℕ) (w : IsReadWithin schedule consumer k) (loop : LoopPlace) → w.own.place ≡ places.At loop → StandsAt schedule loop consumer
           → loop.func ≡ consumer
       stands_root k w loop placed (HasLoop e) = sym e
@@ -462,9 +462,9 @@ module _ (pipeline : Pipeline) (schedule : Schedule) (boxes : Boxes) (rules : Is
       taken_by true n far l = refl
       taken_by false n far l = omega (arith, l)
 
-      module _ (inner : loops.Values) (listed : Contains (wholes extents plan.pure.splits [] turned) inner) where
+      module _ (inner : loops.Values) (listed : Contains (wholes extents plan.pure.splits [] in_task) inner) where
         pub v : IsVisited inner
-        v = of_all IsVisited (wholes extents plan.pure.splits [] turned) all_visited inner listed
+        v = of_all IsVisited (wholes extents plan.pure.splits [] in_task) all_visited inner listed
 
         abbrev pub across : ℕ
         across = word.add (x_of inner) (first_of own.x no_loops)
@@ -474,11 +474,11 @@ module _ (pipeline : Pipeline) (schedule : Schedule) (boxes : Boxes) (rules : Is
 
         first_from : IsFrom no_loops own.x (x_of inner) across
         first_from = writing.first_from pipeline schedule boxes rules accepted is places.Root consumer func plan own tt at store store_of inputs no_loops
-            no_turns_below (consuming consumer turned) (λ i. refl) inner v
+            no_iterations_below (consuming consumer in_task) (λ i. refl) inner v
 
         second_from : IsFrom no_loops own.y (y_of inner) down
         second_from = writing.second_from pipeline schedule boxes rules accepted is places.Root consumer func plan own tt at store store_of inputs no_loops
-            no_turns_below (consuming consumer turned) (λ i. refl) inner v
+            no_iterations_below (consuming consumer in_task) (λ i. refl) inner v
 
         gone_x : gone func variables.FirstArgument inner ≡ x_of inner
         gone_x =
@@ -500,17 +500,17 @@ module _ (pipeline : Pipeline) (schedule : Schedule) (boxes : Boxes) (rules : Is
           second = record { word = second_from.word; is = omega (arith, second_from.is, more_none own.y.base, less_none own.y.base, gone_y) };
         }
 
-        pub reached : (id : LoopId) → IsReachedIn func plan own id turned across down
+        pub reached : (id : LoopId) → IsReachedIn func plan own id in_task across down
         reached id = record {
-          turns_are = turns_drop counts (inner_count id loops_in) loops_in turned are;
+          iterations_are = iterations_drop counts (inner_count id loops_in) loops_in in_task are;
           whole = inner;
-          visited = nest_takes inner counts (take (inner_count id loops_in) loops_in) (over_loops extents plan.pure.splits (λ whole. whole ∷ [])) turned
-              (turns_take counts (inner_count id loops_in) loops_in turned are) listed;
+          visited = nest_takes inner counts (take (inner_count id loops_in) loops_in) (over_loops extents plan.pure.splits (λ whole. whole ∷ [])) in_task
+              (iterations_take counts (inner_count id loops_in) loops_in in_task are) listed;
           taken = taken;
         }
 
-      module _ (leaf : Stmt) (bound : Repeats consumer leaf store (wholes extents plan.pure.splits [])) (small : AreSmall turned) (funcs : Planes)
-          (state : State 0 turned funcs) where
+      module _ (leaf : Stmt) (bound : Repeats consumer leaf store (wholes extents plan.pure.splits [])) (small : AreSmall in_task) (funcs : Planes)
+          (state : State 0 in_task funcs) where
         abbrev Ready : Planes → Type 0
         Ready now = Keeps consumer funcs now
 
@@ -518,45 +518,45 @@ module _ (pipeline : Pipeline) (schedule : Schedule) (boxes : Boxes) (rules : Is
         stays now later keeps ready other x y d = keeps other x y d ∙ ready other x y d
 
         abbrev step : loops.Values → Planes → Planes
-        step inner = run points inputs store (put_loops consumer inner (consuming consumer turned))
+        step inner = run points inputs store (put_loops consumer inner (consuming consumer in_task))
 
-        module _ (inner : loops.Values) (listed : Contains (wholes extents plan.pure.splits [] turned) inner) where
+        module _ (inner : loops.Values) (listed : Contains (wholes extents plan.pure.splits [] in_task) inner) where
           agrees : (now : Planes) → Ready now
-              → Agree (reads_of inputs (pixels pipeline.funcs inputs consumer)) (placed store_of.corners (put_loops consumer inner (consuming consumer turned))
+              → Agree (reads_of inputs (pixels pipeline.funcs inputs consumer)) (placed store_of.corners (put_loops consumer inner (consuming consumer in_task))
               (reads_of inputs now))
               (pure_points pipeline schedule (reads_of inputs (pixels pipeline.funcs inputs consumer)) consumer func (across inner listed) (down inner listed))
           agrees now ready =
-              answered pipeline schedule boxes rules accepted is places.Root consumer func plan own tt at inputs begun consumer func plan own at turned funcs
+              answered pipeline schedule boxes rules accepted is places.Root consumer func plan own tt at inputs begun consumer func plan own at in_task funcs
               state.shared of_root
               (λ k w loop placed. state.produced k loop (record { standing = w.own; there = w.there; placed_is = placed; same = of_root k w loop placed })
               (omega arith))
-              (put_loops consumer inner (consuming consumer turned)) (λ id. ap (values_in plan id) (loops_put consumer inner (consuming consumer turned))
-              ∙ turns_kept func plan.pure stage_is extents turned inner listed (inner_count id loops_in)) store_of.corners store_of.are_corners now ready
-              no_loops no_turns_below (across inner listed) (down inner listed)
-              (writing.lies pipeline schedule boxes rules accepted is places.Root consumer func plan own tt at store store_of inputs no_loops no_turns_below
-              (consuming consumer turned) (λ i. refl) inner (v inner listed))
+              (put_loops consumer inner (consuming consumer in_task)) (λ id. ap (values_in plan id) (loops_put consumer inner (consuming consumer in_task))
+              ∙ iterations_kept func plan.pure stage_is extents in_task inner listed (inner_count id loops_in)) store_of.corners store_of.are_corners now ready
+              no_loops no_iterations_below (across inner listed) (down inner listed)
+              (writing.lies pipeline schedule boxes rules accepted is places.Root consumer func plan own tt at store store_of inputs no_loops no_iterations_below
+              (consuming consumer in_task) (λ i. refl) inner (v inner listed))
               (λ k w loop placed. reached inner listed loop.inside)
 
           writes : Writes points consumer plane Ready stays x_of y_of step inner
           writes =
-              writing.writes pipeline schedule boxes rules accepted is places.Root consumer func plan own tt at store store_of inputs no_loops no_turns_below
-              (consuming consumer turned) (λ i. refl) inner (v inner listed) Ready stays agrees
+              writing.writes pipeline schedule boxes rules accepted is places.Root consumer func plan own tt at store store_of inputs no_loops no_iterations_below
+              (consuming consumer in_task) (λ i. refl) inner (v inner listed) Ready stays agrees
 
         list : List loops.Values
-        list = wholes extents plan.pure.splits [] turned
+        list = wholes extents plan.pure.splits [] in_task
 
-        ran : run points inputs leaf (consuming consumer turned) funcs ≡ all step (wholes extents plan.pure.splits [] turned) funcs
+        ran : run points inputs leaf (consuming consumer in_task) funcs ≡ all step (wholes extents plan.pure.splits [] in_task) funcs
         ran =
-            bound.runs points inputs (consuming consumer turned) funcs (subst AreSmall (sym (loops_consuming consumer turned)) small)
-            ∙ ap (λ (t : loops.Values). all step (wholes extents plan.pure.splits [] t) funcs) (loops_consuming consumer turned)
+            bound.runs points inputs (consuming consumer in_task) funcs (subst AreSmall (sym (loops_consuming consumer in_task)) small)
+            ∙ ap (λ (t : loops.Values). all step (wholes extents plan.pure.splits [] t) funcs) (loops_consuming consumer in_task)
 
-        painted : Paints points consumer plane Ready stays x_of y_of step (wholes extents plan.pure.splits [] turned) funcs
-            (all step (wholes extents plan.pure.splits [] turned) funcs)
+        painted : Paints points consumer plane Ready stays x_of y_of step (wholes extents plan.pure.splits [] in_task) funcs
+            (all step (wholes extents plan.pure.splits [] in_task) funcs)
         painted =
-            paints points consumer plane Ready stays x_of y_of step (wholes extents plan.pure.splits [] turned) funcs
-            (all_contained (Writes points consumer plane Ready stays x_of y_of step) (wholes extents plan.pure.splits [] turned) writes) (λ other x y d. refl)
+            paints points consumer plane Ready stays x_of y_of step (wholes extents plan.pure.splits [] in_task) funcs
+            (all_contained (Writes points consumer plane Ready stays x_of y_of step) (wholes extents plan.pure.splits [] in_task) writes) (λ other x y d. refl)
 
-        leaf_does : Does 0 (wholes extents plan.pure.splits [] turned) funcs (run points inputs leaf (consuming consumer turned) funcs)
+        leaf_does : Does 0 (wholes extents plan.pure.splits [] in_task) funcs (run points inputs leaf (consuming consumer in_task) funcs)
         leaf_does = record {
           there = λ x y e. ap (λ (f : Planes). f consumer x y) ran ∙ painted.there x y e;
           keeps = λ k x y outer free. ap (λ (f : Planes). f k x y) ran ∙ painted.keeps k x y free;
@@ -585,17 +585,17 @@ module _ (pipeline : Pipeline) (schedule : Schedule) (boxes : Boxes) (rules : Is
     -- ---- loops
 
     abbrev pub DoesLoops : List Loop → Stmt → Type 0
-    DoesLoops inside made = (outside : List Loop) → loops_in ≡ inside ++ outside → (turned : loops.Values) → AreSmall turned → AreTurns counts outside turned
-        → AllByRecursion IsVisited (wholes extents plan.pure.splits inside turned) → (funcs : Planes) → State (length inside) turned funcs
-        → Does (length inside) (wholes extents plan.pure.splits inside turned) funcs (run points inputs made (consuming consumer turned) funcs)
+    DoesLoops inside made = (outside : List Loop) → loops_in ≡ inside ++ outside → (in_task : loops.Values) → AreSmall in_task → AreIterations counts outside in_task
+        → AllByRecursion IsVisited (wholes extents plan.pure.splits inside in_task) → (funcs : Planes) → State (length inside) in_task funcs
+        → Does (length inside) (wholes extents plan.pure.splits inside in_task) funcs (run points inputs made (consuming consumer in_task) funcs)
 
     more_outer : (inner k : ℕ) → IsOuter (suc inner) k → IsOuter inner k
     more_outer inner k outer loop h = let l : suc inner ≤ inner_count loop.inside loops_in = outer loop h in omega (arith, l)
 
     -- what a state says holds where buffers of roots and of Funcs at outer loops are kept
-    state_kept : (inner : ℕ) (turned : loops.Values) (list : List loops.Values) (funcs after : Planes) → Does inner list funcs after → State inner turned funcs
-        → State inner turned after
-    state_kept inner turned list funcs after does state = record {
+    state_kept : (inner : ℕ) (in_task : loops.Values) (list : List loops.Values) (funcs after : Planes) → Does inner list funcs after → State inner in_task funcs
+        → State inner in_task after
+    state_kept inner in_task list funcs after does state = record {
       shared = λ k standing before there root box box_is x y lx ly.
           does.keeps k x y (λ loop h. absurd (root_not_produced k standing there root loop h)) (λ e. absurd (omega (arith, e, before)))
           ∙ state.shared k standing before there root box box_is x y lx ly;
@@ -608,114 +608,114 @@ module _ (pipeline : Pipeline) (schedule : Schedule) (boxes : Boxes) (rules : Is
     module _ (inside : List Loop) (mid : Loop) (inner body : Stmt) (begun_by : HasNests pipeline schedule boxes (record { func = consumer; inside = mid.id }) 0
         inner body) (inner_does : DoesLoops inside inner)
         (outside : List Loop) (loops_are : loops_in ≡ inside ++ mid ∷ outside) where
-      -- one turn
-      module _ (turned : loops.Values) (small : AreSmall turned) (are : AreTurns counts (mid ∷ outside) turned) (all_visited : AllByRecursion IsVisited
-          (wholes extents plan.pure.splits inside turned))
-          (funcs : Planes) (state : State (suc (length inside)) turned funcs) where
-        abbrev first : Begun inside mid outside loops_are turned are inner body funcs
-        first = nests inside mid outside loops_are turned are 0 inner body begun_by funcs (record {
+      -- one iteration
+      module _ (in_task : loops.Values) (small : AreSmall in_task) (are : AreIterations counts (mid ∷ outside) in_task) (all_visited : AllByRecursion IsVisited
+          (wholes extents plan.pure.splits inside in_task))
+          (funcs : Planes) (state : State (suc (length inside)) in_task funcs) where
+        abbrev first : Begun inside mid outside loops_are in_task are inner body funcs
+        first = nests inside mid outside loops_are in_task are 0 inner body begun_by funcs (record {
           state = state;
           held = λ k loop before h here. absurd
               (omega (arith, before));
         })
 
-        abbrev done : Does (length inside) (wholes extents plan.pure.splits inside turned) first.between (run points inputs inner (consuming consumer turned)
+        abbrev done : Does (length inside) (wholes extents plan.pure.splits inside in_task) first.between (run points inputs inner (consuming consumer in_task)
             first.between)
-        done = inner_does (mid ∷ outside) loops_are turned small are all_visited first.between first.state
+        done = inner_does (mid ∷ outside) loops_are in_task small are all_visited first.between first.state
 
-        pub turn_there : (x y : ℕ) → list_any (hits x y) (wholes extents plan.pure.splits inside turned) ≡ true
-            → run points inputs body (consuming consumer turned) funcs consumer x y ≡ plane x y
-        turn_there x y e = ap (λ (f : Planes). f consumer x y) first.runs ∙ done.there x y e
+        pub iteration_there : (x y : ℕ) → list_any (hits x y) (wholes extents plan.pure.splits inside in_task) ≡ true
+            → run points inputs body (consuming consumer in_task) funcs consumer x y ≡ plane x y
+        iteration_there x y e = ap (λ (f : Planes). f consumer x y) first.runs ∙ done.there x y e
 
-        pub turn_keeps : (k x y : ℕ) → IsOuter (suc (length inside)) k → (k ≡ consumer → list_any (hits x y) (wholes extents plan.pure.splits inside turned)
+        pub iteration_keeps : (k x y : ℕ) → IsOuter (suc (length inside)) k → (k ≡ consumer → list_any (hits x y) (wholes extents plan.pure.splits inside in_task)
             ≡ false)
-            → run points inputs body (consuming consumer turned) funcs k x y ≡ funcs k x y
-        turn_keeps k x y outer free = ap (λ (f : Planes). f k x y) first.runs ∙ done.keeps k x y (more_outer (length inside) k outer) free
+            → run points inputs body (consuming consumer in_task) funcs k x y ≡ funcs k x y
+        iteration_keeps k x y outer free = ap (λ (f : Planes). f k x y) first.runs ∙ done.keeps k x y (more_outer (length inside) k outer) free
             ∙ first.keeps k x y outer
 
-      -- all turns
-      module _ (turned : loops.Values) (small : AreSmall turned) (are : AreTurns counts outside turned) where
-        abbrev at_turn : ℕ → loops.Values
-        at_turn n = loops.with mid.id n turned
+      -- all iterations
+      module _ (in_task : loops.Values) (small : AreSmall in_task) (are : AreIterations counts outside in_task) where
+        abbrev at_iteration : ℕ → loops.Values
+        at_iteration n = loops.with mid.id n in_task
 
         abbrev listed : ℕ → List loops.Values
-        listed n = wholes extents plan.pure.splits inside (at_turn n)
+        listed n = wholes extents plan.pure.splits inside (at_iteration n)
 
         abbrev step_at : ℕ → Planes → Planes
-        step_at n = run points inputs body (with (record { func = consumer; id = mid.id }) n (consuming consumer turned))
+        step_at n = run points inputs body (with (record { func = consumer; id = mid.id }) n (consuming consumer in_task))
 
         split_at : Unique (inside ++ mid ∷ outside)
         split_at = subst Unique loops_are unique
 
-        stays_at : (n : ℕ) (funcs : Planes) → State (suc (length inside)) turned funcs → State (suc (length inside)) (at_turn n) funcs
+        stays_at : (n : ℕ) (funcs : Planes) → State (suc (length inside)) in_task funcs → State (suc (length inside)) (at_iteration n) funcs
         stays_at n funcs state = record {
           shared = state.shared;
           produced = λ k loop h further box box_is.
               subst (λ (l : List ℕ). Holds k box l (pixel k) funcs)
-              (sym (subst (λ (ls : List Loop). turns_from (inner_count loop.inside loops_in) (at_turn n) ls ≡ turns_from (inner_count loop.inside loops_in)
-              turned ls) (sym loops_are)
-              (turns_stay inside mid outside split_at turned n (inner_count loop.inside loops_in) further)))
+              (sym (subst (λ (ls : List Loop). iterations_from (inner_count loop.inside loops_in) (at_iteration n) ls ≡ iterations_from (inner_count loop.inside loops_in)
+              in_task ls) (sym loops_are)
+              (iterations_stay inside mid outside split_at in_task n (inner_count loop.inside loops_in) further)))
               (state.produced k loop h further box box_is);
         }
 
-        pub mid_turns : (n : ℕ) → n < counts mid.id → AreTurns counts (mid ∷ outside) (at_turn n)
-        mid_turns n l = (
-          subst (λ (m : ℕ). m < counts mid.id) (sym (with_same mid.id n turned)) l,
-          turns_with counts outside turned mid.id n
+        pub mid_iterations : (n : ℕ) → n < counts mid.id → AreIterations counts (mid ∷ outside) (at_iteration n)
+        mid_iterations n l = (
+          subst (λ (m : ℕ). m < counts mid.id) (sym (with_same mid.id n in_task)) l,
+          iterations_with counts outside in_task mid.id n
               (none_outside inside mid outside split_at) are,
         )
 
-        pub small_at : (n : ℕ) → n < counts mid.id → AreSmall (at_turn n)
-        small_at n l = small_with mid.id n turned (omega (
+        pub small_at : (n : ℕ) → n < counts mid.id → AreSmall (at_iteration n)
+        small_at n l = small_with mid.id n in_task (omega (
           arith,
           l,
-          few_turns extents plan.pure.splits (few pipeline schedule boxes consumer func plan own
+          iterations_few extents plan.pure.splits (few pipeline schedule boxes consumer func plan own
               accepted is places.Root tt at) (splits pipeline schedule boxes consumer func plan own accepted is places.Root tt at) mid.id,
         )) small
 
-        -- what is done in a turn, by the body under the counters of that turn
-        same_step : (n : ℕ) (funcs : Planes) → step_at n funcs ≡ run points inputs body (consuming consumer (at_turn n)) funcs
-        same_step n funcs = ap (λ (v : Values). run points inputs body v funcs) (consuming_with consumer mid.id n turned)
+        -- what is done in an iteration, by the body under the counters of that iteration
+        same_step : (n : ℕ) (funcs : Planes) → step_at n funcs ≡ run points inputs body (consuming consumer (at_iteration n)) funcs
+        same_step n funcs = ap (λ (v : Values). run points inputs body v funcs) (consuming_with consumer mid.id n in_task)
 
-        all_turns : (n : ℕ) → n ≤ counts mid.id → ((k : ℕ) → k < n → AllByRecursion IsVisited (listed k)) → (funcs : Planes)
-            → State (suc (length inside)) turned funcs
-            → Does (suc (length inside)) (upto n listed) funcs (turns n step_at funcs)
-        unfolding turns upto
-        all_turns zero l visited funcs state = record { there = λ x y e. absurd (true≢false (sym e)); keeps = λ k x y outer free. refl }
-        all_turns (suc n) l visited funcs state =
-            let before = all_turns n (omega (arith, l)) (λ k b. visited k (omega (arith, b))) funcs state in
-            let there = turns n step_at funcs in
-            let state_there = stays_at n there (state_kept (suc (length inside)) turned (upto n listed) funcs there before state) in
+        done_iterations : (n : ℕ) → n ≤ counts mid.id → ((k : ℕ) → k < n → AllByRecursion IsVisited (listed k)) → (funcs : Planes)
+            → State (suc (length inside)) in_task funcs
+            → Does (suc (length inside)) (upto n listed) funcs (iterated n step_at funcs)
+        unfolding iterated upto
+        done_iterations zero l visited funcs state = record { there = λ x y e. absurd (true≢false (sym e)); keeps = λ k x y outer free. refl }
+        done_iterations (suc n) l visited funcs state =
+            let before = done_iterations n (omega (arith, l)) (λ k b. visited k (omega (arith, b))) funcs state in
+            let there = iterated n step_at funcs in
+            let state_there = stays_at n there (state_kept (suc (length inside)) in_task (upto n listed) funcs there before state) in
             let here : n < counts mid.id = omega (arith, l) in
             does_more (suc (length inside)) (upto n listed) (listed n) funcs there (step_at n there) before
-            (λ x y e. ap (λ (f : Planes). f consumer x y) (same_step n there) ∙ turn_there (at_turn n) (small_at n here) (mid_turns n here)
+            (λ x y e. ap (λ (f : Planes). f consumer x y) (same_step n there) ∙ iteration_there (at_iteration n) (small_at n here) (mid_iterations n here)
             (visited n (omega arith)) there state_there x y e)
-            (λ k x y outer free. ap (λ (f : Planes). f k x y) (same_step n there) ∙ turn_keeps (at_turn n) (small_at n here) (mid_turns n here)
+            (λ k x y outer free. ap (λ (f : Planes). f k x y) (same_step n there) ∙ iteration_keeps (at_iteration n) (small_at n here) (mid_iterations n here)
             (visited n (omega arith)) there state_there k x y outer free)
 
-    pub wholes_outside : (inside : List Loop) (mid : Loop) (turned : loops.Values)
-        → wholes extents plan.pure.splits (inside ++ mid ∷ []) turned ≡ upto (counts mid.id) (λ turn. wholes extents plan.pure.splits inside
-        (loops.with mid.id turn turned))
-    wholes_outside inside mid turned = nest-append counts inside (mid ∷ []) (over_loops extents plan.pure.splits (λ whole. whole ∷ [])) turned
+    pub wholes_outside : (inside : List Loop) (mid : Loop) (in_task : loops.Values)
+        → wholes extents plan.pure.splits (inside ++ mid ∷ []) in_task ≡ upto (counts mid.id) (λ iteration. wholes extents plan.pure.splits inside
+        (loops.with mid.id iteration in_task))
+    wholes_outside inside mid in_task = nest-append counts inside (mid ∷ []) (over_loops extents plan.pure.splits (λ whole. whole ∷ [])) in_task
 
     pub all_loops : (leaf : Stmt) (bound : Repeats consumer leaf store (wholes extents plan.pure.splits [])) (inside : List Loop) (made : Stmt)
         → HasLoops pipeline schedule boxes consumer counts leaf inside made → DoesLoops inside made
-    all_loops leaf bound _ _ No_loops outside loops_are turned small are visited funcs state =
-        leaf_does turned (subst (λ (l : List Loop). AreTurns counts l turned) (sym loops_are) are) visited leaf bound small funcs state
-    all_loops leaf bound _ made (One_outside inside mid inner body _ within nested does around run_around) outside loops_are turned small are visited funcs
+    all_loops leaf bound _ _ No_loops outside loops_are in_task small are visited funcs state =
+        leaf_does in_task (subst (λ (l : List Loop). AreIterations counts l in_task) (sym loops_are) are) visited leaf bound small funcs state
+    all_loops leaf bound _ made (One_outside inside mid inner body _ within nested does around run_around) outside loops_are in_task small are visited funcs
         state =
         let further : loops_in ≡ inside ++ mid ∷ outside = loops_are ∙ append_assoc inside (mid ∷ []) outside in
         let count : length (inside ++ mid ∷ []) ≡ suc (length inside) = omega (arith, length-append inside (mid ∷ [])) in
-        let list_is = wholes_outside inside mid turned in
-        let seen : AllByRecursion IsVisited (upto (counts mid.id) (λ turn. wholes extents plan.pure.splits inside (loops.with mid.id turn turned))) =
+        let list_is = wholes_outside inside mid in_task in
+        let seen : AllByRecursion IsVisited (upto (counts mid.id) (λ iteration. wholes extents plan.pure.splits inside (loops.with mid.id iteration in_task))) =
         subst (λ (l : List loops.Values). AllByRecursion IsVisited l) list_is visited in
-        let result : Does (suc (length inside)) (upto (counts mid.id) (λ turn. wholes extents plan.pure.splits inside (loops.with mid.id turn turned))) funcs
-        (turns (counts mid.id) (λ n. run points inputs body (with (record { func = consumer; id = mid.id }) n (consuming consumer turned))) funcs) =
-        all_turns inside mid inner body nested (all_loops leaf bound inside inner within) outside further turned small are (counts mid.id) (omega arith)
-        (λ k l. all_upto IsVisited (λ turn. wholes extents plan.pure.splits inside (loops.with mid.id turn turned)) (counts mid.id) seen k l) funcs
-        (subst (λ (n : ℕ). State n turned funcs) count state) in
-        subst (λ (n : ℕ). Does n (wholes extents plan.pure.splits (inside ++ mid ∷ []) turned) funcs (run points inputs made (consuming consumer turned) funcs))
+        let result : Does (suc (length inside)) (upto (counts mid.id) (λ iteration. wholes extents plan.pure.splits inside (loops.with mid.id iteration in_task))) funcs
+        (iterated (counts mid.id) (λ n. run points inputs body (with (record { func = consumer; id = mid.id }) n (consuming consumer in_task))) funcs) =
+        done_iterations inside mid inner body nested (all_loops leaf bound inside inner within) outside further in_task small are (counts mid.id) (omega arith)
+        (λ k l. all_upto IsVisited (λ iteration. wholes extents plan.pure.splits inside (loops.with mid.id iteration in_task)) (counts mid.id) seen k l) funcs
+        (subst (λ (n : ℕ). State n in_task funcs) count state) in
+        subst (λ (n : ℕ). Does n (wholes extents plan.pure.splits (inside ++ mid ∷ []) in_task) funcs (run points inputs made (consuming consumer in_task) funcs))
         (sym count)
-        (subst (λ (l : List loops.Values). Does (suc (length inside)) l funcs (run points inputs made (consuming consumer turned) funcs)) (sym list_is)
-        (subst (Does (suc (length inside)) (upto (counts mid.id) (λ turn. wholes extents plan.pure.splits inside (loops.with mid.id turn turned))) funcs)
-        (sym (does.runs points inputs (consuming consumer turned) funcs)) result))
+        (subst (λ (l : List loops.Values). Does (suc (length inside)) l funcs (run points inputs made (consuming consumer in_task) funcs)) (sym list_is)
+        (subst (Does (suc (length inside)) (upto (counts mid.id) (λ iteration. wholes extents plan.pure.splits inside (loops.with mid.id iteration in_task))) funcs)
+        (sym (does.runs points inputs (consuming consumer in_task) funcs)) result))

@@ -1,4 +1,4 @@
--- How many copies loops make of what stands inside: an unrolled loop has no more rounds than its copies count in the weight, and what loops
+-- How many copies loops make of what stands inside: an unrolled loop has no more iterations than its copies count in the weight, and what loops
 -- around a body ask for is paid by all copies.
 use Rattle.std.proofs.Common.{◌≡◌, ℕ, zero, suc, ◌+◌, ◌*◌, ◌-◌, ◌≤◌, Bool, true, false, cond, List, [], ◌∷◌, ◌++◌, length, take, Option, Some, None, refl, sym}
 use Rattle.std.proofs.Common.{ap, subst, ◌∙◌, arith, inl, inr, true≢false}
@@ -114,7 +114,7 @@ outside-paid nest size body count own outside some r l =
 
 -- ---- what is known of each loop
 
--- it counts at least once, and where it is laid out, as often as it has rounds
+-- it counts at least once, and where it is laid out, as often as it has iterations
 pub record Paid (counts : loops.Values) (own : Loop) : Type 0 where
   pub some : 1 ≤ copies own
   pub most : is_marked marks.Unrolled own ≡ true → counts own.id ≤ copies own
@@ -134,16 +134,16 @@ module _ (strided counts : loops.Values) (start : List Loop) where
   fine-by true false c e = absurd (omega (arith, e))
   fine-by false b c e = absurd (omega (arith, e))
 
-  few-rounds : (own : Loop) (inner : Option ℕ) → fits counts own inner ≡ true → cond {A = ℕ} (true && not (is_some inner)) 1 0 ≡ 0
+  few-lanes : (own : Loop) (inner : Option ℕ) → fits counts own inner ≡ true → cond {A = ℕ} (true && not (is_some inner)) 1 0 ≡ 0
       → counts own.id ≤ factor_of inner
-  few-rounds own None fit stray = absurd (omega (arith, stray))
-  few-rounds own (Some factor) fit stray = let e = eqb-true (counts own.id) factor fit in omega (arith, e)
+  few-lanes own None fit stray = absurd (omega (arith, stray))
+  few-lanes own (Some factor) fit stray = let e = eqb-true (counts own.id) factor fit in omega (arith, e)
 
   paid-one : (own : Loop) → flaw strided counts start own ≡ 0 → is_stray own ≡ 0 → is-void own ≡ 0 → Paid counts own
   paid-one own fine stray solid = record {
     some = one-copy (is_marked marks.Unrolled own) own.inner_of solid;
     most = λ e.
-        let few = few-rounds own own.inner_of (fine-by (nat_le 1 (strided own.id)) (fits counts own own.inner_of) (has_variable own.variable start) fine)
+        let few = few-lanes own own.inner_of (fine-by (nat_le 1 (strided own.id)) (fits counts own own.inner_of) (has_variable own.variable start) fine)
         (sym (ap (λ (b : Bool). cond {A = ℕ} (b && not (is_some own.inner_of)) 1 0) e) ∙ stray) in
         let c : copies own ≡ factor_of own.inner_of = ap (λ (b : Bool). if b then factor_of own.inner_of else 1) e in
         omega (arith, few, c);

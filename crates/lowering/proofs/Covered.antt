@@ -8,7 +8,7 @@ use Rattle.halide_pipeline.specs.WellFormed.{dimensions, IsWellFormed}
 use Rattle.halide_pipeline.specs.Pipelines.{Pipeline}
 use Rattle.schedule.specs.declared.plans.FuncPlan.{FuncPlan}
 use Rattle.schedule.specs.declared.schedules.Schedule.{Schedule}
-use Rattle.schedule.specs.declared.standings.Place.{Place}
+use Rattle.schedule.specs.declared.placements.ComputeLevel.{ComputeLevel}
 use Rattle.schedule.specs.Accepted.{IsAccepted}
 use Rattle.schedule_loops.specs.declared.extents.Extents.{Extents}
 use Rattle.schedule_loops.specs.Stages.{IsVisitOf, first_loops, has_variable, is_slice_of, extent_in}
@@ -46,7 +46,7 @@ one_without func = by_second func.second_argument refl
 
 module _ (pipeline : Pipeline) (schedule : Schedule) (boxes : Boxes) (rules : IsWellFormed pipeline) (accepted : IsAccepted pipeline schedule)
     (is : inferred pipeline schedule ≡ Ok boxes)
-    (placed_at : Place) (place : ℕ) (func : Func) (plan : FuncPlan) (own : SourceBox) (here : IsComputed place placed_at) (at : IsComputedAt pipeline schedule
+    (placed_at : ComputeLevel) (place : ℕ) (func : Func) (plan : FuncPlan) (own : SourceBox) (here : IsComputed place placed_at) (at : IsComputedAt pipeline schedule
     boxes placed_at place func plan own) where
   abbrev extents : Extents
   extents = extents_of own

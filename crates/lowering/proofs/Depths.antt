@@ -7,7 +7,7 @@ use Rattle.schedule_lines.specs.declared.stages.Loop.{Loop}
 use Rattle.schedule_lines.specs.declared.stages.Stage.{Stage}
 use Rattle.schedule.specs.declared.plans.FuncPlan.{FuncPlan}
 use Rattle.schedule.specs.declared.schedules.Schedule.{Schedule}
-use Rattle.schedule.specs.declared.standings.LoopPlace.{LoopPlace}
+use Rattle.schedule.specs.declared.placements.LoopPlace.{LoopPlace}
 use Rattle.schedule_loops.specs.declared.extents.Extents.{Extents}
 use Rattle.schedule_loops.specs.Visits as loops
 use Rattle.schedule_loops.specs.Visits.{parallel}
@@ -124,8 +124,8 @@ module _ (pipeline : Pipeline) (schedule : Schedule) (boxes : Boxes) where
 
   stage_few : (place : ℕ) (func : Func) (plan : FuncPlan) (own : SourceBox) (number : ℕ) (phase : Phase)
       → lowered.IsStagePhase pipeline schedule boxes place func plan own number phase → TakesFew pipeline schedule phase
-  stage_few place func plan own _ _ (lowered.Pure phase tasks private_is bytes does touches few stores rounds in_runs) = few.0
-  stage_few place func plan own _ _ (lowered.Updating at update stage phase it tasks private_is bytes does touches few stores rounds) = few.0
+  stage_few place func plan own _ _ (lowered.Pure phase tasks private_is bytes does touches few stores loop_lanes in_runs) = few.0
+  stage_few place func plan own _ _ (lowered.Updating at update stage phase it tasks private_is bytes does touches few stores loop_lanes) = few.0
 
   stages_few : (place : ℕ) (func : Func) (plan : FuncPlan) (own : SourceBox) (others phases : List Phase) (number : ℕ)
       → lowered.ArePhasesOf pipeline schedule boxes place func plan own others number phases → Few others → Few phases

@@ -8,10 +8,10 @@ use Rattle.halide_pipeline.specs.declared.expressions.Variable.TheVariants as va
 use Rattle.halide_pipeline.specs.Pipelines.{Pipeline}
 use Rattle.schedule.specs.declared.plans.FuncPlan.{FuncPlan}
 use Rattle.schedule.specs.declared.schedules.Schedule.{Schedule}
-use Rattle.schedule.specs.declared.standings.Place.{Place}
-use Rattle.schedule.specs.declared.standings.LoopPlace.{LoopPlace}
-use Rattle.schedule.specs.declared.standings.Place.TheVariants as places
-use Rattle.schedule.specs.declared.standings.Standing.{Standing}
+use Rattle.schedule.specs.declared.placements.ComputeLevel.{ComputeLevel}
+use Rattle.schedule.specs.declared.placements.LoopPlace.{LoopPlace}
+use Rattle.schedule.specs.declared.placements.ComputeLevel.TheVariants as places
+use Rattle.schedule.specs.declared.placements.FuncPlacement.{FuncPlacement}
 use Rattle.schedule.specs.Accepted.{IsAccepted, IsPlan, IsLegal, IsProduced as HasConsumer}
 use Rattle.schedule.specs.Uses.{IsReached}
 use Rattle.schedule.proofs.Uses.{numbered_at}
@@ -34,7 +34,7 @@ use Rattle.bounds.specs.Stages.{IsComputedAt}
 -- ---- where it is computed
 
 -- a Func at a loop stands before its consumer
-pub produced_before : (pipeline : Pipeline) (schedule : Schedule) → IsAccepted pipeline schedule → (place : ℕ) (own : Standing)
+pub produced_before : (pipeline : Pipeline) (schedule : Schedule) → IsAccepted pipeline schedule → (place : ℕ) (own : FuncPlacement)
     → IsReached schedule.standings place own
     → (at : LoopPlace) → own.place ≡ places.At at → place < at.func
 produced_before pipeline schedule accepted place own there at placed =
@@ -61,9 +61,9 @@ second_few a b most some few = let m : 1 * b ≤ a * b = mul-le-mul some (omega 
 
 module _ (pipeline : Pipeline) (schedule : Schedule) (boxes : Boxes) (place : ℕ) (func : Func) (plan : FuncPlan) (own : SourceBox)
     (accepted : IsAccepted pipeline schedule) (is : inferred pipeline schedule ≡ Ok boxes)
-    (placed : Place) (here : IsComputed place placed) (at : IsComputedAt pipeline schedule boxes placed place func plan own) where
+    (placed : ComputeLevel) (here : IsComputed place placed) (at : IsComputedAt pipeline schedule boxes placed place func plan own) where
   computed : IsComputed place at.standing.place
-  computed = subst (λ (p : Place). IsComputed place p) (sym at.placed_is) here
+  computed = subst (λ (p : ComputeLevel). IsComputed place p) (sym at.placed_is) here
 
   produced : IsProduced (consumer_in schedule boxes.funcs at.standing.place) own
   produced = boxes_are_produced pipeline schedule boxes is place at.standing at.there.standing at.there.reached computed own at.box_is
@@ -72,7 +72,7 @@ module _ (pipeline : Pipeline) (schedule : Schedule) (boxes : Boxes) (place : �
   is_box = produced.box
 
   pub lasts_are : own.lasts ≡ lasts_of (consumer_in schedule boxes.funcs placed)
-  lasts_are = produced.lasts ∙ ap (λ (p : Place). lasts_of (consumer_in schedule boxes.funcs p)) at.placed_is
+  lasts_are = produced.lasts ∙ ap (λ (p : ComputeLevel). lasts_of (consumer_in schedule boxes.funcs p)) at.placed_is
 
   plan_so : IsPlan func plan
   plan_so = pair_at IsPlan pipeline.funcs schedule.funcs place func plan accepted.plans at.func_is at.plan_is

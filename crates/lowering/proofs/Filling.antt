@@ -13,8 +13,8 @@ use Rattle.halide_pipeline.specs.Points.{Point}
 use Rattle.schedule_lines.specs.declared.stages.LoopId.TheVariants as ids
 use Rattle.schedule.specs.declared.plans.FuncPlan.{FuncPlan}
 use Rattle.schedule.specs.declared.schedules.Schedule.{Schedule}
-use Rattle.schedule.specs.declared.standings.LoopPlace.{LoopPlace}
-use Rattle.schedule.specs.declared.standings.Place.TheVariants as places
+use Rattle.schedule.specs.declared.placements.LoopPlace.{LoopPlace}
+use Rattle.schedule.specs.declared.placements.ComputeLevel.TheVariants as places
 use Rattle.schedule.specs.Accepted.{IsAccepted}
 use Rattle.schedule_loops.specs.declared.extents.Extents.{Extents}
 use Rattle.schedule_loops.specs.Visits as loops
@@ -23,7 +23,7 @@ use Rattle.schedule_loops.specs.Stages.{IsStageOf, KeepsRules, IsVisitOf}
 use Rattle.schedule_loops.specs.Visits.{Visit, zeros, visit_of, visits, is_slice}
 use Rattle.schedule_loops.proofs.Covering.{visited}
 use Rattle.schedule_loops.proofs.Slices.{visits_within}
-use Rattle.schedule_loops.proofs.TurnsFound.{of_all}
+use Rattle.schedule_loops.proofs.IterationsFound.{of_all}
 use Rattle.schedule_loops.proofs.Wholes.{visits_of_wholes}
 use Rattle.bounds_ranges.specs.Laws.{Below, AnswerWords}
 use Rattle.bounds.specs.declared.boxes.SourceBox.{SourceBox}
@@ -37,7 +37,7 @@ use Rattle.loop_ir.specs.Counters.{Values}
 use Rattle.loop_ir.specs.Running.{run}
 use Rattle.loop_ir.specs.Soundness.{is_sound}
 use Rattle.lowering_nests.specs.Nests.{loops_of, put_loops, all, AreSmall, Repeats}
-use Rattle.lowering.specs.Corners.{turns_for, turns_at}
+use Rattle.lowering.specs.Corners.{iterations_for, iterations_at}
 use Rattle.lowering.specs.Consuming.{consuming, Keeps, Leaves, IsAnswered, DoesNest, MayTouch, IsSoundNest}
 use Rattle.lowering.specs.Planes.{box_points}
 use Rattle.lowering.specs.PurePhases.{IsStoreOf}
@@ -50,21 +50,21 @@ use Rattle.lowering.proofs.Writing as writing
 
 -- ---- the loops of a consumer, and those of others
 
-pub loops_consuming : (consumer : ℕ) (turned : loops.Values) → loops_of consumer (consuming consumer turned) ≡ turned
-loops_consuming consumer turned = fun_ext (λ id. ap (λ (b : Bool). cond b (turned id) 0) (eq-eqb consumer consumer refl))
+pub loops_consuming : (consumer : ℕ) (in_task : loops.Values) → loops_of consumer (consuming consumer in_task) ≡ in_task
+loops_consuming consumer in_task = fun_ext (λ id. ap (λ (b : Bool). cond b (in_task id) 0) (eq-eqb consumer consumer refl))
 
-pub no_other_loops : (consumer other : ℕ) (turned : loops.Values) → (other ≡ consumer → ⊥) → loops_of other (consuming consumer turned) ≡ zeros
-no_other_loops consumer other turned d = fun_ext (λ id. ap (λ (b : Bool). cond b (turned id) 0) (ne_eqb other consumer d))
+pub no_other_loops : (consumer other : ℕ) (in_task : loops.Values) → (other ≡ consumer → ⊥) → loops_of other (consuming consumer in_task) ≡ zeros
+no_other_loops consumer other in_task d = fun_ext (λ id. ap (λ (b : Bool). cond b (in_task id) 0) (ne_eqb other consumer d))
 
 -- loops of one Func are put, and those of another stay
 pub loops_put_other : (own other : ℕ) (inner : loops.Values) (values : Values) → (other ≡ own → ⊥) → loops_of other (put_loops own inner values)
     ≡ loops_of other values
 loops_put_other own other inner values d = fun_ext (λ id. ap (λ (b : Bool). cond b (inner id) (values (record { func = other; id = id }))) (ne_eqb other own d))
 
-pub turns_by : (loop : LoopPlace) (plan : Option FuncPlan) (one other : Values) → loops_of loop.func one ≡ loops_of loop.func other
-    → turns_at loop plan one ≡ turns_at loop plan other
-turns_by loop None one other e = refl
-turns_by loop (Some plan) one other e = ap (values_in plan loop.inside) e
+pub iterations_by : (loop : LoopPlace) (plan : Option FuncPlan) (one other : Values) → loops_of loop.func one ≡ loops_of loop.func other
+    → iterations_at loop plan one ≡ iterations_at loop plan other
+iterations_by loop None one other e = refl
+iterations_by loop (Some plan) one other e = ap (values_in plan loop.inside) e
 
 module _ (pipeline : Pipeline) (schedule : Schedule) (boxes : Boxes) (rules : IsWellFormed pipeline) (accepted : IsAccepted pipeline schedule)
     (is : inferred pipeline schedule ≡ Ok boxes)
@@ -84,40 +84,40 @@ module _ (pipeline : Pipeline) (schedule : Schedule) (boxes : Boxes) (rules : Is
   stage_facts : IsStageOf func None plan.pure × KeepsRules plan.pure
   stage_facts = staged pipeline schedule boxes place func plan own accepted is (places.At loop) here at
 
-  abbrev turns : List loops.Values
-  turns = wholes extents plan.pure.splits plan.pure.loops zeros
+  abbrev iterations : List loops.Values
+  iterations = wholes extents plan.pure.splits plan.pure.loops zeros
 
-  visits_are : visits extents plan.pure ≡ map (visit_of extents) turns
+  visits_are : visits extents plan.pure ≡ map (visit_of extents) iterations
   visits_are = visits_of_wholes extents plan.pure.splits plan.pure.loops zeros
 
-  module _ (inputs : Planes) (turned : loops.Values) where
+  module _ (inputs : Planes) (in_task : loops.Values) where
     abbrev counters : Values
-    counters = consuming loop.func turned
+    counters = consuming loop.func in_task
 
     abbrev values : List ℕ
-    values = turns_for schedule.funcs (places.At loop) counters
+    values = iterations_for schedule.funcs (places.At loop) counters
 
-    turns_same : (inner : loops.Values) → turns_for schedule.funcs (places.At loop) (put_loops place inner counters) ≡ values
-    turns_same inner = turns_by loop (slice_get schedule.funcs loop.func) (put_loops place inner counters) counters (loops_put_other place loop.func inner
+    iterations_same : (inner : loops.Values) → iterations_for schedule.funcs (places.At loop) (put_loops place inner counters) ≡ values
+    iterations_same inner = iterations_by loop (slice_get schedule.funcs loop.func) (put_loops place inner counters) counters (loops_put_other place loop.func inner
         counters (λ e. omega (arith, e, here)))
 
-    module _ (below : Below values own.lasts) (funcs : Planes) (answered : IsAnswered pipeline schedule boxes loop.func place func own values inputs turned
+    module _ (below : Below values own.lasts) (funcs : Planes) (answered : IsAnswered pipeline schedule boxes loop.func place func own values inputs in_task
         funcs) where
       abbrev plane : Plane
       plane = writing.plane pipeline schedule boxes rules accepted is (places.At loop) place func plan own here at store store_of inputs values below counters
-          turns_same
+          iterations_same
 
       abbrev step : loops.Values → Planes → Planes
       step = writing.step pipeline schedule boxes rules accepted is (places.At loop) place func plan own here at store store_of inputs values below counters
-          turns_same
+          iterations_same
 
       abbrev x_of : loops.Values → ℕ
       x_of = writing.x_of pipeline schedule boxes rules accepted is (places.At loop) place func plan own here at store store_of inputs values below counters
-          turns_same
+          iterations_same
 
       abbrev y_of : loops.Values → ℕ
       y_of = writing.y_of pipeline schedule boxes rules accepted is (places.At loop) place func plan own here at store store_of inputs values below counters
-          turns_same
+          iterations_same
 
       abbrev Ready : Planes → Type 0
       Ready now = Keeps place funcs now
@@ -128,33 +128,33 @@ module _ (pipeline : Pipeline) (schedule : Schedule) (boxes : Boxes) (rules : Is
       writes : (inner : loops.Values) → IsVisitOf func None extents (visit_of extents inner) → Writes points place plane Ready stays x_of y_of step inner
       writes inner v =
           writing.writes pipeline schedule boxes rules accepted is (places.At loop) place func plan own here at store store_of inputs values below counters
-          turns_same inner v Ready stays
+          iterations_same inner v Ready stays
           (λ now ready. answered store_of.corners store_of.are_corners (put_loops place inner counters)
-          (loops_put_other place loop.func inner counters (λ e. omega (arith, e, here)) ∙ loops_consuming loop.func turned) now ready
+          (loops_put_other place loop.func inner counters (λ e. omega (arith, e, here)) ∙ loops_consuming loop.func in_task) now ready
           (writing.across pipeline schedule boxes rules accepted is (places.At loop) place func plan own here at store store_of inputs values below counters
-          turns_same inner)
+          iterations_same inner)
           (writing.down pipeline schedule boxes rules accepted is (places.At loop) place func plan own here at store store_of inputs values below counters
-          turns_same inner)
+          iterations_same inner)
           (writing.lies pipeline schedule boxes rules accepted is (places.At loop) place func plan own here at store store_of inputs values below counters
-          turns_same inner v))
+          iterations_same inner v))
 
-      all_write : AllByRecursion (Writes points place plane Ready stays x_of y_of step) turns
+      all_write : AllByRecursion (Writes points place plane Ready stays x_of y_of step) iterations
       all_write =
-          all_map (IsVisitOf func None extents) (Writes points place plane Ready stays x_of y_of step) (visit_of extents) writes turns
+          all_map (IsVisitOf func None extents) (Writes points place plane Ready stays x_of y_of step) (visit_of extents) writes iterations
           (subst (λ (l : List Visit). AllByRecursion (IsVisitOf func None extents) l) visits_are (visits_within func None extents plan.pure stage_facts.0))
 
-      painted : Paints points place plane Ready stays x_of y_of step turns funcs (all step turns funcs)
-      painted = paints points place plane Ready stays x_of y_of step turns funcs all_write (λ other x y d. refl)
+      painted : Paints points place plane Ready stays x_of y_of step iterations funcs (all step iterations funcs)
+      painted = paints points place plane Ready stays x_of y_of step iterations funcs all_write (λ other x y d. refl)
 
-      no_turns : loops_of place counters ≡ zeros
-      no_turns = no_other_loops loop.func place turned (λ e. omega (arith, e, here))
+      no_iterations : loops_of place counters ≡ zeros
+      no_iterations = no_other_loops loop.func place in_task (λ e. omega (arith, e, here))
 
       small : AreSmall (loops_of place counters)
-      small = subst AreSmall (sym no_turns) (λ id. omega arith)
+      small = subst AreSmall (sym no_iterations) (λ id. omega arith)
 
-      ran : run points inputs made counters funcs ≡ all step turns funcs
+      ran : run points inputs made counters funcs ≡ all step iterations funcs
       ran = repeats.runs points inputs counters funcs small ∙ ap (λ (t : loops.Values). all step (wholes extents plan.pure.splits plan.pure.loops t) funcs)
-          no_turns
+          no_iterations
 
       -- each point of the box is visited
       reached_by : (x y : ℕ) → x < extent own.x → y < extent own.y → (test : Bool) → list_any (is_slice x y) (visits extents plan.pure) ≡ test → test ≡ true
@@ -168,9 +168,9 @@ module _ (pipeline : Pipeline) (schedule : Schedule) (boxes : Boxes) (rules : Is
           (record { x = x; y = y; number = 0 }) contains in
           absurd (true≢false (sym (and_from (x == x) (y == y) (eq-eqb x x refl) (eq-eqb y y refl)) ∙ not_here))
 
-      is_reached : (x y : ℕ) → x < extent own.x → y < extent own.y → list_any (is_at points place plane Ready stays x_of y_of step x y) turns ≡ true
+      is_reached : (x y : ℕ) → x < extent own.x → y < extent own.y → list_any (is_at points place plane Ready stays x_of y_of step x y) iterations ≡ true
       is_reached x y lx ly =
-          sym (ap (list_any (is_slice x y)) visits_are ∙ any_map (is_slice x y) (visit_of extents) turns)
+          sym (ap (list_any (is_slice x y)) visits_are ∙ any_map (is_slice x y) (visit_of extents) iterations)
           ∙ reached_by x y lx ly (list_any (is_slice x y) (visits extents plan.pure)) refl
 
       leaves : Leaves place own values (stage place func inputs (pixels pipeline.funcs inputs place) 0) funcs (run points inputs made counters funcs)
@@ -180,22 +180,22 @@ module _ (pipeline : Pipeline) (schedule : Schedule) (boxes : Boxes) (rules : Is
       }
 
   pub fills : DoesNest pipeline schedule boxes loop place func own 0 made
-  fills inputs turned below funcs answered = leaves inputs turned below funcs answered
+  fills inputs in_task below funcs answered = leaves inputs in_task below funcs answered
 
   -- ---- what it touches
 
-  module _ (reads : Reads) (words : AnswerWords pipeline.inputs reads) (written : Points) (loaded : Point → Bool) (turned : loops.Values)
-      (below : Below (turns_for schedule.funcs (places.At loop) (consuming loop.func turned)) own.lasts)
-      (may : MayTouch pipeline schedule boxes loop.func place func own (turns_for schedule.funcs (places.At loop) (consuming loop.func turned)) reads written
-      loaded turned) where
+  module _ (reads : Reads) (words : AnswerWords pipeline.inputs reads) (written : Points) (loaded : Point → Bool) (in_task : loops.Values)
+      (below : Below (iterations_for schedule.funcs (places.At loop) (consuming loop.func in_task)) own.lasts)
+      (may : MayTouch pipeline schedule boxes loop.func place func own (iterations_for schedule.funcs (places.At loop) (consuming loop.func in_task)) reads written
+      loaded in_task) where
     dark : Planes
     dark other x y = 0
 
     abbrev now : Values
-    now = consuming loop.func turned
+    now = consuming loop.func in_task
 
     abbrev values_now : List ℕ
-    values_now = turns_for schedule.funcs (places.At loop) now
+    values_now = iterations_for schedule.funcs (places.At loop) now
 
     abbrev IsSoundAt : loops.Values → Type 0
     IsSoundAt inner = is_sound reads written loaded store (put_loops place inner now) ≡ true
@@ -206,28 +206,28 @@ module _ (pipeline : Pipeline) (schedule : Schedule) (boxes : Boxes) (rules : Is
         let y = inner (ids.Whole variables.SecondArgument) in
         let p = parts_of pipeline schedule boxes rules accepted is (places.At loop) place func plan own here at (visit_of extents inner) v in
         writing.sound pipeline schedule boxes rules accepted is (places.At loop) place func plan own here at store store_of dark values_now below now
-        (turns_same dark turned) inner v reads written loaded
+        (iterations_same dark in_task) inner v reads written loaded
         (may.writes x y (and_from (nat_lt x (extent own.x)) (nat_lt y (extent own.y)) (lt-ltb x (extent own.x) p.0) (lt-ltb y (extent own.y) p.1)))
         (may.pure store_of.corners store_of.are_corners (put_loops place inner now) (loops_put_other place loop.func inner now (λ e. omega (arith, e, here))
-        ∙ loops_consuming loop.func turned)
+        ∙ loops_consuming loop.func in_task)
         (writing.across pipeline schedule boxes rules accepted is (places.At loop) place func plan own here at store store_of dark values_now below now
-        (turns_same dark turned) inner)
+        (iterations_same dark in_task) inner)
         (writing.down pipeline schedule boxes rules accepted is (places.At loop) place func plan own here at store store_of dark values_now below now
-        (turns_same dark turned) inner)
+        (iterations_same dark in_task) inner)
         (writing.lies pipeline schedule boxes rules accepted is (places.At loop) place func plan own here at store store_of dark values_now below now
-        (turns_same dark turned) inner v))
+        (iterations_same dark in_task) inner v))
 
-    no_turns_now : loops_of place now ≡ zeros
-    no_turns_now = no_other_loops loop.func place turned (λ e. omega (arith, e, here))
+    no_iterations_now : loops_of place now ≡ zeros
+    no_iterations_now = no_other_loops loop.func place in_task (λ e. omega (arith, e, here))
 
     pub sound_nest : is_sound reads written loaded made now ≡ true
     sound_nest =
-        repeats.sound reads written loaded now (subst AreSmall (sym no_turns_now) (λ id. omega arith))
+        repeats.sound reads written loaded now (subst AreSmall (sym no_iterations_now) (λ id. omega arith))
         ∙ ap (λ (t : loops.Values). list_all (λ inner. is_sound reads written loaded store (put_loops place inner now)) (wholes extents plan.pure.splits
-        plan.pure.loops t)) no_turns_now
-        ∙ all_pass (λ inner. is_sound reads written loaded store (put_loops place inner now)) turns
-        (all_map (IsVisitOf func None extents) IsSoundAt (visit_of extents) step_sound turns
+        plan.pure.loops t)) no_iterations_now
+        ∙ all_pass (λ inner. is_sound reads written loaded store (put_loops place inner now)) iterations
+        (all_map (IsVisitOf func None extents) IsSoundAt (visit_of extents) step_sound iterations
         (subst (λ (l : List Visit). AllByRecursion (IsVisitOf func None extents) l) visits_are (visits_within func None extents plan.pure stage_facts.0)))
 
   pub touches : IsSoundNest pipeline schedule boxes loop place func own made
-  touches reads words written loaded turned below may = sound_nest reads words written loaded turned below may
+  touches reads words written loaded in_task below may = sound_nest reads words written loaded in_task below may

@@ -12,7 +12,7 @@ pub mod Lists
 pub mod Lowered
 pub mod Loads
 pub mod Marks
-pub mod LoopTurns
+pub mod LoopIterations
 pub mod Offsets
 pub mod Painting
 pub mod Parts
@@ -46,11 +46,11 @@ pub mod UpdateTouches
 pub mod UpdateSlices
 pub mod UpdateNests
 pub mod VectorLoops
-pub mod UpdateRounds
-pub mod RoundsApart
-pub mod PureRounds
-pub mod TaskRounds
-pub mod ConsumerRounds
+pub mod UpdateLanes
+pub mod LanesApart
+pub mod PureLanes
+pub mod TaskLanes
+pub mod ConsumerLanes
 pub mod RunConsumers
 pub mod RunLists
 pub mod Copies

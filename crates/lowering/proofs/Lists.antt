@@ -74,7 +74,7 @@ before_last {A} xs y =
     let n : length (xs ++ y ∷ []) - 1 ≡ length xs = omega (arith, length-append xs (y ∷ [])) in
     ap (λ (k : ℕ). take k (xs ++ y ∷ [])) n ∙ all_taken xs y
 
--- the last one, behind those before it
+-- the last one, after those before it
 last_by : {A : Type 0} (xs : List A) (x : A) (n : ℕ) → length xs ≡ suc n → x ≡ get_or xs n x → take n xs ++ x ∷ [] ≡ xs
 last_by [] x n e is = absurd (omega (arith, e))
 last_by {A} (y ∷ []) x zero e is = ap (λ (z : A). z ∷ []) is

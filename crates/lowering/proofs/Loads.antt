@@ -1,6 +1,6 @@
 -- What definitions load of the buffers of other sources: points that are there.
 --
--- Whatever reads are answered by, as long as these are words: where points are read hangs on these answers.
+-- Whatever reads are answered by, as long as these are words: where points are read depends on these answers.
 use Rattle.std.proofs.Common.{◌≡◌, ℕ, suc, ◌^◌, ◌<◌, Bool, true, false, List, [], ◌∷◌, Option, Some, None, refl, sym, ap, subst, ◌∙◌, arith, inl, inr}
 use Rattle.std.proofs.Common.{true≢false}
 use Rattle.std.specs.Prelude.{slice_get, nat_lt, Ok}
@@ -19,10 +19,10 @@ use Rattle.halide_pipeline.specs.Points.{Point, Hold}
 use Rattle.schedule_lines.specs.declared.stages.LoopId.{LoopId}
 use Rattle.schedule.specs.declared.plans.FuncPlan.{FuncPlan}
 use Rattle.schedule.specs.declared.schedules.Schedule.{Schedule}
-use Rattle.schedule.specs.declared.standings.LoopPlace.{LoopPlace}
-use Rattle.schedule.specs.declared.standings.Place.{Place}
-use Rattle.schedule.specs.declared.standings.Place.TheVariants as places
-use Rattle.schedule.specs.declared.standings.Standing.{Standing}
+use Rattle.schedule.specs.declared.placements.LoopPlace.{LoopPlace}
+use Rattle.schedule.specs.declared.placements.ComputeLevel.{ComputeLevel}
+use Rattle.schedule.specs.declared.placements.ComputeLevel.TheVariants as places
+use Rattle.schedule.specs.declared.placements.FuncPlacement.{FuncPlacement}
 use Rattle.schedule.specs.Accepted.{IsAccepted, IsPlan, IsLegal}
 use Rattle.schedule.specs.Legal.{is_inlined, is_nowhere}
 use Rattle.schedule.specs.Uses.{IsReached}
@@ -54,7 +54,7 @@ use Rattle.loop_ir.specs.Counters.{Values}
 use Rattle.lowering_nests.specs.Nests.{loops_of}
 use Rattle.lowering_expressions.specs.declared.calls.Corner.{Corner}
 use Rattle.lowering_expressions.specs.Lowering.{placed, answered_at, from_corner, corner_of, place as place_in}
-use Rattle.lowering.specs.Corners.{first_of, turns_for, turns_at, AreCorners}
+use Rattle.lowering.specs.Corners.{first_of, iterations_for, iterations_at, AreCorners}
 use Rattle.lowering.specs.Planes.{box_points}
 use Rattle.bounds.specs.Stages.{IsComputedAt, IsAtRoot}
 use Rattle.lowering.proofs.Facts.{is_box, produced_before}
@@ -89,22 +89,22 @@ module _ (pipeline : Pipeline) (corners : List Corner) (counters : Values) (read
 
 module _ (pipeline : Pipeline) (schedule : Schedule) (boxes : Boxes) (rules : IsWellFormed pipeline) (accepted : IsAccepted pipeline schedule)
     (is : inferred pipeline schedule ≡ Ok boxes)
-    (placed_at : Place) (reader : ℕ) (func : Func) (plan : FuncPlan) (own : SourceBox) (here : IsComputed reader placed_at) (at : IsComputedAt pipeline schedule
+    (placed_at : ComputeLevel) (reader : ℕ) (func : Func) (plan : FuncPlan) (own : SourceBox) (here : IsComputed reader placed_at) (at : IsComputedAt pipeline schedule
     boxes placed_at reader func plan own)
     (consumer : ℕ) (consumer_func : Func) (consumer_plan : FuncPlan) (consuming : SourceBox) (consumer_at : IsAtRoot pipeline schedule boxes consumer
-    consumer_func consumer_plan consuming) (turned : loops.Values)
+    consumer_func consumer_plan consuming) (in_task : loops.Values)
     (of_consumer : (k : ℕ) (w : IsReadWithin schedule reader k) (loop : LoopPlace) → w.own.place ≡ places.At loop → loop.func ≡ consumer)
-    (counters : Values) (counters_are : (id : LoopId) → values_in consumer_plan id (loops_of consumer counters) ≡ values_in consumer_plan id turned)
+    (counters : Values) (counters_are : (id : LoopId) → values_in consumer_plan id (loops_of consumer counters) ≡ values_in consumer_plan id in_task)
     (corners : List Corner) (are : AreCorners schedule.funcs boxes.funcs schedule.standings corners)
     (reads : Reads) (words : AnswerWords pipeline.inputs reads) (loaded : Point → Bool)
     (inputs_load : (k x y : ℕ) → is_within (slice_get pipeline.inputs k) x y ≡ true → loaded (record { source = sources.Input k; x = x; y = y }) ≡ true)
-    (roots_load : (k : ℕ) (standing : Standing) → k < reader → IsReached schedule.standings k standing → standing.place ≡ places.Root
+    (roots_load : (k : ℕ) (standing : FuncPlacement) → k < reader → IsReached schedule.standings k standing → standing.place ≡ places.Root
     → (x y : ℕ) → box_points boxes.funcs k x y ≡ true → loaded (record { source = sources.Func k; x = x; y = y }) ≡ true)
     (produced_load : (k : ℕ) (w : IsReadWithin schedule reader k) (loop : LoopPlace) → w.own.place ≡ places.At loop
     → (x y : ℕ) → box_points boxes.funcs k x y ≡ true → loaded (record { source = sources.Func k; x = x; y = y }) ≡ true)
     (values : List ℕ) (below : Below values own.lasts) (x y : ℕ) (lies : LiesIn values own x y)
     (may_be : (k : ℕ) (w : IsReadWithin schedule reader k) (loop : LoopPlace) → w.own.place ≡ places.At loop
-    → MayBeArguments consumer_func consumer_plan consuming loop.inside turned placed_at own x y) where
+    → MayBeArguments consumer_func consumer_plan consuming loop.inside in_task placed_at own x y) where
   abbrev found : Reads
   found = placed corners counters reads
 
@@ -120,9 +120,9 @@ module _ (pipeline : Pipeline) (schedule : Schedule) (boxes : Boxes) (rules : Is
   -- ---- which Funcs are read
 
   reader_computed : IsComputed reader at.standing.place
-  reader_computed = subst (λ (p : Place). IsComputed reader p) (sym at.placed_is) here
+  reader_computed = subst (λ (p : ComputeLevel). IsComputed reader p) (sym at.placed_is) here
 
-  somewhere : (k : ℕ) → k < reader → (standing : Standing) → IsReached schedule.standings k standing → is_nowhere standing.place ≡ false
+  somewhere : (k : ℕ) → k < reader → (standing : FuncPlacement) → IsReached schedule.standings k standing → is_nowhere standing.place ≡ false
   somewhere k before standing there =
       let f = some_before pipeline.funcs reader k func at.func_is before in
       let p = pair_there IsPlan pipeline.funcs schedule.funcs k f.value accepted.plans f.is in
@@ -130,39 +130,39 @@ module _ (pipeline : Pipeline) (schedule : Schedule) (boxes : Boxes) (rules : Is
 
   -- ---- a point that is read
 
-  loads_in : (k a b : ℕ) (box : SourceBox) (turns : List ℕ) (standing : Standing) → IsReached schedule.standings k standing → IsComputed k standing.place
+  loads_in : (k a b : ℕ) (box : SourceBox) (iterations : List ℕ) (standing : FuncPlacement) → IsReached schedule.standings k standing → IsComputed k standing.place
       → slice_get boxes.funcs k ≡ Some (Some box)
-      → turns_for schedule.funcs standing.place counters ≡ turns → LiesIn turns box a b → ((i j : ℕ) → box_points boxes.funcs k i j ≡ true
+      → iterations_for schedule.funcs standing.place counters ≡ iterations → LiesIn iterations box a b → ((i j : ℕ) → box_points boxes.funcs k i j ≡ true
       → loaded (point_at (sources.Func k) i j) ≡ true)
       → IsLoaded (point_at (sources.Func k) a b)
-  loads_in k a b box turns standing there computed box_is turns_are inside all_load =
+  loads_in k a b box iterations standing there computed box_is iterations_are inside all_load =
       let c = corner_at schedule.funcs boxes.funcs schedule.standings corners k (Some box) standing are box_is there.standing in
-      let i = word.subtract a (first_of box.x turns) in
-      let j = word.subtract b (first_of box.y turns) in
+      let i = word.subtract a (first_of box.x iterations) in
+      let j = word.subtract b (first_of box.y iterations) in
       let o = (boxes_are_produced pipeline schedule boxes is k standing there.standing there.reached computed box box_is).box in
-      let x_is = (c.is counters).0 ∙ ap (first_of box.x) turns_are in
-      let y_is = (c.is counters).1 ∙ ap (first_of box.y) turns_are in
+      let x_is = (c.is counters).0 ∙ ap (first_of box.x) iterations_are in
+      let y_is = (c.is counters).1 ∙ ap (first_of box.y) iterations_are in
       let lies_at : place_in corners counters (point_at (sources.Func k) a b) ≡ point_at (sources.Func k) i j = rw (c.there, x_is, y_is) refl in
       let there_so : box_points boxes.funcs k i j ≡ true =
-      rw box_is (and_from (nat_lt i (extent box.x)) (nat_lt j (extent box.y)) (lt-ltb i (extent box.x) (offset_within box.lasts turns box.x a inside.first
-      o.x.ordered)) (lt-ltb j (extent box.y) (offset_within box.lasts turns box.y b inside.second o.y.ordered))) in
+      rw box_is (and_from (nat_lt i (extent box.x)) (nat_lt j (extent box.y)) (lt-ltb i (extent box.x) (offset_within box.lasts iterations box.x a inside.first
+      o.x.ordered)) (lt-ltb j (extent box.y) (offset_within box.lasts iterations box.y b inside.second o.y.ordered))) in
       ap loaded lies_at ∙ all_load i j there_so
 
-  turns_are : (p : Place) (loop : LoopPlace) → p ≡ places.At loop → loop.func ≡ consumer
-      → turns_for schedule.funcs p counters ≡ values_in consumer_plan loop.inside turned
-  turns_are p loop e same =
-      ap (λ (q : Place). turns_for schedule.funcs q counters) e
-      ∙ ap (λ (q : Option FuncPlan). turns_at loop q counters) (ap (λ (n : ℕ). slice_get schedule.funcs n) same ∙ consumer_at.plan_is)
+  iterations_are : (p : ComputeLevel) (loop : LoopPlace) → p ≡ places.At loop → loop.func ≡ consumer
+      → iterations_for schedule.funcs p counters ≡ values_in consumer_plan loop.inside in_task
+  iterations_are p loop e same =
+      ap (λ (q : ComputeLevel). iterations_for schedule.funcs q counters) e
+      ∙ ap (λ (q : Option FuncPlan). iterations_at loop q counters) (ap (λ (n : ℕ). slice_get schedule.funcs n) same ∙ consumer_at.plan_is)
       ∙ ap (λ (n : ℕ). values_in consumer_plan loop.inside (loops_of n counters)) same
       ∙ counters_are loop.inside
 
   -- what is known of points that are read
   record AreRead (count : ℕ) (list : List Point) : Type 0 where
     inputs : (k : ℕ) → AreBoxed no_loops (sources.Input k) (slice_get boxes.inputs k) list
-    roots : (k : ℕ) (standing : Standing) → k < reader → IsReached schedule.standings k standing → standing.place ≡ places.Root
+    roots : (k : ℕ) (standing : FuncPlacement) → k < reader → IsReached schedule.standings k standing → standing.place ≡ places.Root
         → AreBoxed no_loops (sources.Func k) (slice_get boxes.funcs k) list
     produced : (k : ℕ) (w : IsReadWithin schedule reader k) (loop : LoopPlace) → w.own.place ≡ places.At loop
-        → AreBoxed (values_in consumer_plan loop.inside turned) (sources.Func k) (slice_get boxes.funcs k) list
+        → AreBoxed (values_in consumer_plan loop.inside in_task) (sources.Func k) (slice_get boxes.funcs k) list
     through : AreReadThrough pipeline schedule.standings reader count list
 
   func_loads : (k a b count : ℕ) (list : List Point) → AreRead count (point_at (sources.Func k) a b ∷ list) → flagged (flags_of schedule.standings) k ≡ false
@@ -172,22 +172,22 @@ module _ (pipeline : Pipeline) (schedule : Schedule) (boxes : Boxes) (rules : Is
       let w = readers_stand_within pipeline schedule accepted reader at.standing at.there reader_computed k through in
       by_place w w.own.place refl
     where
-      by_box : (w : IsReadWithin schedule reader k) → IsComputed k w.own.place → (turns : List ℕ) → turns_for schedule.funcs w.own.place counters ≡ turns
+      by_box : (w : IsReadWithin schedule reader k) → IsComputed k w.own.place → (iterations : List ℕ) → iterations_for schedule.funcs w.own.place counters ≡ iterations
           → ((i j : ℕ) → box_points boxes.funcs k i j ≡ true → loaded (point_at (sources.Func k) i j) ≡ true)
-          → (answer : Option (Option SourceBox)) → slice_get boxes.funcs k ≡ answer → IsSome answer → IsBoxed turns answer a b
+          → (answer : Option (Option SourceBox)) → slice_get boxes.funcs k ≡ answer → IsSome answer → IsBoxed iterations answer a b
           → IsLoaded (point_at (sources.Func k) a b)
-      by_box w computed turns so all_load None e some inside = let wrong = some.is in absurd cc
-      by_box w computed turns so all_load (Some None) e some inside = absurd inside
-      by_box w computed turns so all_load (Some (Some box)) e some inside = loads_in k a b box turns w.own w.there computed e so inside all_load
+      by_box w computed iterations so all_load None e some inside = let wrong = some.is in absurd cc
+      by_box w computed iterations so all_load (Some None) e some inside = absurd inside
+      by_box w computed iterations so all_load (Some (Some box)) e some inside = loads_in k a b box iterations w.own w.there computed e so inside all_load
 
-      by_place : (w : IsReadWithin schedule reader k) (p : Place) → w.own.place ≡ p → IsLoaded (point_at (sources.Func k) a b)
+      by_place : (w : IsReadWithin schedule reader k) (p : ComputeLevel) → w.own.place ≡ p → IsLoaded (point_at (sources.Func k) a b)
       by_place w places.Root e =
-          by_box w (subst (λ (p : Place). IsComputed k p) (sym e) tt) no_loops (ap (λ (p : Place). turns_for schedule.funcs p counters) e)
+          by_box w (subst (λ (p : ComputeLevel). IsComputed k p) (sym e) tt) no_loops (ap (λ (p : ComputeLevel). iterations_for schedule.funcs p counters) e)
           (roots_load k w.own w.before w.there e)
           (slice_get boxes.funcs k) refl (some_before boxes.funcs reader k (Some own) at.box_is w.before) ((r.roots k w.own w.before w.there e).0 (same_self k))
       by_place w (places.At loop) e =
-          by_box w (subst (λ (p : Place). IsComputed k p) (sym e) (produced_before pipeline schedule accepted k w.own w.there loop e)) (values_in consumer_plan
-          loop.inside turned) (turns_are w.own.place loop e (of_consumer k w loop e)) (produced_load k w loop e)
+          by_box w (subst (λ (p : ComputeLevel). IsComputed k p) (sym e) (produced_before pipeline schedule accepted k w.own w.there loop e)) (values_in consumer_plan
+          loop.inside in_task) (iterations_are w.own.place loop e (of_consumer k w loop e)) (produced_load k w loop e)
           (slice_get boxes.funcs k) refl (some_before boxes.funcs reader k (Some own) at.box_is w.before) ((r.produced k w loop e).0 (same_self k))
       by_place w places.Inlined e = absurd (true≢false (sym (flag_is schedule.standings k w.own w.there.standing ∙ ap is_inlined e) ∙ plain))
       by_place w places.Nowhere e = absurd (true≢false (sym (ap is_nowhere e) ∙ somewhere k w.before w.own w.there))
@@ -231,15 +231,15 @@ module _ (pipeline : Pipeline) (schedule : Schedule) (boxes : Boxes) (rules : Is
     inputs = λ k. pure_reads_of_inputs_lie pipeline schedule boxes rules is reader func own at.func_is at.box_is found answers values below x y lies k;
     roots = λ k standing before there root.
         pure_reads_of_funcs_lie pipeline schedule boxes rules is reader func own at.func_is at.box_is k standing before there.standing there.reached
-        (subst (λ (p : Place). IsComputed k p) (sym root) tt)
-        None (ap (λ (p : Place). consumer_in schedule boxes.funcs p) root) own refl found answers values below no_below x y lies;
+        (subst (λ (p : ComputeLevel). IsComputed k p) (sym root) tt)
+        None (ap (λ (p : ComputeLevel). consumer_in schedule boxes.funcs p) root) own refl found answers values below no_below x y lies;
     produced = λ k w loop e.
         let same = of_consumer k w loop e in
         pure_reads_in_loops_lie pipeline schedule boxes rules accepted is k w.own loop w.there.standing w.there.reached e consumer_func consumer_plan consuming
         (ap (λ (n : ℕ). slice_get pipeline.funcs n) same ∙ consumer_at.func_is) (ap (λ (n : ℕ). slice_get schedule.funcs n) same
         ∙ consumer_at.plan_is) (ap (λ (n : ℕ). slice_get boxes.funcs n) same ∙ consumer_at.box_is)
-        reader func at.standing own w.before at.func_is at.there.standing at.there.reached at.box_is found answers turned x y
-        (subst (λ (p : Place). MayBeArguments consumer_func consumer_plan consuming loop.inside turned p own x y) (sym at.placed_is) (may_be k w loop e));
+        reader func at.standing own w.before at.func_is at.there.standing at.there.reached at.box_is found answers in_task x y
+        (subst (λ (p : ComputeLevel). MayBeArguments consumer_func consumer_plan consuming loop.inside in_task p own x y) (sym at.placed_is) (may_be k w loop e));
     through = pure_points_are_read_through pipeline schedule rules reader func at.func_is found x y;
   }
 
@@ -255,7 +255,7 @@ module _ (pipeline : Pipeline) (schedule : Schedule) (boxes : Boxes) (rules : Is
       near : IsNear x × IsNear y
       near = points_are_near own (is_box pipeline schedule boxes reader func plan own accepted is placed_at here at) values below x y lies
 
-      not_inlined : (p : Place) → IsComputed reader p → is_inlined p ≡ false
+      not_inlined : (p : ComputeLevel) → IsComputed reader p → is_inlined p ≡ false
       not_inlined places.Root c = refl
       not_inlined (places.At loop) c = refl
       not_inlined places.Inlined c = absurd c
@@ -271,7 +271,7 @@ module _ (pipeline : Pipeline) (schedule : Schedule) (boxes : Boxes) (rules : Is
         roots = λ k standing before there root.
             update_reads_of_funcs_lie pipeline schedule boxes rules is reader func own at.func_is at.box_is number_at update update_is k standing before
             there.standing there.reached
-            (subst (λ (p : Place). IsComputed k p) (sym root) tt) None (ap (λ (p : Place). consumer_in schedule boxes.funcs p) root) own refl found answers
+            (subst (λ (p : ComputeLevel). IsComputed k p) (sym root) tt) None (ap (λ (p : ComputeLevel). consumer_in schedule boxes.funcs p) root) own refl found answers
             values
             below no_below x y lies near.0 near.1 number few;
         produced = λ k w loop e.
@@ -280,8 +280,8 @@ module _ (pipeline : Pipeline) (schedule : Schedule) (boxes : Boxes) (rules : Is
             consuming
             (ap (λ (n : ℕ). slice_get pipeline.funcs n) same ∙ consumer_at.func_is) (ap (λ (n : ℕ). slice_get schedule.funcs n) same
             ∙ consumer_at.plan_is) (ap (λ (n : ℕ). slice_get boxes.funcs n) same ∙ consumer_at.box_is)
-            reader func at.standing own w.before at.func_is at.there.standing at.there.reached at.box_is number_at update update_is found answers turned x y
-            (subst (λ (p : Place). MayBeArguments consumer_func consumer_plan consuming loop.inside turned p own x y) (sym at.placed_is) (may_be k w loop e))
+            reader func at.standing own w.before at.func_is at.there.standing at.there.reached at.box_is number_at update update_is found answers in_task x y
+            (subst (λ (p : ComputeLevel). MayBeArguments consumer_func consumer_plan consuming loop.inside in_task p own x y) (sym at.placed_is) (may_be k w loop e))
             near.0 near.1 number few;
         through = update_points_are_read_through pipeline schedule rules reader func at.func_is unflagged number_at update update_is found number x y;
       }

@@ -11,13 +11,13 @@ use Rattle.halide_pipeline.specs.Words as word
 use Rattle.halide_pipeline.specs.Pixel.{Planes, reads_of, func_plane, stage, pixels}
 use Rattle.schedule.specs.declared.plans.FuncPlan.{FuncPlan}
 use Rattle.schedule.specs.declared.schedules.Schedule.{Schedule}
-use Rattle.schedule.specs.declared.standings.Place.{Place}
-use Rattle.schedule.specs.declared.standings.Place.TheVariants as places
-use Rattle.schedule.specs.declared.standings.Standing.{Standing}
+use Rattle.schedule.specs.declared.placements.ComputeLevel.{ComputeLevel}
+use Rattle.schedule.specs.declared.placements.ComputeLevel.TheVariants as places
+use Rattle.schedule.specs.declared.placements.FuncPlacement.{FuncPlacement}
 use Rattle.schedule.specs.Accepted.{IsAccepted, IsPlan, IsUpdateStage}
 use Rattle.schedule.specs.Legal.{is_inlined, is_root}
-use Rattle.schedule.specs.Standing as standing
-use Rattle.schedule.specs.Standing.{standings_from}
+use Rattle.schedule.specs.Placements as standing
+use Rattle.schedule.specs.Placements.{standings_from}
 use Rattle.schedule.proofs.Uses.{IsSome, output_standing, standing_some}
 use Rattle.schedule_loops.proofs.AcceptedStages.{pair_at}
 use Rattle.bounds_ranges.specs.Laws.{Lies, AnswerWords}
@@ -48,7 +48,7 @@ use Rattle.lowering.specs.Updates.{owns_update}
 use Rattle.lowering.proofs.InOrder.{phases_in_order}
 use Rattle.lowering.proofs.RootFacts.{offset_within, offset_back}
 
--- ---- one more phase behind others
+-- ---- one more phase after others
 
 module _ (points : Points) (is_private : ℕ → Bool) where
   same_behind : (phases : List Tasks) (start between result : Planes) → DoPhases points is_private phases start between
@@ -95,11 +95,11 @@ module _ (pipeline : Pipeline) (schedule : Schedule) (boxes : Boxes) (accepted :
 
   goes : (place : ℕ) (func : Func) (plan : FuncPlan) (own : SourceBox) (number : ℕ) (phase : Phase)
       → IsStagePhase pipeline schedule boxes place func plan own number phase → Goes place func number phase
-  goes place func plan own _ _ (Pure phase tasks private_is bytes does touches few stores rounds in_runs) = record {
+  goes place func plan own _ _ (Pure phase tasks private_is bytes does touches few stores loop_lanes in_runs) = record {
     owned = owns (extents_of own) plan.pure;
     does = does;
   }
-  goes place func plan own _ _ (Updating at update stage phase it tasks private_is bytes does touches few stores rounds) =
+  goes place func plan own _ _ (Updating at update stage phase it tasks private_is bytes does touches few stores loop_lanes) =
       record { owned = owns_update own update stage; does = does }
 
   stages_do : (place : ℕ) (func : Func) (plan : FuncPlan) (own : SourceBox) (others phases : List Phase) (number : ℕ)
@@ -128,7 +128,7 @@ module _ (pipeline : Pipeline) (schedule : Schedule) (boxes : Boxes) (accepted :
   nothing_shared : (place : ℕ) → IsNotAtRoot pipeline schedule boxes place → (x y : ℕ) → private place ≡ false → points place x y ≡ true → ⊥
   nothing_shared place not_root x y shared there = by_entry (slice_get boxes.funcs place) refl
     where
-      by_place : (own : SourceBox) → slice_get boxes.funcs place ≡ Some (Some own) → (b : HasBox pipeline schedule boxes place own) → (where_ : Place)
+      by_place : (own : SourceBox) → slice_get boxes.funcs place ≡ Some (Some own) → (b : HasBox pipeline schedule boxes place own) → (where_ : ComputeLevel)
           → b.standing.place ≡ where_ → IsComputed place where_ → ⊥
       by_place own e b places.Root w c =
           let plan = pair_there IsPlan pipeline.funcs schedule.funcs place b.func accepted.plans b.func_is in
@@ -214,14 +214,14 @@ module _ (pipeline : Pipeline) (schedule : Schedule) (boxes : Boxes) where
       → IsStagePhase pipeline schedule boxes place func plan own number phase
   pure_is place func plan own number phase none is = subst (λ (n : ℕ). IsStagePhase pipeline schedule boxes place func plan own n phase) (sym none) is
 
-  root_passes : (own : Standing) (where_ : Place) → own.place ≡ where_ → where_ ≡ places.Root → own.is_reached ≡ true → is_at_root own ≡ true
+  root_passes : (own : FuncPlacement) (where_ : ComputeLevel) → own.place ≡ where_ → where_ ≡ places.Root → own.is_reached ≡ true → is_at_root own ≡ true
   root_passes own where_ p r reached = ap (λ (b : Bool). b && is_root own.place) reached ∙ (ap is_root p ∙ ap is_root r)
 
   -- no phase is of a Func that isn't known to stand at root
   pub not_standing : (place : ℕ) → slice_get schedule.standings place ≡ None → IsNotAtRoot pipeline schedule boxes place
   not_standing place none func plan own at = let found = at.there.standing in cc
 
-  pub not_root : (place : ℕ) (standing : Standing) → slice_get schedule.standings place ≡ Some standing → is_at_root standing ≡ false
+  pub not_root : (place : ℕ) (standing : FuncPlacement) → slice_get schedule.standings place ≡ Some standing → is_at_root standing ≡ false
       → IsNotAtRoot pipeline schedule boxes place
   not_root place standing found fails func plan own at =
       let same : at.standing ≡ standing = let p = at.there.standing in cc in
@@ -287,11 +287,11 @@ module _ (pipeline : Pipeline) (schedule : Schedule) (boxes : Boxes) (rules : Is
   own_standing =
       let drawn = drawn_func (slice_get pipeline.funcs output) pipeline.output.dimensions rules.drawn in
       let plan = pair_there IsPlan pipeline.funcs schedule.funcs output drawn.value accepted.plans drawn.is in
-      subst (λ (l : List Standing). IsSome (slice_get l output)) (sym all_standings) (standing_some pipeline schedule.funcs 0 schedule.funcs output plan.value
+      subst (λ (l : List FuncPlacement). IsSome (slice_get l output)) (sym all_standings) (standing_some pipeline schedule.funcs 0 schedule.funcs output plan.value
       plan.is)
 
   known : (own_standing.value.is_reached ≡ true) × (own_standing.value.place ≡ places.Root)
-  known = output_standing pipeline schedule.funcs own_standing.value (ap (λ (l : List Standing). slice_get l output) (sym all_standings) ∙ own_standing.is)
+  known = output_standing pipeline schedule.funcs own_standing.value (ap (λ (l : List FuncPlacement). slice_get l output) (sym all_standings) ∙ own_standing.is)
 
   output_shared : is_private schedule.standings output ≡ false
   output_shared =
@@ -311,8 +311,8 @@ module _ (pipeline : Pipeline) (schedule : Schedule) (boxes : Boxes) (rules : Is
     lasts_none =
         let b = has_box pipeline schedule boxes accepted is output box_found.own box_found.is in
         let same : b.standing ≡ own_standing.value = let p = b.there.standing in let q = own_standing.is in cc in
-        b.lasts ∙ (ap (λ (t : Standing). lasts_of (consumer_in schedule boxes.funcs t.place)) same
-        ∙ ap (λ (p : Place). lasts_of (consumer_in schedule boxes.funcs p)) known.1)
+        b.lasts ∙ (ap (λ (t : FuncPlacement). lasts_of (consumer_in schedule boxes.funcs t.place)) same
+        ∙ ap (λ (p : ComputeLevel). lasts_of (consumer_in schedule boxes.funcs p)) known.1)
 
     lies : LiesIn no_loops box_found.own x y
     lies = subst (λ (e : Option (Option SourceBox)). IsBoxed no_loops e x y) box_found.is (output_lies pipeline schedule boxes rules is own_standing.value

@@ -4,7 +4,7 @@ use Rattle.std.specs.Prelude.{◌||◌}
 use Rattle.std.specs.List.{AllByRecursion, list_any}
 use Rattle.std.proofs.lemmas.List.Folds.{list_any-append}
 use Rattle.schedule_loops.specs.Visits.{upto}
-use Rattle.loop_ir.specs.Running.{turns}
+use Rattle.loop_ir.specs.Running.{iterated}
 use Rattle.loop_ir.specs.Stores.{Trace}
 use Rattle.lowering_nests.specs.Nests.{all}
 
@@ -27,14 +27,14 @@ list_tells step hit (a ∷ others) each so_far =
     list_tells step hit others each.1 (step a so_far) ∙ ap (λ (b : Bool). b || list_any hit others) (each.0 so_far)
     ∙ or_or so_far.is_stored (hit a) (list_any hit others)
 
-pub turns_tell : {A : Type 0} (n most : ℕ) → n ≤ most → (one : ℕ → Trace → Trace) (hit : A → Bool) (lists : ℕ → List A) → ((turn : ℕ) → turn < most
-    → Tells (one turn) (list_any hit (lists turn)))
-    → Tells (turns n one) (list_any hit (upto n lists))
-unfolding turns upto
-turns_tell zero most few one hit lists each so_far = or_none so_far.is_stored
-turns_tell (suc n) most few one hit lists each so_far =
-    each n (omega (arith, few)) (turns n one so_far)
-    ∙ ap (λ (b : Bool). b || list_any hit (lists n)) (turns_tell n most (omega (arith, few)) one hit lists each so_far)
+pub iterations_tell : {A : Type 0} (n most : ℕ) → n ≤ most → (one : ℕ → Trace → Trace) (hit : A → Bool) (lists : ℕ → List A) → ((iteration : ℕ) → iteration < most
+    → Tells (one iteration) (list_any hit (lists iteration)))
+    → Tells (iterated n one) (list_any hit (upto n lists))
+unfolding iterated upto
+iterations_tell zero most few one hit lists each so_far = or_none so_far.is_stored
+iterations_tell (suc n) most few one hit lists each so_far =
+    each n (omega (arith, few)) (iterated n one so_far)
+    ∙ ap (λ (b : Bool). b || list_any hit (lists n)) (iterations_tell n most (omega (arith, few)) one hit lists each so_far)
     ∙ or_or so_far.is_stored (list_any hit (upto n lists)) (list_any hit (lists n))
     ∙ ap (λ (b : Bool). so_far.is_stored || b) (sym (list_any-append hit (upto n lists) (lists n)))
 

@@ -34,16 +34,16 @@ less_none (a ∷ b ∷ c ∷ d ∷ e ∷ f ∷ base) = omega arith
 
 -- ---- words
 
-abbrev turned : ℕ → ℕ
-turned x = (x + 2 ^ 31) % 2 ^ 32
+abbrev biased : ℕ → ℕ
+biased x = (x + 2 ^ 31) % 2 ^ 32
 
 pub add_small : (a b : ℕ) → word.add a b < 2 ^ 32
 unfolding word.add
 add_small a b = omega arith
 
-pub add_turned : (a b : ℕ) → word.add a b ≡ word.add b a
+pub add_swapped : (a b : ℕ) → word.add a b ≡ word.add b a
 unfolding word.add
-add_turned a b = omega arith
+add_swapped a b = omega arith
 
 -- ---- where ranges begin
 
@@ -57,8 +57,8 @@ unfolding word.subtract
 first_small range values = omega arith
 
 -- how far a word is from where a range begins
-first_far : (x low more less : ℕ) → x < 2 ^ 32 → low < 2 ^ 32 → low + more ≤ turned x + less → turned x + less < low + more + 2 ^ 32
-    → word.subtract x (word.subtract (word.add ((low + 2 ^ 31) % 2 ^ 32) (more % 2 ^ 32)) (less % 2 ^ 32)) ≡ turned x + less - (low + more)
+first_far : (x low more less : ℕ) → x < 2 ^ 32 → low < 2 ^ 32 → low + more ≤ biased x + less → biased x + less < low + more + 2 ^ 32
+    → word.subtract x (word.subtract (word.add ((low + 2 ^ 31) % 2 ^ 32) (more % 2 ^ 32)) (less % 2 ^ 32)) ≡ biased x + less - (low + more)
 unfolding word.subtract word.add
 first_far x low more less small few above below = omega (arith, small, few, above, below)
 
@@ -67,7 +67,7 @@ unfolding word.add word.subtract
 first_back x first small few = omega (arith, small, few)
 
 first_on : (far low more less : ℕ) → less ≤ low → low + far + more < 2 ^ 32
-    → turned (word.add far (word.subtract (word.add ((low + 2 ^ 31) % 2 ^ 32) (more % 2 ^ 32)) (less % 2 ^ 32))) + less ≡ low + more + far
+    → biased (word.add far (word.subtract (word.add ((low + 2 ^ 31) % 2 ^ 32) (more % 2 ^ 32)) (less % 2 ^ 32))) + less ≡ low + more + far
 unfolding word.add word.subtract
 first_on far low more less few most = omega (arith, few, most)
 

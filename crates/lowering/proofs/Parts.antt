@@ -6,9 +6,9 @@ use Rattle.halide_pipeline.specs.declared.definitions.Func.{Func}
 use Rattle.halide_pipeline.specs.Pipelines.{Pipeline}
 use Rattle.schedule.specs.declared.plans.FuncPlan.{FuncPlan}
 use Rattle.schedule.specs.declared.schedules.Schedule.{Schedule}
-use Rattle.schedule.specs.declared.standings.Place.{Place}
-use Rattle.schedule.specs.declared.standings.Place.TheVariants as places
-use Rattle.schedule.specs.declared.standings.Standing.{Standing}
+use Rattle.schedule.specs.declared.placements.ComputeLevel.{ComputeLevel}
+use Rattle.schedule.specs.declared.placements.ComputeLevel.TheVariants as places
+use Rattle.schedule.specs.declared.placements.FuncPlacement.{FuncPlacement}
 use Rattle.schedule.specs.Legal.{is_root}
 use Rattle.bounds.specs.declared.boxes.SourceBox.{SourceBox}
 use Rattle.bounds.specs.declared.verdict.Boxes.{Boxes}
@@ -16,7 +16,7 @@ use Rattle.bounds.specs.Extents.{box_in}
 use Rattle.lowering.specs.PurePhases.{is_at_root}
 use Rattle.bounds.specs.Stages.{IsAtRoot}
 
-root_is : (place : Place) → is_root place ≡ true → place ≡ places.Root
+root_is : (place : ComputeLevel) → is_root place ≡ true → place ≡ places.Root
 root_is places.Root e = refl
 root_is (places.At at) e = absurd cc
 root_is places.Inlined e = absurd cc
@@ -27,7 +27,7 @@ box_is None own e = absurd cc
 box_is (Some other) own e = ap (λ (o : Option SourceBox). Some o) e
 
 module _ (pipeline : Pipeline) (schedule : Schedule) (boxes : Boxes) (place : ℕ) where
-  pub at_root : (standing : Standing) (func : Func) (plan : FuncPlan) (own : SourceBox) → slice_get schedule.standings place ≡ Some standing
+  pub at_root : (standing : FuncPlacement) (func : Func) (plan : FuncPlan) (own : SourceBox) → slice_get schedule.standings place ≡ Some standing
       → is_at_root standing ≡ true
       → slice_get pipeline.funcs place ≡ Some func → slice_get schedule.funcs place ≡ Some plan → box_in (slice_get boxes.funcs place) ≡ Some own
       → IsAtRoot pipeline schedule boxes place func plan own

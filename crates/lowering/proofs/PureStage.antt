@@ -6,7 +6,7 @@ use Rattle.halide_pipeline.specs.Pipelines.{Pipeline}
 use Rattle.halide_pipeline.specs.Pixel.{Plane, Planes, with_plane, pure_plane, stage, pixels}
 use Rattle.schedule.specs.declared.plans.FuncPlan.{FuncPlan}
 use Rattle.schedule.specs.declared.schedules.Schedule.{Schedule}
-use Rattle.schedule.specs.declared.standings.Standing.{Standing}
+use Rattle.schedule.specs.declared.placements.FuncPlacement.{FuncPlacement}
 use Rattle.schedule.specs.Uses.{IsReached}
 use Rattle.bounds.specs.declared.boxes.SourceBox.{SourceBox}
 use Rattle.bounds.specs.declared.verdict.Boxes.{Boxes}
@@ -19,13 +19,13 @@ use Rattle.schedule_loops.specs.Visits.{owns}
 use Rattle.lowering.specs.PurePhases.{DoesPure, ProducedArePrivate, RootsAreShared}
 use Rattle.lowering.specs.Stages.{is_private, is_private_in, is_at_loop, DoesStage}
 
-found_is : (standings : List Standing) (place : ℕ) (own : Standing) → IsReached standings place own → is_private standings place ≡ is_at_loop own.place
+found_is : (standings : List FuncPlacement) (place : ℕ) (own : FuncPlacement) → IsReached standings place own → is_private standings place ≡ is_at_loop own.place
 found_is standings place own there = ap is_private_in there.standing ∙ ap (λ (b : Bool). b && is_at_loop own.place) there.reached
 
-roots_are_shared : (standings : List Standing) → RootsAreShared standings (is_private standings)
+roots_are_shared : (standings : List FuncPlacement) → RootsAreShared standings (is_private standings)
 roots_are_shared standings other own there root = found_is standings other own there ∙ ap is_at_loop root
 
-produced_are_private : (standings : List Standing) (consumer : ℕ) → ProducedArePrivate standings (is_private standings) consumer
+produced_are_private : (standings : List FuncPlacement) (consumer : ℕ) → ProducedArePrivate standings (is_private standings) consumer
 produced_are_private standings consumer place own at there placed same = found_is standings place own there ∙ ap is_at_loop placed
 
 first_stage : (place : ℕ) (func : Func) (inputs earlier : Planes) → pure_plane func.pure inputs earlier ≡ stage place func inputs earlier 0

@@ -23,9 +23,9 @@ use Rattle.bounds_inlining.proofs.KeptFolds.{KeptLevels, kept_folds_related}
 use Rattle.bounds_inlining.proofs.Steps.{inside_is}
 use Rattle.schedule.specs.declared.plans.FuncPlan.{FuncPlan}
 use Rattle.schedule.specs.declared.schedules.Schedule.{Schedule}
-use Rattle.schedule.specs.declared.standings.Place.{Place}
-use Rattle.schedule.specs.declared.standings.Place.TheVariants as places
-use Rattle.schedule.specs.declared.standings.Standing.{Standing}
+use Rattle.schedule.specs.declared.placements.ComputeLevel.{ComputeLevel}
+use Rattle.schedule.specs.declared.placements.ComputeLevel.TheVariants as places
+use Rattle.schedule.specs.declared.placements.FuncPlacement.{FuncPlacement}
 use Rattle.schedule.specs.Legal.{is_inlined}
 use Rattle.schedule.specs.Uses.{IsReached}
 use Rattle.schedule_lines.specs.declared.stages.Loop.{Loop}
@@ -35,7 +35,7 @@ use Rattle.schedule_loops.specs.declared.extents.Extents.{Extents}
 use Rattle.schedule_loops.specs.Visits.{counts, AreSplits}
 use Rattle.schedule_loops.specs.Visits as iterations
 use Rattle.lowering_nests.specs.Nests.{AreFew}
-use Rattle.lowering_nests.proofs.Few.{few_turns}
+use Rattle.lowering_nests.proofs.Few.{iterations_few}
 use Rattle.bounds_weights.specs.Weight.{need_in, second_need, update_need, updates_needs, func_needs, computed_needs, funcs_needs, needs, no_needs, flags_of}
 use Rattle.bounds_weights.specs.Weight.{is_computed}
 use Rattle.bounds_laws.specs.Laws.{IsComputed}
@@ -176,18 +176,18 @@ pure-store place x y value most few_value =
 
 -- ---- tasks
 
-few-turns : (extents : Extents) (splits : List Split) (own : Option Loop) → AreFew extents → AreSplits splits
+few-iterations : (extents : Extents) (splits : List Split) (own : Option Loop) → AreFew extents → AreSplits splits
     → iterations.count_of (counts extents splits) own ≤ 2 ^ 31
-few-turns extents splits None few fit = omega arith
-few-turns extents splits (Some own) few fit = let l = few_turns extents splits few fit own.id in omega (arith, l)
+few-iterations extents splits None few fit = omega arith
+few-iterations extents splits (Some own) few fit = let l = iterations_few extents splits few fit own.id in omega (arith, l)
 
 pub few_iterations : (extents : Extents) (stage : Stage) → AreFew extents → AreSplits stage.splits → iterations.iteration_count extents stage ≤ 2 ^ 31
-few_iterations extents stage few fit = few-turns extents stage.splits (iterations.parallel stage) few fit
+few_iterations extents stage few fit = few-iterations extents stage.splits (iterations.parallel stage) few fit
 
 -- ---- what is counted of all stages
 
 module _ (flags : List Bool) (all : List Func) where
-  counted : (funcs : List Func) (plans : List FuncPlan) (standings : List Standing) (place : ℕ) (func : Func) (plan : FuncPlan) (own : Standing)
+  counted : (funcs : List Func) (plans : List FuncPlan) (standings : List FuncPlacement) (place : ℕ) (func : Func) (plan : FuncPlan) (own : FuncPlacement)
       → slice_get funcs place ≡ Some func → slice_get plans place ≡ Some plan → slice_get standings place ≡ Some own → is_computed own ≡ true
       → (func_needs flags all func plan).greatest ≤ (funcs_needs flags all funcs plans standings).greatest
   counted [] plans standings place func plan own f p s is = absurd cc
@@ -216,13 +216,13 @@ module _ (flags : List Bool) (all : List Func) where
       omega (arith, n)
   update-counted (first ∷ updates) (one ∷ stages) (suc at) update stage u s = let l = update-counted updates stages at update stage u s in omega (arith, l)
 
-not-inlined : (place : ℕ) (own : Place) → IsComputed place own → is_inlined own ≡ false
+not-inlined : (place : ℕ) (own : ComputeLevel) → IsComputed place own → is_inlined own ≡ false
 not-inlined place places.Root here = refl
 not-inlined place (places.At at) here = refl
 not-inlined place places.Inlined here = absurd here
 not-inlined place places.Nowhere here = absurd here
 
-module _ (pipeline : Pipeline) (schedule : Schedule) (rules : IsWellFormed pipeline) (place : ℕ) (func : Func) (plan : FuncPlan) (own : Standing)
+module _ (pipeline : Pipeline) (schedule : Schedule) (rules : IsWellFormed pipeline) (place : ℕ) (func : Func) (plan : FuncPlan) (own : FuncPlacement)
     (func_is : slice_get pipeline.funcs place ≡ Some func)
     (plan_is : slice_get schedule.funcs place ≡ Some plan) (there : IsReached schedule.standings place own) (here : IsComputed place own.place) where
   is-computed : is_computed own ≡ true

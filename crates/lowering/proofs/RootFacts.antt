@@ -6,10 +6,10 @@ use Rattle.halide_pipeline.specs.Pipelines.{Pipeline}
 use Rattle.halide_pipeline.specs.Words as word
 use Rattle.schedule.specs.declared.plans.FuncPlan.{FuncPlan}
 use Rattle.schedule.specs.declared.schedules.Schedule.{Schedule}
-use Rattle.schedule.specs.declared.standings.LoopPlace.{LoopPlace}
-use Rattle.schedule.specs.declared.standings.Place.{Place}
-use Rattle.schedule.specs.declared.standings.Place.TheVariants as places
-use Rattle.schedule.specs.declared.standings.Standing.{Standing}
+use Rattle.schedule.specs.declared.placements.LoopPlace.{LoopPlace}
+use Rattle.schedule.specs.declared.placements.ComputeLevel.{ComputeLevel}
+use Rattle.schedule.specs.declared.placements.ComputeLevel.TheVariants as places
+use Rattle.schedule.specs.declared.placements.FuncPlacement.{FuncPlacement}
 use Rattle.schedule.specs.Accepted.{IsAccepted}
 use Rattle.schedule.specs.Uses.{IsReached}
 use Rattle.bounds_ranges.specs.declared.ranges.Range.{Range}
@@ -33,8 +33,8 @@ use Rattle.lowering.proofs.Offsets as offsets
 use Rattle.lowering.proofs.Values.{corner_at}
 
 -- No Func that the output reaches is computed at one of its loops.
-abbrev pub ConsumersNone : List Standing → ℕ → Type 0
-ConsumersNone standings place = (other : ℕ) (own : Standing) (at : LoopPlace) → IsReached standings other own → own.place ≡ places.At at → at.func ≡ place → ⊥
+abbrev pub ConsumersNone : List FuncPlacement → ℕ → Type 0
+ConsumersNone standings place = (other : ℕ) (own : FuncPlacement) (at : LoopPlace) → IsReached standings other own → own.place ≡ places.At at → at.func ≡ place → ⊥
 
 -- ---- boxes
 
@@ -71,12 +71,12 @@ pub record HasRootCorner (corners : List Corner) (k : ℕ) (own : SourceBox) : T
   pub there : slice_get corners k ≡ Some corner
   pub is : (values : Values) → (linear_value values corner.x ≡ word_at own.x.low) × (linear_value values corner.y ≡ word_at own.y.low)
 
-pub root_corner_at : (schedule : Schedule) (boxes : Boxes) (corners : List Corner) (k : ℕ) (own : SourceBox) (standing : Standing)
+pub root_corner_at : (schedule : Schedule) (boxes : Boxes) (corners : List Corner) (k : ℕ) (own : SourceBox) (standing : FuncPlacement)
     → AreCorners schedule.funcs boxes.funcs schedule.standings corners
     → slice_get boxes.funcs k ≡ Some (Some own) → slice_get schedule.standings k ≡ Some standing → standing.place ≡ places.Root → HasRootCorner corners k own
 root_corner_at schedule boxes corners k own standing are there stands root =
     let c = corner_at schedule.funcs boxes.funcs schedule.standings corners k (Some own) standing are there stands in
-    let at_root : IsCornerOf schedule.funcs places.Root (Some own) c.corner = subst (λ (p : Place). IsCornerOf schedule.funcs p (Some own) c.corner) root c.is
+    let at_root : IsCornerOf schedule.funcs places.Root (Some own) c.corner = subst (λ (p : ComputeLevel). IsCornerOf schedule.funcs p (Some own) c.corner) root c.is
     in
     record {
       corner = c.corner;

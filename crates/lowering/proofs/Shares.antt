@@ -16,10 +16,10 @@ use Rattle.schedule_lines.specs.Directives.{is_marked, same_id}
 use Rattle.schedule_lines.specs.Making.{total}
 use Rattle.schedule.specs.declared.plans.FuncPlan.{FuncPlan}
 use Rattle.schedule.specs.declared.schedules.Schedule.{Schedule}
-use Rattle.schedule.specs.declared.standings.LoopPlace.{LoopPlace}
-use Rattle.schedule.specs.declared.standings.Place.{Place}
-use Rattle.schedule.specs.declared.standings.Place.TheVariants as places
-use Rattle.schedule.specs.declared.standings.Standing.{Standing}
+use Rattle.schedule.specs.declared.placements.LoopPlace.{LoopPlace}
+use Rattle.schedule.specs.declared.placements.ComputeLevel.{ComputeLevel}
+use Rattle.schedule.specs.declared.placements.ComputeLevel.TheVariants as places
+use Rattle.schedule.specs.declared.placements.FuncPlacement.{FuncPlacement}
 use Rattle.schedule_loops.specs.declared.extents.Extents.{Extents}
 use Rattle.schedule_loops.specs.Visits as loops
 use Rattle.schedule_loops.specs.Visits.{parallel}
@@ -40,9 +40,9 @@ use Rattle.lowering.specs.PurePhases.{is_at_root, inside_of}
 use Rattle.bounds.specs.Stages.{IsAtRoot}
 use Rattle.lowering.specs.Lowered as lowered
 use Rattle.lowering.specs.Sizes.{IsLight, update_share, shares, func_share, placed_share, phase_share, words_of, summed, produced_share, produced_shares}
-use Rattle.schedule.specs.Standing.{pure_loops_of}
+use Rattle.schedule.specs.Placements.{pure_loops_of}
 use Rattle.lowering.proofs.Copies.{ArePaid, Paid, times-most, times-some, copies-some, loop-paid, last-copies, paid-at, copies-at}
-use Rattle.lowering.proofs.TaskRounds.{outside_of, loops_by}
+use Rattle.lowering.proofs.TaskLanes.{outside_of, loops_by}
 
 -- ---- sums over places
 
@@ -74,7 +74,7 @@ module _ (pipeline : Pipeline) (schedule : Schedule) (boxes : Boxes) where
   abbrev flags : List Bool
   flags = flags_of schedule.standings
 
-  abbrev loop_share : LoopPlace → Option Func → Option FuncPlan → Option Standing → ℕ
+  abbrev loop_share : LoopPlace → Option Func → Option FuncPlan → Option FuncPlacement → ℕ
   loop_share at None plan own = 0
   loop_share at (Some func) None own = 0
   loop_share at (Some func) (Some plan) None = 0
@@ -90,7 +90,7 @@ module _ (pipeline : Pipeline) (schedule : Schedule) (boxes : Boxes) where
   abbrev count : ℕ
   count = length schedule.standings
 
-  computed-there : (at : LoopPlace) (own : Standing) → own.is_reached ≡ true → own.place ≡ places.At at → is_computed_at at own ≡ true
+  computed-there : (at : LoopPlace) (own : FuncPlacement) → own.is_reached ≡ true → own.place ≡ places.At at → is_computed_at at own ≡ true
   computed-there at own reached is =
       and_from own.is_reached (is_at_loop at own.place) reached (ap (is_at_loop at) is ∙ and_from (at.func == at.func) (same_id at.inside at.inside)
       (grind (arith, nat_tests)) (same_id-self at.inside))
@@ -103,12 +103,12 @@ module _ (pipeline : Pipeline) (schedule : Schedule) (boxes : Boxes) where
         let shared : share_at at place ≡ placed_share flags pipeline.funcs schedule.funcs is.func is.plan own
         = ap (λ (f : Option Func). loop_share at f (slice_get schedule.funcs place) (slice_get schedule.standings place)) is.parts.func_is
         ∙ ap (λ (p : Option FuncPlan). loop_share at (Some is.func) p (slice_get schedule.standings place)) is.parts.plan_is
-        ∙ ap (λ (o : Option Standing). loop_share at (Some is.func) (Some is.plan) o) is.parts.there.standing
+        ∙ ap (λ (o : Option FuncPlacement). loop_share at (Some is.func) (Some is.plan) o) is.parts.there.standing
         ∙ ap (λ (t : Bool). if t then placed_share flags pipeline.funcs schedule.funcs is.func is.plan own else 0) (computed-there at own is.parts.there.reached
         is.parts.placed_is) in
         let whole = func_share flags pipeline.funcs is.func is.plan in
         let here : placed_share flags pipeline.funcs schedule.funcs is.func is.plan own ≡ whole * copied
-        = ap (λ (p : Place). whole * consumer_copies schedule.funcs p) is.parts.placed_is ∙ ap (λ (n : ℕ). whole * n) copied_is in
+        = ap (λ (p : ComputeLevel). whole * consumer_copies schedule.funcs p) is.parts.placed_is ∙ ap (λ (n : ℕ). whole * n) copied_is in
         let l = times-most (whole_size made) (64 * whole) copied is.small in
         let a = mul_assoc 64 whole copied in
         omega (arith, shared, here, l, a)
@@ -140,7 +140,7 @@ module _ (pipeline : Pipeline) (schedule : Schedule) (boxes : Boxes) where
         omega (arith, e, f, r)
 
   -- all that are at these loops of a consumer
-  abbrev sums : ℕ → Option Func → Option FuncPlan → Option Standing → List Loop → ℕ
+  abbrev sums : ℕ → Option Func → Option FuncPlan → Option FuncPlacement → List Loop → ℕ
   sums consumer func plan own [] = 0
   sums consumer func plan own (first ∷ others) = loop_share (record { func = consumer; inside = first.id }) func plan own + sums consumer func plan own others
 
@@ -210,14 +210,14 @@ module _ (pipeline : Pipeline) (schedule : Schedule) (boxes : Boxes) where
   -- ---- each Func at a loop of the consumer stands at one of its loops
 
   module _ (consumer whole : ℕ) (reached : Bool) where
-    abbrev one : Place → Loop → ℕ
+    abbrev one : ComputeLevel → Loop → ℕ
     one place loop = if reached && is_at_loop (record { func = consumer; inside = loop.id }) place then whole else 0
 
-    abbrev among : Place → List Loop → ℕ
+    abbrev among : ComputeLevel → List Loop → ℕ
     among place [] = 0
     among place (first ∷ others) = one place first + among place others
 
-    abbrev once : Place → ℕ
+    abbrev once : ComputeLevel → ℕ
     once place = if reached && is_at_loop_of consumer place then whole else 0
 
     nowhere : (b : Bool) → (if b && false then whole else 0) ≡ 0
@@ -236,7 +236,7 @@ module _ (pipeline : Pipeline) (schedule : Schedule) (boxes : Boxes) where
     here-most false here same = omega arith
 
     module _ (at : LoopPlace) where
-      abbrev placed : Place
+      abbrev placed : ComputeLevel
       placed = places.At at
 
       is-one : (loop : Loop) → at.inside ≡ loop.id → has_id at.inside loop ≡ 1
@@ -263,17 +263,17 @@ module _ (pipeline : Pipeline) (schedule : Schedule) (boxes : Boxes) where
         | inr d ↦ let z = not-one loop d in let r = among-few others (omega (arith, few)) in omega (arith, z, r)
       ]
 
-    among-nowhere : (place : Place) → ((loop : Loop) → one place loop ≡ 0) → (own : List Loop) → among place own ≡ 0
+    among-nowhere : (place : ComputeLevel) → ((loop : Loop) → one place loop ≡ 0) → (own : List Loop) → among place own ≡ 0
     among-nowhere place none [] = refl
     among-nowhere place none (loop ∷ others) = omega (arith, none loop, among-nowhere place none others)
 
-    among-once : (place : Place) (own : List Loop) → Unique own → among place own ≤ once place
+    among-once : (place : ComputeLevel) (own : List Loop) → Unique own → among place own ≤ once place
     among-once (places.At at) own unique = among-few at own (unique at.inside)
     among-once places.Root own unique = let z = among-nowhere places.Root (λ loop. nowhere reached) own in omega (arith, z)
     among-once places.Inlined own unique = let z = among-nowhere places.Inlined (λ loop. nowhere reached) own in omega (arith, z)
     among-once places.Nowhere own unique = let z = among-nowhere places.Nowhere (λ loop. nowhere reached) own in omega (arith, z)
 
-  sums-none : (consumer : ℕ) (func : Option Func) (plan : Option FuncPlan) (own : Option Standing) → ((at : LoopPlace) → loop_share at func plan own ≡ 0)
+  sums-none : (consumer : ℕ) (func : Option Func) (plan : Option FuncPlan) (own : Option FuncPlacement) → ((at : LoopPlace) → loop_share at func plan own ≡ 0)
       → (all : List Loop) → sums consumer func plan own all ≡ 0
   sums-none consumer func plan own none [] = refl
   sums-none consumer func plan own none (first ∷ others) = omega (
@@ -283,13 +283,13 @@ module _ (pipeline : Pipeline) (schedule : Schedule) (boxes : Boxes) where
         none others,
   )
 
-  sums-are : (consumer : ℕ) (func : Func) (plan : FuncPlan) (own : Standing) (all : List Loop)
+  sums-are : (consumer : ℕ) (func : Func) (plan : FuncPlan) (own : FuncPlacement) (all : List Loop)
       → sums consumer (Some func) (Some plan) (Some own) all ≡ among consumer (placed_share flags pipeline.funcs schedule.funcs func plan own) own.is_reached
       own.place all
   sums-are consumer func plan own [] = refl
   sums-are consumer func plan own (first ∷ others) = omega (arith, sums-are consumer func plan own others)
 
-  sums-once : (consumer : ℕ) (func : Option Func) (plan : Option FuncPlan) (own : Option Standing) (all : List Loop) → Unique all
+  sums-once : (consumer : ℕ) (func : Option Func) (plan : Option FuncPlan) (own : Option FuncPlacement) (all : List Loop) → Unique all
       → sums consumer func plan own all ≤ produced_share flags pipeline.funcs schedule.funcs consumer func plan own
   sums-once consumer None plan own all unique = let z = sums-none consumer None plan own (λ at. refl) all in omega (arith, z)
   sums-once consumer (Some func) None own all unique = let z = sums-none consumer (Some func) None own (λ at. refl) all in omega (arith, z)
@@ -377,8 +377,8 @@ module _ (pipeline : Pipeline) (schedule : Schedule) (boxes : Boxes) where
 
   stage-light : (place : ℕ) (func : Func) (plan : FuncPlan) (own : SourceBox) (number : ℕ) (phase : Phase)
       → lowered.IsStagePhase pipeline schedule boxes place func plan own number phase → IsLight pipeline schedule place func plan number phase
-  stage-light place func plan own _ _ (lowered.Pure phase tasks private_is bytes does touches few stores rounds in_runs) = few.1
-  stage-light place func plan own _ _ (lowered.Updating at update stage phase it tasks private_is bytes does touches few stores rounds) = few.1
+  stage-light place func plan own _ _ (lowered.Pure phase tasks private_is bytes does touches few stores loop_lanes in_runs) = few.1
+  stage-light place func plan own _ _ (lowered.Updating at update stage phase it tasks private_is bytes does touches few stores loop_lanes) = few.1
 
   pub update-light : (place : ℕ) (func : Func) (plan : FuncPlan) (at : ℕ) (update : Update) (stage : Stage) (phase : Phase)
       → slice_get func.updates at ≡ Some update → slice_get plan.updates at ≡ Some stage
@@ -401,7 +401,7 @@ module _ (pipeline : Pipeline) (schedule : Schedule) (boxes : Boxes) where
       let r = stages-light place func plan own others phases number rest in
       omega (arith, w, l, r)
 
-  abbrev root_share : ℕ → Option Func → Option FuncPlan → Option Standing → ℕ
+  abbrev root_share : ℕ → Option Func → Option FuncPlan → Option FuncPlacement → ℕ
   root_share place None plan own = 0
   root_share place (Some func) None own = 0
   root_share place (Some func) (Some plan) None = 0
@@ -418,10 +418,10 @@ module _ (pipeline : Pipeline) (schedule : Schedule) (boxes : Boxes) where
   root-is place func plan own at =
       ap (λ (f : Option Func). root_share place f (slice_get schedule.funcs place) (slice_get schedule.standings place)) at.func_is
       ∙ ap (λ (p : Option FuncPlan). root_share place (Some func) p (slice_get schedule.standings place)) at.plan_is
-      ∙ ap (λ (o : Option Standing). root_share place (Some func) (Some plan) o) at.there.standing
+      ∙ ap (λ (o : Option FuncPlacement). root_share place (Some func) (Some plan) o) at.there.standing
       ∙ ap (λ (t : Bool). if t then placed_share flags pipeline.funcs schedule.funcs func plan at.standing else 0) (and_from at.standing.is_reached
       (is_root at.standing.place) at.there.reached (ap is_root at.placed_is))
-      ∙ ap (λ (p : Place). func_share flags pipeline.funcs func plan * consumer_copies schedule.funcs p) at.placed_is
+      ∙ ap (λ (p : ComputeLevel). func_share flags pipeline.funcs func plan * consumer_copies schedule.funcs p) at.placed_is
       ∙ (let g : func_share flags pipeline.funcs func plan * 1 ≡ func_share flags pipeline.funcs func plan = omega arith in g)
 
   pub phases-light : (place : ℕ) (phases : List Phase) → lowered.AreLowered pipeline schedule boxes place phases
@@ -448,7 +448,7 @@ module _ (pipeline : Pipeline) (schedule : Schedule) (boxes : Boxes) where
       let s = summed-more (λ k. g from k) (λ k. summed (λ h. g h k) (suc from) m) at n in
       omega (arith, r, s)
 
-  abbrev pub computed_share : Option Func → Option FuncPlan → Option Standing → ℕ
+  abbrev pub computed_share : Option Func → Option FuncPlan → Option FuncPlacement → ℕ
   computed_share None plan own = 0
   computed_share (Some func) None own = 0
   computed_share (Some func) (Some plan) None = 0
@@ -478,7 +478,7 @@ module _ (pipeline : Pipeline) (schedule : Schedule) (boxes : Boxes) where
     consumers-once func from (suc n) = by-consumer func from n (func == from) refl (consumers-once func (suc from) n)
 
     -- a Func at root, or at a loop of one consumer
-    placed-once : (reached : Bool) (place : Place) (m : ℕ)
+    placed-once : (reached : Bool) (place : ComputeLevel) (m : ℕ)
         → (if reached && is_root place then whole else 0) + summed (λ h. if reached && is_at_loop_of h place then whole else 0) 0 m ≤ (if reached
         && not (is_inlined place) then whole else 0)
     placed-once true (places.At at) m = let l = consumers-once at.func 0 m in omega (arith, l)
@@ -487,7 +487,7 @@ module _ (pipeline : Pipeline) (schedule : Schedule) (boxes : Boxes) where
     placed-once true places.Nowhere m = let z = summed-none 0 m in omega (arith, z)
     placed-once false place m = let z = summed-none 0 m in omega (arith, z)
 
-  once-at : (m k : ℕ) (func : Option Func) (plan : Option FuncPlan) (own : Option Standing)
+  once-at : (m k : ℕ) (func : Option Func) (plan : Option FuncPlan) (own : Option FuncPlacement)
       → root_share k func plan own + summed (λ h. produced_share flags pipeline.funcs schedule.funcs h func plan own) 0 m ≤ computed_share func plan own
   once-at m k None plan own = let z = summed-none 0 m in omega (arith, z)
   once-at m k (Some func) None own = let z = summed-none 0 m in omega (arith, z)
@@ -496,7 +496,7 @@ module _ (pipeline : Pipeline) (schedule : Schedule) (boxes : Boxes) where
 
   -- past the last standing nothing is
   none-after : (place : ℕ) → count ≤ place → root_at place ≡ 0
-  none-after place past = ap (λ (o : Option Standing). root_share place (slice_get pipeline.funcs place) (slice_get schedule.funcs place) o)
+  none-after place past = ap (λ (o : Option FuncPlacement). root_share place (slice_get pipeline.funcs place) (slice_get schedule.funcs place) o)
       (slice_get_past schedule.standings place past) ∙ by-parts (slice_get pipeline.funcs place) (slice_get schedule.funcs place)
     where
       by-parts : (func : Option Func) (plan : Option FuncPlan) → root_share place func plan None ≡ 0

@@ -15,22 +15,22 @@ use Rattle.schedule_lines.specs.declared.stages.Loop.{Loop}
 use Rattle.schedule_lines.specs.declared.stages.LoopId.TheVariants as ids
 use Rattle.schedule.specs.declared.plans.FuncPlan.{FuncPlan}
 use Rattle.schedule.specs.declared.schedules.Schedule.{Schedule}
-use Rattle.schedule.specs.declared.standings.LoopPlace.{LoopPlace}
-use Rattle.schedule.specs.declared.standings.Place.TheVariants as places
-use Rattle.schedule.specs.declared.standings.Standing.{Standing}
+use Rattle.schedule.specs.declared.placements.LoopPlace.{LoopPlace}
+use Rattle.schedule.specs.declared.placements.ComputeLevel.TheVariants as places
+use Rattle.schedule.specs.declared.placements.FuncPlacement.{FuncPlacement}
 use Rattle.schedule.specs.Accepted.{IsAccepted}
 use Rattle.schedule.specs.Uses.{IsReached}
 use Rattle.schedule_loops.specs.declared.extents.Extents.{Extents}
 use Rattle.schedule_loops.specs.Visits as loops
 use Rattle.schedule_loops.specs.Reach.{wholes}
-use Rattle.schedule_loops.specs.Runs.{AreTurns}
+use Rattle.schedule_loops.specs.Runs.{AreIterations}
 use Rattle.schedule_loops.specs.Stages.{IsStageOf, IsVisitOf}
 use Rattle.schedule_loops.specs.Visits.{upto, over_loops, visit_of}
 use Rattle.schedule_loops.proofs.FirstLoops.{plain, sound_made}
 use Rattle.schedule_loops.proofs.Ids.{with_same}
 use Rattle.schedule_loops.proofs.Nesting.{nest-append}
 use Rattle.schedule_loops.proofs.Selecting.{Unique}
-use Rattle.schedule_loops.proofs.TurnsFound.{of_all}
+use Rattle.schedule_loops.proofs.IterationsFound.{of_all}
 use Rattle.bounds_ranges.specs.Laws.{Below, AnswerWords}
 use Rattle.bounds.specs.declared.boxes.SourceBox.{SourceBox}
 use Rattle.bounds.specs.declared.verdict.Boxes.{Boxes}
@@ -46,8 +46,8 @@ use Rattle.loop_ir.specs.Buffers.{Points}
 use Rattle.loop_ir.specs.Counters.{with}
 use Rattle.loop_ir.specs.Soundness.{every, is_sound}
 use Rattle.lowering_nests.specs.Nests.{put_loops, AreSmall, Repeats}
-use Rattle.lowering_nests.proofs.Few.{few_turns}
-use Rattle.lowering.specs.Corners.{turns_for}
+use Rattle.lowering_nests.proofs.Few.{iterations_few}
+use Rattle.lowering.specs.Corners.{iterations_for}
 use Rattle.lowering.specs.Consuming.{consuming, MayTouch, IsSoundNest, HasNests, None_left, One_more, HasLoops, No_loops, One_outside}
 use Rattle.lowering.specs.Planes.{has_point, box_points}
 use Rattle.lowering.specs.PurePhases.{IsStoreOf}
@@ -57,12 +57,12 @@ use Rattle.lowering.proofs.Filling.{loops_consuming}
 use Rattle.lowering.proofs.Consumers as consumers
 use Rattle.lowering.proofs.Lists.{all_pass, all_upto}
 use Rattle.lowering.proofs.Loads.{pure_loads, update_loads}
-use Rattle.lowering.proofs.LoopTurns.{turns_with, none_outside, consuming_with, small_with, all_contained}
-use Rattle.lowering.proofs.SplitsApart.{loops_put, turns_kept}
+use Rattle.lowering.proofs.LoopIterations.{iterations_with, none_outside, consuming_with, small_with, all_contained}
+use Rattle.lowering.proofs.SplitsApart.{loops_put, iterations_kept}
 use Rattle.lowering.proofs.UpdateRuns.{all_so}
 use Rattle.lowering.proofs.Writing as writing
 
--- ---- inputs of zeros, since soundness hangs on no picture
+-- ---- inputs of zeros, since soundness depends on no picture
 
 abbrev pub dark : Planes
 dark place x y = 0
@@ -76,7 +76,7 @@ module _ (pipeline : Pipeline) where
   pub dark_words : AnswerWords pipeline.inputs (reads_of dark (pixels pipeline.funcs dark 0))
   dark_words = record { words = λ s x y lx ly. dark_word s x y; bytes = λ place input there is_bytes x y. omega arith }
 
--- each of so many turns passes
+-- each of so many iterations passes
 every_passes : (n : ℕ) (test : ℕ → Bool) → ((k : ℕ) → k < n → test k ≡ true) → every n test ≡ true
 unfolding every
 every_passes zero test all = refl
@@ -88,12 +88,12 @@ module _ (pipeline : Pipeline) (schedule : Schedule) (boxes : Boxes) (rules : Is
     (store : Stmt) (store_of : IsStoreOf pipeline schedule boxes places.Root consumer func own store)
     (reads : Reads) (words : AnswerWords pipeline.inputs reads) (written : Points) (loaded : Point → Bool)
     (inputs_load : (k x y : ℕ) → is_within (slice_get pipeline.inputs k) x y ≡ true → loaded (record { source = sources.Input k; x = x; y = y }) ≡ true)
-    (roots_load : (k : ℕ) (standing : Standing) → k < consumer → IsReached schedule.standings k standing → standing.place ≡ places.Root
+    (roots_load : (k : ℕ) (standing : FuncPlacement) → k < consumer → IsReached schedule.standings k standing → standing.place ≡ places.Root
     → (x y : ℕ) → box_points boxes.funcs k x y ≡ true → loaded (record { source = sources.Func k; x = x; y = y }) ≡ true)
-    (produced_writes : (k : ℕ) (standing : Standing) (loop : LoopPlace) → IsReached schedule.standings k standing → standing.place ≡ places.At loop
+    (produced_writes : (k : ℕ) (standing : FuncPlacement) (loop : LoopPlace) → IsReached schedule.standings k standing → standing.place ≡ places.At loop
     → loop.func ≡ consumer
     → (x y : ℕ) → box_points boxes.funcs k x y ≡ true → written k x y ≡ true)
-    (produced_loads : (k : ℕ) (standing : Standing) (loop : LoopPlace) → IsReached schedule.standings k standing → standing.place ≡ places.At loop
+    (produced_loads : (k : ℕ) (standing : FuncPlacement) (loop : LoopPlace) → IsReached schedule.standings k standing → standing.place ≡ places.At loop
     → loop.func ≡ consumer
     → (x y : ℕ) → box_points boxes.funcs k x y ≡ true → loaded (record { source = sources.Func k; x = x; y = y }) ≡ true) where
   abbrev extents : Extents
@@ -121,165 +121,165 @@ module _ (pipeline : Pipeline) (schedule : Schedule) (boxes : Boxes) (rules : Is
 
   -- ---- nests at a loop
 
-  module _ (inside : List Loop) (mid : Loop) (outside : List Loop) (loops_are : loops_in ≡ inside ++ mid ∷ outside) (turned : loops.Values)
-      (are : AreTurns counts (mid ∷ outside) turned) where
+  module _ (inside : List Loop) (mid : Loop) (outside : List Loop) (loops_are : loops_in ≡ inside ++ mid ∷ outside) (in_task : loops.Values)
+      (are : AreIterations counts (mid ∷ outside) in_task) where
     abbrev loop_here : LoopPlace
     loop_here = record { func = consumer; inside = mid.id }
 
     abbrev values : List ℕ
-    values = turns_for schedule.funcs (places.At loop_here) (consuming consumer turned)
+    values = iterations_for schedule.funcs (places.At loop_here) (consuming consumer in_task)
 
-    values_are : values ≡ values_in plan mid.id turned
-    values_are = consumers.turns_are pipeline schedule boxes rules accepted is consumer func plan own at dark begun inside mid outside loops_are turned are
+    values_are : values ≡ values_in plan mid.id in_task
+    values_are = consumers.iterations_are pipeline schedule boxes rules accepted is consumer func plan own at dark begun inside mid outside loops_are in_task are
 
     module _ (g : ℕ) (nested : Func) (nested_plan : FuncPlan) (box : SourceBox) (parts : IsComputedAt pipeline schedule boxes (places.At loop_here) g nested
         nested_plan box) where
-      below : Below (values_in plan mid.id turned) box.lasts
-      below = consumers.below pipeline schedule boxes rules accepted is consumer func plan own at dark begun inside mid outside loops_are turned are g nested
+      below : Below (values_in plan mid.id in_task) box.lasts
+      below = consumers.below pipeline schedule boxes rules accepted is consumer func plan own at dark begun inside mid outside loops_are in_task are g nested
           nested_plan box parts
 
       before : g < consumer
-      before = consumers.g_before pipeline schedule boxes rules accepted is consumer func plan own at dark begun inside mid outside loops_are turned are g
+      before = consumers.g_before pipeline schedule boxes rules accepted is consumer func plan own at dark begun inside mid outside loops_are in_task are g
           nested nested_plan box parts
 
       points_are : (x y : ℕ) → box_points boxes.funcs g x y ≡ has_point (Some box) x y
       points_are x y = ap (λ (o : Option (Option SourceBox)). has_point (box_in o) x y) parts.box_is
 
-      may : MayTouch pipeline schedule boxes consumer g nested box values reads written loaded turned
+      may : MayTouch pipeline schedule boxes consumer g nested box values reads written loaded in_task
       may = record {
         writes = λ x y e. produced_writes g parts.standing loop_here parts.there parts.placed_is refl x y (points_are x y ∙ e);
         loads = λ x y e. produced_loads g parts.standing loop_here parts.there parts.placed_is refl x y (points_are x y ∙ e);
         pure = λ corners are_corners counters counters_are x y lies.
-            let lies_here : LiesIn (values_in plan mid.id turned) box x y = subst (λ (l : List ℕ). LiesIn l box x y) values_are lies in
-            pure_loads pipeline schedule boxes rules accepted is (places.At loop_here) g nested nested_plan box before parts consumer func plan own at turned
-            (consumers.of_consumer pipeline schedule boxes rules accepted is consumer func plan own at dark begun inside mid outside loops_are turned are g
+            let lies_here : LiesIn (values_in plan mid.id in_task) box x y = subst (λ (l : List ℕ). LiesIn l box x y) values_are lies in
+            pure_loads pipeline schedule boxes rules accepted is (places.At loop_here) g nested nested_plan box before parts consumer func plan own at in_task
+            (consumers.of_consumer pipeline schedule boxes rules accepted is consumer func plan own at dark begun inside mid outside loops_are in_task are g
             nested nested_plan box parts)
             counters (λ id. ap (values_in plan id) counters_are) corners are_corners reads words loaded inputs_load
             (λ k standing earlier there root. roots_load k standing (omega (arith, earlier, before)) there root)
             (λ k w loop placed. produced_loads k w.own loop w.there placed
-            (consumers.of_consumer pipeline schedule boxes rules accepted is consumer func plan own at dark begun inside mid outside loops_are turned are g
+            (consumers.of_consumer pipeline schedule boxes rules accepted is consumer func plan own at dark begun inside mid outside loops_are in_task are g
             nested nested_plan box parts k w loop placed))
-            (values_in plan mid.id turned) below x y lies_here
+            (values_in plan mid.id in_task) below x y lies_here
             (λ k w loop placed. (
-              consumers.turns_here pipeline schedule boxes rules accepted is consumer func plan own at dark begun inside mid outside
-                  loops_are turned are,
+              consumers.iterations_here pipeline schedule boxes rules accepted is consumer func plan own at dark begun inside mid outside
+                  loops_are in_task are,
               lies_here,
             ));
         updates = λ corners are_corners counters counters_are number_at update update_is number x y few_points lies.
-            let lies_here : LiesIn (values_in plan mid.id turned) box x y = subst (λ (l : List ℕ). LiesIn l box x y) values_are lies in
-            update_loads pipeline schedule boxes rules accepted is (places.At loop_here) g nested nested_plan box before parts consumer func plan own at turned
-            (consumers.of_consumer pipeline schedule boxes rules accepted is consumer func plan own at dark begun inside mid outside loops_are turned are g
+            let lies_here : LiesIn (values_in plan mid.id in_task) box x y = subst (λ (l : List ℕ). LiesIn l box x y) values_are lies in
+            update_loads pipeline schedule boxes rules accepted is (places.At loop_here) g nested nested_plan box before parts consumer func plan own at in_task
+            (consumers.of_consumer pipeline schedule boxes rules accepted is consumer func plan own at dark begun inside mid outside loops_are in_task are g
             nested nested_plan box parts)
             counters (λ id. ap (values_in plan id) counters_are) corners are_corners reads words loaded inputs_load
             (λ k standing earlier there root. roots_load k standing (omega (arith, earlier, before)) there root)
             (λ k w loop placed. produced_loads k w.own loop w.there placed
-            (consumers.of_consumer pipeline schedule boxes rules accepted is consumer func plan own at dark begun inside mid outside loops_are turned are g
+            (consumers.of_consumer pipeline schedule boxes rules accepted is consumer func plan own at dark begun inside mid outside loops_are in_task are g
             nested nested_plan box parts k w loop placed))
-            (values_in plan mid.id turned) below x y lies_here
+            (values_in plan mid.id in_task) below x y lies_here
             (λ k w loop placed. (
-              consumers.turns_here pipeline schedule boxes rules accepted is consumer func plan own at dark begun inside mid outside
-                  loops_are turned are,
+              consumers.iterations_here pipeline schedule boxes rules accepted is consumer func plan own at dark begun inside mid outside
+                  loops_are in_task are,
               lies_here,
             ))
             number_at update update_is number few_points;
       }
 
       sound_one : (made : Stmt) → IsSoundNest pipeline schedule boxes loop_here g nested box made
-          → is_sound reads written loaded made (consuming consumer turned) ≡ true
-      sound_one made sound = sound reads words written loaded turned (subst (λ (l : List ℕ). Below l box.lasts) (sym values_are) below) may
+          → is_sound reads written loaded made (consuming consumer in_task) ≡ true
+      sound_one made sound = sound reads words written loaded in_task (subst (λ (l : List ℕ). Below l box.lasts) (sym values_are) below) may
 
     pub sound_nests : (from : ℕ) (inner body : Stmt) → HasNests pipeline schedule boxes loop_here from inner body
-        → is_sound reads written loaded inner (consuming consumer turned) ≡ true
-        → is_sound reads written loaded body (consuming consumer turned) ≡ true
+        → is_sound reads written loaded inner (consuming consumer in_task) ≡ true
+        → is_sound reads written loaded body (consuming consumer in_task) ≡ true
     sound_nests from inner _ (None_left _ _ all_seen) sound = sound
-    sound_nests from inner body (One_more _ None _ rest _ none more does) sound = does.sound reads written loaded (consuming consumer turned)
+    sound_nests from inner body (One_more _ None _ rest _ none more does) sound = does.sound reads written loaded (consuming consumer in_task)
         ∙ sound_nests (suc from) inner rest more sound
     sound_nests from inner body (One_more _ (Some first) _ rest _ nest_of more does) sound =
-        does.sound reads written loaded (consuming consumer turned)
-        ∙ and_from (is_sound reads written loaded first (consuming consumer turned)) (is_sound reads written loaded rest (consuming consumer turned))
+        does.sound reads written loaded (consuming consumer in_task)
+        ∙ and_from (is_sound reads written loaded first (consuming consumer in_task)) (is_sound reads written loaded rest (consuming consumer in_task))
         (sound_one from nest_of.func nest_of.plan nest_of.own nest_of.parts first nest_of.sound) (sound_nests (suc from) inner rest more sound)
 
   -- ---- the store of the consumer
 
-  no_turns_below : Below no_loops own.lasts
-  no_turns_below = consumers.no_turns_below pipeline schedule boxes rules accepted is consumer func plan own at dark begun store store_of
+  no_iterations_below : Below no_loops own.lasts
+  no_iterations_below = consumers.no_iterations_below pipeline schedule boxes rules accepted is consumer func plan own at dark begun store store_of
 
-  module _ (turned : loops.Values) (are : AreTurns counts loops_in turned) (good : AllByRecursion Good (wholes extents plan.pure.splits [] turned)) where
+  module _ (in_task : loops.Values) (are : AreIterations counts loops_in in_task) (good : AllByRecursion Good (wholes extents plan.pure.splits [] in_task)) where
     abbrev IsSoundAt : loops.Values → Type 0
-    IsSoundAt inner = is_sound reads written loaded store (put_loops consumer inner (consuming consumer turned)) ≡ true
+    IsSoundAt inner = is_sound reads written loaded store (put_loops consumer inner (consuming consumer in_task)) ≡ true
 
-    visited : AllByRecursion (λ inner. IsVisitOf func None extents (visit_of extents inner)) (wholes extents plan.pure.splits [] turned)
-    visited = all_so Good (λ inner. IsVisitOf func None extents (visit_of extents inner)) (λ inner g. g.0) (wholes extents plan.pure.splits [] turned) good
+    visited : AllByRecursion (λ inner. IsVisitOf func None extents (visit_of extents inner)) (wholes extents plan.pure.splits [] in_task)
+    visited = all_so Good (λ inner. IsVisitOf func None extents (visit_of extents inner)) (λ inner g. g.0) (wholes extents plan.pure.splits [] in_task) good
 
-    one_sound : (inner : loops.Values) → Contains (wholes extents plan.pure.splits [] turned) inner → IsSoundAt inner
+    one_sound : (inner : loops.Values) → Contains (wholes extents plan.pure.splits [] in_task) inner → IsSoundAt inner
     one_sound inner listed =
-        let g = of_all Good (wholes extents plan.pure.splits [] turned) good inner listed in
-        writing.sound pipeline schedule boxes rules accepted is places.Root consumer func plan own tt at store store_of dark no_loops no_turns_below
-        (consuming consumer turned) (λ i. refl) inner g.0 reads written loaded g.1
-        (pure_loads pipeline schedule boxes rules accepted is places.Root consumer func plan own tt at consumer func plan own at turned
-        (consumers.of_root pipeline schedule boxes rules accepted is consumer func plan own at dark begun store store_of turned are visited)
-        (put_loops consumer inner (consuming consumer turned)) (λ id. ap (values_in plan id) (loops_put consumer inner (consuming consumer turned))
-        ∙ turns_kept func plan.pure stage_is extents turned inner listed (inner_count id loops_in))
+        let g = of_all Good (wholes extents plan.pure.splits [] in_task) good inner listed in
+        writing.sound pipeline schedule boxes rules accepted is places.Root consumer func plan own tt at store store_of dark no_loops no_iterations_below
+        (consuming consumer in_task) (λ i. refl) inner g.0 reads written loaded g.1
+        (pure_loads pipeline schedule boxes rules accepted is places.Root consumer func plan own tt at consumer func plan own at in_task
+        (consumers.of_root pipeline schedule boxes rules accepted is consumer func plan own at dark begun store store_of in_task are visited)
+        (put_loops consumer inner (consuming consumer in_task)) (λ id. ap (values_in plan id) (loops_put consumer inner (consuming consumer in_task))
+        ∙ iterations_kept func plan.pure stage_is extents in_task inner listed (inner_count id loops_in))
         store_of.corners store_of.are_corners reads words loaded inputs_load roots_load
         (λ k w loop placed. produced_loads k w.own loop w.there placed (consumers.of_root pipeline schedule boxes rules accepted is consumer func plan own at
-        dark begun store store_of turned are visited k w loop placed))
-        no_loops no_turns_below
-        (writing.across pipeline schedule boxes rules accepted is places.Root consumer func plan own tt at store store_of dark no_loops no_turns_below
-        (consuming consumer turned) (λ i. refl) inner)
-        (writing.down pipeline schedule boxes rules accepted is places.Root consumer func plan own tt at store store_of dark no_loops no_turns_below
-        (consuming consumer turned) (λ i. refl) inner)
-        (writing.lies pipeline schedule boxes rules accepted is places.Root consumer func plan own tt at store store_of dark no_loops no_turns_below
-        (consuming consumer turned) (λ i. refl) inner g.0)
-        (λ k w loop placed. consumers.reached pipeline schedule boxes rules accepted is consumer func plan own at dark begun store store_of turned are visited
+        dark begun store store_of in_task are visited k w loop placed))
+        no_loops no_iterations_below
+        (writing.across pipeline schedule boxes rules accepted is places.Root consumer func plan own tt at store store_of dark no_loops no_iterations_below
+        (consuming consumer in_task) (λ i. refl) inner)
+        (writing.down pipeline schedule boxes rules accepted is places.Root consumer func plan own tt at store store_of dark no_loops no_iterations_below
+        (consuming consumer in_task) (λ i. refl) inner)
+        (writing.lies pipeline schedule boxes rules accepted is places.Root consumer func plan own tt at store store_of dark no_loops no_iterations_below
+        (consuming consumer in_task) (λ i. refl) inner g.0)
+        (λ k w loop placed. consumers.reached pipeline schedule boxes rules accepted is consumer func plan own at dark begun store store_of in_task are visited
         inner listed loop.inside))
 
-    sound_leaf : (leaf : Stmt) → Repeats consumer leaf store (wholes extents plan.pure.splits []) → AreSmall turned
-        → is_sound reads written loaded leaf (consuming consumer turned) ≡ true
+    sound_leaf : (leaf : Stmt) → Repeats consumer leaf store (wholes extents plan.pure.splits []) → AreSmall in_task
+        → is_sound reads written loaded leaf (consuming consumer in_task) ≡ true
     sound_leaf leaf bound small =
-        bound.sound reads written loaded (consuming consumer turned) (subst AreSmall (sym (loops_consuming consumer turned)) small)
-        ∙ ap (λ (t : loops.Values). list_all (λ inner. is_sound reads written loaded store (put_loops consumer inner (consuming consumer turned)))
-        (wholes extents plan.pure.splits [] t)) (loops_consuming consumer turned)
-        ∙ all_pass (λ inner. is_sound reads written loaded store (put_loops consumer inner (consuming consumer turned))) (wholes extents plan.pure.splits []
-        turned)
-        (all_contained IsSoundAt (wholes extents plan.pure.splits [] turned) one_sound)
+        bound.sound reads written loaded (consuming consumer in_task) (subst AreSmall (sym (loops_consuming consumer in_task)) small)
+        ∙ ap (λ (t : loops.Values). list_all (λ inner. is_sound reads written loaded store (put_loops consumer inner (consuming consumer in_task)))
+        (wholes extents plan.pure.splits [] t)) (loops_consuming consumer in_task)
+        ∙ all_pass (λ inner. is_sound reads written loaded store (put_loops consumer inner (consuming consumer in_task))) (wholes extents plan.pure.splits []
+        in_task)
+        (all_contained IsSoundAt (wholes extents plan.pure.splits [] in_task) one_sound)
 
   -- ---- loops
 
   abbrev pub AreSound : List Loop → Stmt → Type 0
-  AreSound inside made = (outside : List Loop) → loops_in ≡ inside ++ outside → (turned : loops.Values) → AreSmall turned → AreTurns counts outside turned
-      → AllByRecursion Good (wholes extents plan.pure.splits inside turned) → is_sound reads written loaded made (consuming consumer turned) ≡ true
+  AreSound inside made = (outside : List Loop) → loops_in ≡ inside ++ outside → (in_task : loops.Values) → AreSmall in_task → AreIterations counts outside in_task
+      → AllByRecursion Good (wholes extents plan.pure.splits inside in_task) → is_sound reads written loaded made (consuming consumer in_task) ≡ true
 
-  module _ (inside : List Loop) (mid : Loop) (outside : List Loop) (loops_are : loops_in ≡ inside ++ mid ∷ outside) (turned : loops.Values)
-      (small : AreSmall turned) (are : AreTurns counts outside turned) (n : ℕ) (few_so : n < counts mid.id) where
-    mid_turns : AreTurns counts (mid ∷ outside) (loops.with mid.id n turned)
-    mid_turns = (
-      subst (λ (m : ℕ). m < counts mid.id) (sym (with_same mid.id n turned)) few_so,
-      turns_with counts outside turned mid.id n (none_outside inside mid outside (subst Unique loops_are unique)) are,
+  module _ (inside : List Loop) (mid : Loop) (outside : List Loop) (loops_are : loops_in ≡ inside ++ mid ∷ outside) (in_task : loops.Values)
+      (small : AreSmall in_task) (are : AreIterations counts outside in_task) (n : ℕ) (few_so : n < counts mid.id) where
+    mid_iterations : AreIterations counts (mid ∷ outside) (loops.with mid.id n in_task)
+    mid_iterations = (
+      subst (λ (m : ℕ). m < counts mid.id) (sym (with_same mid.id n in_task)) few_so,
+      iterations_with counts outside in_task mid.id n (none_outside inside mid outside (subst Unique loops_are unique)) are,
     )
 
-    small_at : AreSmall (loops.with mid.id n turned)
-    small_at = small_with mid.id n turned (omega (
+    small_at : AreSmall (loops.with mid.id n in_task)
+    small_at = small_with mid.id n in_task (omega (
       arith,
       few_so,
-      few_turns extents plan.pure.splits (few pipeline schedule boxes consumer func plan own accepted
+      iterations_few extents plan.pure.splits (few pipeline schedule boxes consumer func plan own accepted
           is places.Root tt at) (splits pipeline schedule boxes consumer func plan own accepted is places.Root tt at) mid.id,
     )) small
 
   pub sound_loops : (leaf : Stmt) (bound : Repeats consumer leaf store (wholes extents plan.pure.splits [])) (inside : List Loop) (made : Stmt)
       → HasLoops pipeline schedule boxes consumer counts leaf inside made → AreSound inside made
-  sound_loops leaf bound _ _ No_loops outside loops_are turned small are good =
-      sound_leaf turned (subst (λ (l : List Loop). AreTurns counts l turned) (sym loops_are) are) good leaf bound small
-  sound_loops leaf bound _ made (One_outside inside mid inner body _ within nested does around run_around) outside loops_are turned small are good =
+  sound_loops leaf bound _ _ No_loops outside loops_are in_task small are good =
+      sound_leaf in_task (subst (λ (l : List Loop). AreIterations counts l in_task) (sym loops_are) are) good leaf bound small
+  sound_loops leaf bound _ made (One_outside inside mid inner body _ within nested does around run_around) outside loops_are in_task small are good =
       let further : loops_in ≡ inside ++ mid ∷ outside = loops_are ∙ append_assoc inside (mid ∷ []) outside in
-      let list_is = nest-append counts inside (mid ∷ []) (over_loops extents plan.pure.splits (λ (whole : loops.Values). whole ∷ [])) turned in
-      let seen : AllByRecursion Good (upto (counts mid.id) (λ turn. wholes extents plan.pure.splits inside (loops.with mid.id turn turned))) =
+      let list_is = nest-append counts inside (mid ∷ []) (over_loops extents plan.pure.splits (λ (whole : loops.Values). whole ∷ [])) in_task in
+      let seen : AllByRecursion Good (upto (counts mid.id) (λ iteration. wholes extents plan.pure.splits inside (loops.with mid.id iteration in_task))) =
       subst (λ (l : List loops.Values). AllByRecursion Good l) list_is good in
-      does.sound reads written loaded (consuming consumer turned)
-      ∙ every_passes (counts mid.id) (λ turn. is_sound reads written loaded body (with (record { func = consumer; id = mid.id }) turn
-      (consuming consumer turned)))
+      does.sound reads written loaded (consuming consumer in_task)
+      ∙ every_passes (counts mid.id) (λ iteration. is_sound reads written loaded body (with (record { func = consumer; id = mid.id }) iteration
+      (consuming consumer in_task)))
       (λ n l.
-      ap (is_sound reads written loaded body) (consuming_with consumer mid.id n turned)
-      ∙ sound_nests inside mid outside further (loops.with mid.id n turned) (mid_turns inside mid outside further turned small are n l) 0 inner body nested
-      (sound_loops leaf bound inside inner within (mid ∷ outside) further (loops.with mid.id n turned) (small_at inside mid outside further turned small are n
-      l) (mid_turns inside mid outside further turned small are n l)
-      (all_upto Good (λ turn. wholes extents plan.pure.splits inside (loops.with mid.id turn turned)) (counts mid.id) seen n l)))
+      ap (is_sound reads written loaded body) (consuming_with consumer mid.id n in_task)
+      ∙ sound_nests inside mid outside further (loops.with mid.id n in_task) (mid_iterations inside mid outside further in_task small are n l) 0 inner body nested
+      (sound_loops leaf bound inside inner within (mid ∷ outside) further (loops.with mid.id n in_task) (small_at inside mid outside further in_task small are n
+      l) (mid_iterations inside mid outside further in_task small are n l)
+      (all_upto Good (λ iteration. wholes extents plan.pure.splits inside (loops.with mid.id iteration in_task)) (counts mid.id) seen n l)))

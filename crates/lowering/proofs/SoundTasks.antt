@@ -16,17 +16,17 @@ use Rattle.schedule_lines.specs.declared.stages.LoopId.TheVariants as ids
 use Rattle.schedule_lines.specs.declared.stages.Stage.{Stage}
 use Rattle.schedule.specs.declared.plans.FuncPlan.{FuncPlan}
 use Rattle.schedule.specs.declared.schedules.Schedule.{Schedule}
-use Rattle.schedule.specs.declared.standings.LoopPlace.{LoopPlace}
-use Rattle.schedule.specs.declared.standings.Place.TheVariants as places
-use Rattle.schedule.specs.declared.standings.Standing.{Standing}
+use Rattle.schedule.specs.declared.placements.LoopPlace.{LoopPlace}
+use Rattle.schedule.specs.declared.placements.ComputeLevel.TheVariants as places
+use Rattle.schedule.specs.declared.placements.FuncPlacement.{FuncPlacement}
 use Rattle.schedule.specs.Accepted.{IsAccepted}
 use Rattle.schedule.specs.Legal.{is_root}
 use Rattle.schedule.specs.Uses.{IsReached}
 use Rattle.schedule_loops.specs.declared.extents.Extents.{Extents}
-use Rattle.schedule_loops.specs.Visits.{counts, Visit, zeros, visit_of, is_slice, parallel, iteration, iteration_count, count_of, owns}
+use Rattle.schedule_loops.specs.Visits.{counts, Visit, zeros, visit_of, is_slice, parallel, visits_in, iteration_count, count_of, owns}
 use Rattle.schedule_loops.specs.Visits as loops
 use Rattle.schedule_loops.specs.Reach.{wholes}
-use Rattle.schedule_loops.specs.Runs.{AreTurns}
+use Rattle.schedule_loops.specs.Runs.{AreIterations}
 use Rattle.schedule_loops.specs.Stages.{IsStageOf, KeepsRules, IsVisitOf}
 use Rattle.schedule_loops.proofs.Ids.{with_same}
 use Rattle.schedule_loops.proofs.Parallel.{outermost}
@@ -52,13 +52,13 @@ use Rattle.lowering.specs.Touching.{is_root_at, is_root_in, is_listed, may_write
 use Rattle.lowering.proofs.Facts.{staged, splits, few, produced_before}
 use Rattle.lowering.proofs.Lists.{any_map, all_map}
 use Rattle.lowering.proofs.SoundConsumers as consumers
-use Rattle.lowering.proofs.Tasks.{turned_by, inside_last, listed, before_by, small_by, all_visits}
+use Rattle.lowering.proofs.Tasks.{in_task_of, inside_last, listed, before_by, small_by, all_visits}
 use Rattle.lowering.proofs.UpdateRuns.{members, all_and, all_so}
 
 -- ---- which Funcs may be touched
 
 -- a Func at a loop of the consumer is among its private ones
-pub listed_from : (consumer at : ℕ) (standings : List Standing) (k : ℕ) (own : Standing) → slice_get standings k ≡ Some own → is_produced consumer own ≡ true
+pub listed_from : (consumer at : ℕ) (standings : List FuncPlacement) (k : ℕ) (own : FuncPlacement) → slice_get standings k ≡ Some own → is_produced consumer own ≡ true
     → is_listed (produced_from consumer at standings) (at + k) ≡ true
 listed_from consumer at [] k own there produced = absurd cc
 listed_from consumer at (first ∷ others) zero own there produced =
@@ -85,7 +85,7 @@ module _ (pipeline : Pipeline) (schedule : Schedule) (boxes : Boxes) (place : �
   own_loads x y e = ap (λ (b : Bool). cond b (owned x y) ((is_root_at schedule.standings place || is_listed private place) && box_points boxes.funcs place x y))
       (eq-eqb place place refl) ∙ e
 
-  pub roots_load : (k : ℕ) (standing : Standing) → k < place → IsReached schedule.standings k standing → standing.place ≡ places.Root
+  pub roots_load : (k : ℕ) (standing : FuncPlacement) → k < place → IsReached schedule.standings k standing → standing.place ≡ places.Root
       → (x y : ℕ) → box_points boxes.funcs k x y ≡ true → may_load pipeline schedule boxes place owned private (record {
         source = sources.Func k;
         x = x;
@@ -99,7 +99,7 @@ module _ (pipeline : Pipeline) (schedule : Schedule) (boxes : Boxes) (place : �
       (or_left (is_root_at schedule.standings k) (is_listed private k) (ap is_root_in there.standing
       ∙ and_from standing.is_reached (is_root standing.place) there.reached (ap is_root root))) e
 
-  module _ (private_is : private ≡ produced_from place 0 schedule.standings) (accepted : IsAccepted pipeline schedule) (k : ℕ) (standing : Standing)
+  module _ (private_is : private ≡ produced_from place 0 schedule.standings) (accepted : IsAccepted pipeline schedule) (k : ℕ) (standing : FuncPlacement)
       (loop : LoopPlace)
       (there : IsReached schedule.standings k standing) (placed : standing.place ≡ places.At loop) (same : loop.func ≡ place) (x y : ℕ)
       (inside : box_points boxes.funcs k x y ≡ true) where
@@ -152,16 +152,16 @@ module _ (pipeline : Pipeline) (schedule : Schedule) (boxes : Boxes) (rules : Is
     abbrev loaded : Point → Bool
     loaded = may_load pipeline schedule boxes place owned phase.private
 
-    abbrev turned : Option Loop → loops.Values
-    turned found = turned_by func extents stage facts.0 facts.1 place found number
+    abbrev in_task : Option Loop → loops.Values
+    in_task found = in_task_of func extents stage facts.0 facts.1 place found number
 
     abbrev list : List loops.Values
-    list = wholes extents stage.splits (inside_of (parallel stage) stage.loops) (turned (parallel stage))
+    list = wholes extents stage.splits (inside_of (parallel stage) stage.loops) (in_task (parallel stage))
 
     below_count : number < iteration_count extents stage
     below_count = subst (λ (n : ℕ). number < n) tasks_are below
 
-    visits_are : iteration extents stage number ≡ map (visit_of extents) list
+    visits_are : visits_in extents stage number ≡ map (visit_of extents) list
     visits_are = listed func extents stage facts.0 facts.1 place (parallel stage) refl number below_count
 
     abbrev IsVisited : loops.Values → Type 0
@@ -214,15 +214,15 @@ module _ (pipeline : Pipeline) (schedule : Schedule) (boxes : Boxes) (rules : Is
         placed same x y e)
         body.leaf body.bound (inside_of (parallel stage) stage.loops) body.inner body.looped
 
-    small : (found : Option Loop) → number < count_of (counts extents stage.splits) found → AreSmall (turned found)
+    small : (found : Option Loop) → number < count_of (counts extents stage.splits) found → AreSmall (in_task found)
     small found l =
         small_by func extents stage facts.0 facts.1 place (few pipeline schedule boxes place func plan own accepted is places.Root tt at)
         (splits pipeline schedule boxes place func plan own accepted is places.Root tt at) found number l
 
     sound_by : (found : Option Loop) → parallel stage ≡ found → number < count_of (counts extents stage.splits) found → (inner made : Stmt)
         → HasOutermost pipeline schedule boxes place found inner made
-        → AreSound (inside_of found stage.loops) inner → AllByRecursion Good (wholes extents stage.splits (inside_of found stage.loops) (turned found))
-        → is_sound reads written loaded made (consuming place (turned found)) ≡ true
+        → AreSound (inside_of found stage.loops) inner → AllByRecursion Good (wholes extents stage.splits (inside_of found stage.loops) (in_task found))
+        → is_sound reads written loaded made (consuming place (in_task found)) ≡ true
     sound_by None e l inner made same sound good =
         ap (λ (s : Stmt). is_sound reads written loaded s (consuming place zeros)) same ∙ sound [] (sym (append-nil stage.loops)) zeros (small None l) tt good
     sound_by (Some loop) e l inner made nested sound good =
@@ -230,7 +230,7 @@ module _ (pipeline : Pipeline) (schedule : Schedule) (boxes : Boxes) (rules : Is
         let inside = o.last.inside in
         let same : inside_of (Some loop) stage.loops ≡ inside = inside_last func extents stage facts.0 facts.1 place loop inside o.last.loops_are in
         let values = loops.with loop.id number zeros in
-        let turns : AreTurns (counts extents stage.splits) (loop ∷ []) values = (
+        let iterations : AreIterations (counts extents stage.splits) (loop ∷ []) values = (
           subst (λ (n : ℕ). n < counts extents stage.splits loop.id)
               (sym (with_same loop.id number zeros)) l,
           tt,
@@ -241,8 +241,8 @@ module _ (pipeline : Pipeline) (schedule : Schedule) (boxes : Boxes) (rules : Is
         placed same x y e)
         (λ k standing loop there placed same x y e. produced_loads pipeline schedule boxes place owned phase.private private_is accepted k standing loop there
         placed same x y e)
-        inside loop [] o.last.loops_are values turns 0 inner made nested
-        (subst (λ (ls : List Loop). AreSound ls inner) same sound (loop ∷ []) o.last.loops_are values (small (Some loop) l) turns
+        inside loop [] o.last.loops_are values iterations 0 inner made nested
+        (subst (λ (ls : List Loop). AreSound ls inner) same sound (loop ∷ []) o.last.loops_are values (small (Some loop) l) iterations
         (subst (λ (ls : List Loop). AllByRecursion Good (wholes extents stage.splits ls values)) same good))
 
     task_sound : is_sound reads written loaded phase.body (task_values phase.counter number) ≡ true

@@ -1,4 +1,4 @@
--- Loops that stand around splits keep their turns behind them.
+-- Loops that stand around splits keep their iterations after them.
 use Rattle.std.proofs.Common.{◌≡◌, ℕ, zero, suc, ◌<◌, ◌≤◌, Bool, true, false, cond, List, [], ◌∷◌, ◌++◌, length, Option, Some, None, refl, sym, ap, subst, ◌∙◌}
 use Rattle.std.proofs.Common.{arith, inl, inr, length-append}
 use Rattle.std.specs.Prelude.{nat_lt, slice_get, slice_index_or, Contains}
@@ -19,12 +19,12 @@ use Rattle.schedule_loops.specs.Visits.{Values, with, more_counts, whole_counts,
 use Rattle.schedule_loops.specs.Reach.{wholes}
 use Rattle.schedule_loops.specs.Stages.{IsStageOf, first_loops}
 use Rattle.schedule_loops.proofs.FirstLoops.{plain, sound}
-use Rattle.schedule_loops.proofs.Ids.{cases_id, is_old, old_apart, inner_new, outer_new, older, turned_id, with_other}
+use Rattle.schedule_loops.proofs.Ids.{cases_id, is_old, old_apart, inner_new, outer_new, older, swapped_id, with_other}
 use Rattle.schedule_loops.proofs.Making.{Sound, Stays, by_making, sound_stays, split_by, IsInner, IsOuter, IsNeither, part_of, total-append, total_parts}
 use Rattle.schedule_loops.proofs.Making.{parts_neither, bare_total}
 use Rattle.schedule_loops.proofs.Nesting.{has_id, has_same}
 use Rattle.schedule_loops.proofs.Resting.{SplitsApart}
-use Rattle.bounds_laws.specs.ConsumerLaws.{turn_of, turn_at, turns_from}
+use Rattle.bounds_laws.specs.ConsumerLaws.{iteration_of, iteration_at, iterations_from}
 use Rattle.lowering_nests.specs.Nests.{loops_of, put_loops}
 use Rattle.loop_ir.specs.Counters as counters
 
@@ -49,7 +49,7 @@ old_more place (first ∷ splits) split are own = (older place first.of are.0, o
 -- a loop of the latest split is none that was split before
 new_apart : (place : ℕ) (id : LoopId) → is_old place id ≡ false → (splits : List Split) → AreOld place splits → SplitsApart id splits
 new_apart place id new [] are = tt
-new_apart place id new (first ∷ splits) are = (turned_id first.of id (old_apart place first.of id are.0 new), new_apart place id new splits are.1)
+new_apart place id new (first ∷ splits) are = (swapped_id first.of id (old_apart place first.of id are.0 new), new_apart place id new splits are.1)
 
 apart_parted : (before : List Loop) (own : Loop) (after : List Loop) (splits : List Split) (line : SplitLine)
     → Sound (before ++ (parts own (length splits) line ++ after)) (splits ++ split_by own line ∷ [])
@@ -63,11 +63,11 @@ apart_parted before own after splits line now is =
         | IsInner e ↦ subst (λ (i : LoopId). SplitsApart i (splits ++ split_by own line ∷ [])) (sym e)
             (apart_more (ids.Inner (length splits)) splits (split_by own line) (new_apart (length splits) (ids.Inner (length splits))
             (inner_new (length splits)) splits is.olds)
-            (turned_id own.id (ids.Inner (length splits)) (old_apart (length splits) own.id (ids.Inner (length splits)) own_old (inner_new (length splits)))))
+            (swapped_id own.id (ids.Inner (length splits)) (old_apart (length splits) own.id (ids.Inner (length splits)) own_old (inner_new (length splits)))))
         | IsOuter e ↦ subst (λ (i : LoopId). SplitsApart i (splits ++ split_by own line ∷ [])) (sym e)
             (apart_more (ids.Outer (length splits)) splits (split_by own line) (new_apart (length splits) (ids.Outer (length splits))
             (outer_new (length splits)) splits is.olds)
-            (turned_id own.id (ids.Outer (length splits)) (old_apart (length splits) own.id (ids.Outer (length splits)) own_old (outer_new (length splits)))))
+            (swapped_id own.id (ids.Outer (length splits)) (old_apart (length splits) own.id (ids.Outer (length splits)) own_old (outer_new (length splits)))))
         | IsNeither d f ↦
             let sum = total_parts (has_id id) before own after (length splits) line in
             let none = parts_neither own (length splits) line id d f in
@@ -104,7 +104,7 @@ apart_stays is_update start begun =
 stage_apart : (func : Func) (stage : Stage) → IsStageOf func None stage → IsApart stage.loops stage.splits
 stage_apart func stage is = by_making IsApart (apart_stays false (first_loops func None) (sound (first_loops func None) (plain func None))) is.made
 
--- ---- what is listed behind splits
+-- ---- what is listed after splits
 
 kept_by : (id : LoopId) (split : Split) (n : ℕ) (body : Values → List Values) → ((values inner : Values) → Contains (body values) inner → inner id ≡ values id)
     → same_id id split.of ≡ false
@@ -133,23 +133,23 @@ among_at [] at l e = absurd cc
 among_at (first ∷ others) zero l e = let same : first ≡ l = cc in omega (arith, ap (λ (k : Loop). has_id l.id k) same, has_same l)
 among_at (first ∷ others) (suc at) l e = omega (arith, among_at others at l e)
 
-module _ (func : Func) (stage : Stage) (is : IsStageOf func None stage) (extents : Extents) (turns inner : Values)
-    (listed : Contains (wholes extents stage.splits [] turns) inner) where
-  same_loop : (at : ℕ) (l : Loop) → slice_get stage.loops at ≡ Some l → inner l.id ≡ turns l.id
+module _ (func : Func) (stage : Stage) (is : IsStageOf func None stage) (extents : Extents) (iterations inner : Values)
+    (listed : Contains (wholes extents stage.splits [] iterations) inner) where
+  same_loop : (at : ℕ) (l : Loop) → slice_get stage.loops at ≡ Some l → inner l.id ≡ iterations l.id
   same_loop at l e =
       kept_behind l.id stage.splits (whole_counts extents) 0 (λ whole. whole ∷ []) (λ values other there. ap (λ (v : Values). v l.id)
       (sym (one_listed values other there)))
-      ((stage_apart func stage is).apart l.id (among_at stage.loops at l e)) turns inner listed
+      ((stage_apart func stage is).apart l.id (among_at stage.loops at l e)) iterations inner listed
 
-  turn_by : (at : ℕ) (test : Bool) (found : Option Loop) → slice_get stage.loops at ≡ found
-      → cond test 0 (turn_of inner found) ≡ cond test 0 (turn_of turns found)
-  turn_by at true found e = refl
-  turn_by at false None e = refl
-  turn_by at false (Some l) e = same_loop at l e
+  iteration_by : (at : ℕ) (test : Bool) (found : Option Loop) → slice_get stage.loops at ≡ found
+      → cond test 0 (iteration_of inner found) ≡ cond test 0 (iteration_of iterations found)
+  iteration_by at true found e = refl
+  iteration_by at false None e = refl
+  iteration_by at false (Some l) e = same_loop at l e
 
-  pub turns_kept : (n : ℕ) → turns_from n inner stage.loops ≡ turns_from n turns stage.loops
-  turns_kept n =
-      let one : (at : ℕ) → turn_at n inner stage.loops at ≡ turn_at n turns stage.loops at = λ at. turn_by at (nat_lt at n) (slice_get stage.loops at) refl in
+  pub iterations_kept : (n : ℕ) → iterations_from n inner stage.loops ≡ iterations_from n iterations stage.loops
+  iterations_kept n =
+      let one : (at : ℕ) → iteration_at n inner stage.loops at ≡ iteration_at n iterations stage.loops at = λ at. iteration_by at (nat_lt at n) (slice_get stage.loops at) refl in
       rw (one 0, one 1, one 2, one 3, one 4) refl
 
 pub loops_put : (own : ℕ) (inner : Values) (values : counters.Values) → loops_of own (put_loops own inner values) ≡ inner

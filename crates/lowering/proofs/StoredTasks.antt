@@ -17,13 +17,13 @@ use Rattle.schedule_lines.specs.declared.stages.Stage.{Stage}
 use Rattle.schedule_lines.specs.Directives.{find_marked, has_mark, is_marked, same_mark}
 use Rattle.schedule.specs.declared.plans.FuncPlan.{FuncPlan}
 use Rattle.schedule.specs.declared.schedules.Schedule.{Schedule}
-use Rattle.schedule.specs.declared.standings.Place.TheVariants as places
+use Rattle.schedule.specs.declared.placements.ComputeLevel.TheVariants as places
 use Rattle.schedule.specs.Accepted.{IsAccepted}
 use Rattle.schedule_loops.specs.declared.extents.Extents.{Extents}
 use Rattle.schedule_loops.specs.Visits as loops
-use Rattle.schedule_loops.specs.Visits.{parallel, iteration, iteration_count, count_of, owns, Visit, zeros, visit_of, is_slice}
+use Rattle.schedule_loops.specs.Visits.{parallel, visits_in, iteration_count, count_of, owns, Visit, zeros, visit_of, is_slice}
 use Rattle.schedule_loops.specs.Reach.{wholes}
-use Rattle.schedule_loops.specs.Runs.{AreTurns, is_vectorized_loop, turns_of, is_vectorized_first}
+use Rattle.schedule_loops.specs.Runs.{AreIterations, is_vectorized_loop, iterations_of, is_vectorized_first}
 use Rattle.schedule_loops.specs.Stages.{IsStageOf, KeepsRules, IsVisitOf}
 use Rattle.bounds.specs.declared.boxes.SourceBox.{SourceBox}
 use Rattle.bounds.specs.declared.verdict.Boxes.{Boxes}
@@ -38,9 +38,9 @@ use Rattle.loop_ir.specs.Running.{task_values}
 use Rattle.loop_ir.specs.Runs.{stores_in_runs}
 use Rattle.loop_ir.specs.Stores.{is_stored_by, is_stored_by_task}
 use Rattle.lowering_nests.specs.Nests.{AreSmall}
-use Rattle.lowering_nests.specs.Rounds.{IsLeaf}
-use Rattle.lowering_nests.proofs.Few.{few_turns}
-use Rattle.lowering_nests.proofs.Rounds.{turns_more}
+use Rattle.lowering_nests.specs.LoopLanes.{IsLeaf}
+use Rattle.lowering_nests.proofs.Few.{iterations_few}
+use Rattle.lowering_nests.proofs.LoopLanes.{iterations_more}
 use Rattle.lowering.specs.Consuming.{HasLoops, HasOutermost, IsBody, consuming}
 use Rattle.lowering.specs.Planes.{box_points}
 use Rattle.lowering.specs.PurePhases.{IsStoreOf, inside_of, counter_of}
@@ -54,8 +54,8 @@ use Rattle.lowering.proofs.RunConsumers as runs
 use Rattle.lowering.proofs.RunLists.{none_begun, one_more}
 use Rattle.lowering.proofs.StoredConsumers.{AreWords, is_at}
 use Rattle.lowering.proofs.StoredConsumers as consumers
-use Rattle.lowering.proofs.TaskRounds.{outside_of, loops_by}
-use Rattle.lowering.proofs.Tasks.{turned_by, listed, before_by, small_by, all_visits}
+use Rattle.lowering.proofs.TaskLanes.{outside_of, loops_by}
+use Rattle.lowering.proofs.Tasks.{in_task_of, listed, before_by, small_by, all_visits}
 
 -- a loop isn't marked twice
 not_both : (own : Loop) → is_marked marks.Vectorized own ≡ true → is_marked marks.Parallel own ≡ true → ⊥
@@ -104,16 +104,16 @@ module _ (pipeline : Pipeline) (schedule : Schedule) (boxes : Boxes) (rules : Is
       (omega (arith, parts.0, first), omega (arith, parts.1, second))
 
   module _ (inputs : Planes) (number : ℕ) (below : number < phase.tasks) (x y : ℕ) where
-    abbrev turned : Option Loop → loops.Values
-    turned found = turned_by func extents stage facts.0 facts.1 place found number
+    abbrev in_task : Option Loop → loops.Values
+    in_task found = in_task_of func extents stage facts.0 facts.1 place found number
 
     abbrev list : Option Loop → List loops.Values
-    list found = wholes extents stage.splits (inside_of found stage.loops) (turned found)
+    list found = wholes extents stage.splits (inside_of found stage.loops) (in_task found)
 
     below_count : number < iteration_count extents stage
     below_count = subst (λ (n : ℕ). number < n) tasks_are below
 
-    visits_are : iteration extents stage number ≡ map (visit_of extents) (list (parallel stage))
+    visits_are : visits_in extents stage number ≡ map (visit_of extents) (list (parallel stage))
     visits_are = listed func extents stage facts.0 facts.1 place (parallel stage) refl number below_count
 
     words : AllByRecursion AreWords (list (parallel stage))
@@ -125,13 +125,13 @@ module _ (pipeline : Pipeline) (schedule : Schedule) (boxes : Boxes) (rules : Is
     owned_is : owns extents stage number x y ≡ list_any (is_at x y) (list (parallel stage))
     owned_is = ap (list_any (is_slice x y)) visits_are ∙ any_map (is_slice x y) (visit_of extents) (list (parallel stage))
 
-    small : (found : Option Loop) → number < count_of (loops.counts extents stage.splits) found → AreSmall (turned found)
+    small : (found : Option Loop) → number < count_of (loops.counts extents stage.splits) found → AreSmall (in_task found)
     small found l =
         small_by func extents stage facts.0 facts.1 place (few pipeline schedule boxes place func plan own accepted is places.Root tt at)
         (splits pipeline schedule boxes place func plan own accepted is places.Root tt at) found number l
 
     abbrev Told : Option Loop → Stmt → Type 0
-    Told found made = consumers.Told pipeline schedule boxes accepted points inputs place x y made (turned found) (list_any (is_at x y) (list found))
+    Told found made = consumers.Told pipeline schedule boxes accepted points inputs place x y made (in_task found) (list_any (is_at x y) (list found))
 
     inner_tells : (found : Option Loop) → parallel stage ≡ found → number < count_of (loops.counts extents stage.splits) found
         → AllByRecursion AreWords (list found) → Told found body.inner
@@ -141,12 +141,12 @@ module _ (pipeline : Pipeline) (schedule : Schedule) (boxes : Boxes) (rules : Is
         (splits pipeline schedule boxes place func plan own accepted is places.Root tt at) store store_of.hits body.leaf body.bound
         (inside_of found stage.loops) body.inner
         (subst (λ (o : Option Loop). HasLoops pipeline schedule boxes place (loops.counts extents stage.splits) body.leaf (inside_of o stage.loops) body.inner)
-        e body.looped) (turned found) (small found l) words_so
+        e body.looped) (in_task found) (small found l) words_so
 
     told_by : (found : Option Loop) (made : Stmt) → HasOutermost pipeline schedule boxes place found body.inner made → Told found body.inner → Told found made
     told_by None made same told = subst (Told None) (sym same) told
     told_by (Some loop) made nested told =
-        consumers.nests pipeline schedule boxes accepted points inputs place x y (record { func = place; inside = loop.id }) refl (turned (Some loop)) 0
+        consumers.nests pipeline schedule boxes accepted points inputs place x y (record { func = place; inside = loop.id }) refl (in_task (Some loop)) 0
         body.inner made nested (list_any (is_at x y) (list (Some loop))) told
 
     task_stores : (funcs : Planes) → is_stored_by_task points inputs phase number place x y funcs ≡ owns extents stage number x y
@@ -168,21 +168,21 @@ module _ (pipeline : Pipeline) (schedule : Schedule) (boxes : Boxes) (rules : Is
       unread place x y = 0
 
       abbrev now : Option Loop → loops.Values
-      now found = turned_by func extents stage facts.0 facts.1 place found number
+      now found = in_task_of func extents stage facts.0 facts.1 place found number
 
       few_so : (id : LoopId) → loops.counts extents stage.splits id < 2 ^ 25
       few_so id =
-          few_turns extents stage.splits (few pipeline schedule boxes place func plan own accepted is places.Root tt at) (splits pipeline schedule boxes place
+          iterations_few extents stage.splits (few pipeline schedule boxes place func plan own accepted is places.Root tt at) (splits pipeline schedule boxes place
           func plan own accepted is places.Root tt at) id
 
-      -- a task is a turn of the parallel loop
-      task_turns : (found : Option Loop) → number < count_of (loops.counts extents stage.splits) found
-          → AreTurns (loops.counts extents stage.splits) (outside_of place extents stage facts.1 found) (now found)
-      task_turns None l = tt
-      task_turns (Some own) l = turns_more (loops.counts extents stage.splits) own number l [] zeros tt
+      -- a task is an iteration of the parallel loop
+      task_iterations : (found : Option Loop) → number < count_of (loops.counts extents stage.splits) found
+          → AreIterations (loops.counts extents stage.splits) (outside_of place extents stage facts.1 found) (now found)
+      task_iterations None l = tt
+      task_iterations (Some own) l = iterations_more (loops.counts extents stage.splits) own number l [] zeros tt
 
       -- and no other loop has begun
-      task_alone : (found : Option Loop) → now found ≡ turns_of (outside_of place extents stage facts.1 found) (now found)
+      task_alone : (found : Option Loop) → now found ≡ iterations_of (outside_of place extents stage facts.1 found) (now found)
       task_alone None = none_begun zeros
       task_alone (Some own) = ap (loops.with own.id number) (none_begun zeros) ∙ one_more own [] number zeros
 
@@ -212,7 +212,7 @@ module _ (pipeline : Pipeline) (schedule : Schedule) (boxes : Boxes) (rules : Is
           e body.looped)
           (outside_of place extents stage facts.1 found) (loops_by place extents stage facts.1 found e) (inside_first found e) (now found)
           (small unread number below x y found l)
-          (task_turns found l) (task_alone found) words_so)
+          (task_iterations found l) (task_alone found) words_so)
 
       task_runs : stores_in_runs reads place x y (is_in_run extents stage place x y) phase.body (task_values phase.counter number) ≡ true
       task_runs =

@@ -25,7 +25,7 @@ use Rattle.loop_ir.specs.declared.statements.Stmt.TheVariants as s
 use Rattle.loop_ir.specs.Buffers.{Points, put}
 use Rattle.loop_ir.specs.Counters.{Values}
 use Rattle.loop_ir.specs.Expressions.{linear_value, loads, value, value_at}
-use Rattle.loop_ir.specs.Rounds.{all_but, all_points}
+use Rattle.loop_ir.specs.LoopLanes.{all_but, all_points}
 use Rattle.loop_ir.specs.Runs.{point_of}
 use Rattle.loop_ir.specs.Soundness.{is_sound, store_loads}
 use Rattle.loop_ir.specs.Stores.{Trace}

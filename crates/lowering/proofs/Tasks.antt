@@ -12,13 +12,13 @@ use Rattle.schedule.specs.declared.plans.FuncPlan.{FuncPlan}
 use Rattle.schedule.specs.declared.schedules.Schedule.{Schedule}
 use Rattle.schedule.specs.Accepted.{IsAccepted}
 use Rattle.schedule_loops.specs.declared.extents.Extents.{Extents}
-use Rattle.schedule_loops.specs.Visits.{AreSplits, counts, Visit, nest, over_loops, zeros, visit_of, visits, slice, is_slice, parallel, is_turn, iteration}
+use Rattle.schedule_loops.specs.Visits.{AreSplits, counts, Visit, nest, over_loops, zeros, visit_of, visits, slice, is_slice, parallel, is_iteration_of, visits_in}
 use Rattle.schedule_loops.specs.Visits.{iteration_count, count_of, owns}
 use Rattle.schedule_loops.specs.Visits as loops
 use Rattle.schedule_loops.specs.Reach.{wholes}
 use Rattle.schedule_loops.specs.Stages.{IsStageOf, KeepsRules, IsVisitOf, is_slice_of}
 use Rattle.schedule_loops.proofs.Covering.{visited}
-use Rattle.schedule_loops.proofs.Parallel.{outermost, iteration_turn, all_iterations, slice_owner}
+use Rattle.schedule_loops.proofs.Parallel.{outermost, iteration_visits, all_iterations, slice_owner}
 use Rattle.schedule_loops.proofs.Slices.{visits_within}
 use Rattle.schedule_loops.proofs.Wholes.{visits_of_wholes}
 use Rattle.bounds_ranges.specs.Laws.{AnswerWords}
@@ -31,16 +31,16 @@ use Rattle.loop_ir.specs.declared.expressions.Counter.{Counter}
 use Rattle.loop_ir.specs.declared.statements.Phase.{Phase}
 use Rattle.loop_ir.specs.declared.statements.Stmt.{Stmt}
 use Rattle.loop_ir.specs.Running.{run, task_values, run_task}
-use Rattle.lowering_nests.proofs.Few.{few_turns}
+use Rattle.lowering_nests.proofs.Few.{iterations_few}
 use Rattle.lowering.specs.Phases.{Hold, DoesTask, DoesPhase}
 use Rattle.std.proofs.Common.{◌≡◌, ℕ, suc, ◌-◌, ◌<◌, ◌≤◌, Bool, true, false, cond, List, [], ◌∷◌, ◌++◌, length, take, map, Option, Some, None, refl, sym, ap}
 use Rattle.std.proofs.Common.{subst, ◌∙◌, arith, inl, inr, true≢false, append-nil, length-append}
 use Rattle.std.proofs.lemmas.Bool.{and_parts, and_from, lt-ltb, eq-eqb, ne_eqb, eqb-true, cases_eq}
 use Rattle.halide_pipeline.specs.Pixel as pixel
-use Rattle.schedule.specs.declared.standings.Place.TheVariants as places
-use Rattle.schedule_loops.specs.Runs.{AreTurns}
+use Rattle.schedule.specs.declared.placements.ComputeLevel.TheVariants as places
+use Rattle.schedule_loops.specs.Runs.{AreIterations}
 use Rattle.schedule_loops.proofs.Ids.{with_same}
-use Rattle.schedule_loops.proofs.TurnsFound.{of_all}
+use Rattle.schedule_loops.proofs.IterationsFound.{of_all}
 use Rattle.loop_ir.specs.Counters.{Values, with}
 use Rattle.lowering_nests.specs.Nests.{AreFew, AreSmall}
 use Rattle.lowering.specs.Corners.{first_of}
@@ -52,50 +52,50 @@ use Rattle.lowering.proofs.Covered.{parts_of, point_there, slice_there}
 use Rattle.lowering.proofs.Facts.{staged, splits, fits, few}
 use Rattle.lowering.proofs.Consumers as consumers
 use Rattle.lowering.proofs.Lists.{any_map, all_map, any_gives, none_passes, none_kept, none_upto, all_upto, before_last}
-use Rattle.lowering.proofs.LoopTurns.{consuming_none, consuming_with, small_with}
+use Rattle.lowering.proofs.LoopIterations.{consuming_none, consuming_with, small_with}
 use Rattle.lowering.proofs.Offsets.{first_none}
 
 -- ---- a task's iteration
 
 module _ (func : Func) (extents : Extents) (stage : Stage) (stage_is : IsStageOf func None stage) (legal : KeepsRules stage) (place : ℕ) where
-  -- the turn of the parallel loop, where there is one
-  abbrev pub turned_by : Option Loop → ℕ → loops.Values
-  turned_by None number = zeros
-  turned_by (Some own) number = loops.with own.id number zeros
+  -- the iteration of the parallel loop, where there is one
+  abbrev pub in_task_of : Option Loop → ℕ → loops.Values
+  in_task_of None number = zeros
+  in_task_of (Some own) number = loops.with own.id number zeros
 
   -- the loops inside the last one
   pub inside_last : (own : Loop) (inside : List Loop) → stage.loops ≡ inside ++ own ∷ [] → inside_of (Some own) stage.loops ≡ inside
   inside_last own inside is = ap (λ (ls : List Loop). take (length ls - 1) ls) is ∙ before_last inside own
 
   pub listed : (found : Option Loop) → parallel stage ≡ found → (number : ℕ) → number < count_of (counts extents stage.splits) found
-      → iteration extents stage number ≡ map (visit_of extents) (wholes extents stage.splits (inside_of found stage.loops) (turned_by found number))
+      → visits_in extents stage number ≡ map (visit_of extents) (wholes extents stage.splits (inside_of found stage.loops) (in_task_of found number))
   listed None is number l =
       let first : number ≡ 0 = omega (arith, l) in
-      ap (iteration extents stage) first
-      ∙ ap (λ (p : Option Loop). nest (counts extents stage.splits) stage.loops (λ values. cond (is_turn p 0 values) (over_loops extents stage.splits
+      ap (visits_in extents stage) first
+      ∙ ap (λ (p : Option Loop). nest (counts extents stage.splits) stage.loops (λ values. cond (is_iteration_of p 0 values) (over_loops extents stage.splits
       (λ whole. visit_of extents whole ∷ []) values) []) zeros) is
       ∙ visits_of_wholes extents stage.splits stage.loops zeros
   listed (Some own) is number l =
       let o = outermost stage own legal is in
-      let turns = loops.with own.id number zeros in
-      iteration_turn func None extents stage o.last.inside own stage_is o.last.loops_are is number l
-      ∙ visits_of_wholes extents stage.splits o.last.inside turns
-      ∙ ap (λ (ls : List Loop). map (visit_of extents) (wholes extents stage.splits ls turns)) (sym (inside_last own o.last.inside o.last.loops_are))
+      let iterations = loops.with own.id number zeros in
+      iteration_visits func None extents stage o.last.inside own stage_is o.last.loops_are is number l
+      ∙ visits_of_wholes extents stage.splits o.last.inside iterations
+      ∙ ap (λ (ls : List Loop). map (visit_of extents) (wholes extents stage.splits ls iterations)) (sym (inside_last own o.last.inside o.last.loops_are))
 
   -- what counters stand at before a task
-  pub before_by : (found : Option Loop) (number : ℕ) → task_values (counter_of place found) number ≡ consuming place (turned_by found number)
+  pub before_by : (found : Option Loop) (number : ℕ) → task_values (counter_of place found) number ≡ consuming place (in_task_of found number)
   before_by None number = consuming_none place
   before_by (Some loop) number = ap (with (record { func = place; id = loop.id }) number) (consuming_none place) ∙ consuming_with place loop.id number zeros
 
   pub small_by : AreFew extents → AreSplits stage.splits → (found : Option Loop) (number : ℕ) → number < count_of (counts extents stage.splits) found
-      → AreSmall (turned_by found number)
+      → AreSmall (in_task_of found number)
   small_by few_so splits_so None number l = λ id. omega arith
-  small_by few_so splits_so (Some loop) number l = small_with loop.id number zeros (omega (arith, l, few_turns extents stage.splits few_so splits_so loop.id))
+  small_by few_so splits_so (Some loop) number l = small_with loop.id number zeros (omega (arith, l, iterations_few extents stage.splits few_so splits_so loop.id))
       (λ id. omega arith)
 
-  pub all_visits : (number : ℕ) → number < iteration_count extents stage → AllByRecursion (IsVisitOf func None extents) (iteration extents stage number)
+  pub all_visits : (number : ℕ) → number < iteration_count extents stage → AllByRecursion (IsVisitOf func None extents) (visits_in extents stage number)
   all_visits number l =
-      all_upto (IsVisitOf func None extents) (iteration extents stage) (iteration_count extents stage)
+      all_upto (IsVisitOf func None extents) (visits_in extents stage) (iteration_count extents stage)
       (subst (λ (v : List Visit). AllByRecursion (IsVisitOf func None extents) v) (all_iterations func None extents stage stage_is legal)
       (visits_within func None extents stage stage_is)) number l
 
@@ -107,13 +107,13 @@ module _ (func : Func) (extents : Extents) (stage : Stage) (stage_is : IsStageOf
       let p = and_parts (visit.x == x) (visit.y == y) here in
       ap (λ (n : ℕ). is_slice_of func None extents n y) (sym (eqb-true visit.x x p.0))
       ∙ ap (λ (n : ℕ). is_slice_of func None extents visit.x n) (sym (eqb-true visit.y y p.1)) ∙ is.slice)
-      (iteration extents stage number) (all_visits number l) e
+      (visits_in extents stage number) (all_visits number l) e
 
   owner_is : (first owner x y : ℕ) → first < iteration_count extents stage → ((n : ℕ) → n < iteration_count extents stage → (n ≡ owner → ⊥)
-      → slice x y (iteration extents stage n) ≡ []) → owns extents stage first x y ≡ true → first ≡ owner
+      → slice x y (visits_in extents stage n) ≡ []) → owns extents stage first x y ≡ true → first ≡ owner
   owner_is first owner x y l no_other e = elim (cases_eq first owner) [
     | inl same ↦ same
-    | inr other ↦ absurd (true≢false (sym e ∙ none_kept (is_slice x y) (iteration extents stage first) (no_other first l other)))
+    | inr other ↦ absurd (true≢false (sym e ∙ none_kept (is_slice x y) (visits_in extents stage first) (no_other first l other)))
   ]
 
   one_owner : (x y first second : ℕ) → first < iteration_count extents stage → second < iteration_count extents stage → owns extents stage first x y ≡ true
@@ -129,7 +129,7 @@ module _ (func : Func) (extents : Extents) (stage : Stage) (stage_is : IsStageOf
       let contains = visited func extents x y there stage stage_is fit in
       let never : list_any (is_slice x y) (visits extents stage) ≡ false =
       ap (list_any (is_slice x y)) (all_iterations func None extents stage stage_is legal)
-      ∙ none_upto (is_slice x y) (iteration extents stage) (iteration_count extents stage) none in
+      ∙ none_upto (is_slice x y) (visits_in extents stage) (iteration_count extents stage) none in
       let not_here = of_all (λ (v : Visit). is_slice x y v ≡ false) (visits extents stage) (none_passes (is_slice x y) (visits extents stage) never)
       (record { x = x; y = y; number = 0 }) contains in
       true≢false (sym (and_from (x == x) (y == y) (eq-eqb x x refl) (eq-eqb y y refl)) ∙ not_here)
@@ -188,19 +188,19 @@ module _ (pipeline : Pipeline) (schedule : Schedule) (boxes : Boxes) (rules : Is
   -- ---- a task
 
   module _ (number : ℕ) (below : number < phase.tasks) where
-    abbrev turned : loops.Values
-    turned = turned_by func extents stage stage_facts.0 stage_facts.1 place (parallel stage) number
+    abbrev in_task : loops.Values
+    in_task = in_task_of func extents stage stage_facts.0 stage_facts.1 place (parallel stage) number
 
     abbrev list : List loops.Values
-    list = wholes extents stage.splits (inside_of (parallel stage) stage.loops) turned
+    list = wholes extents stage.splits (inside_of (parallel stage) stage.loops) in_task
 
     below_count : number < iteration_count extents stage
     below_count = subst (λ (n : ℕ). number < n) tasks_are below
 
-    visits_are : iteration extents stage number ≡ map (visit_of extents) list
+    visits_are : visits_in extents stage number ≡ map (visit_of extents) list
     visits_are = listed func extents stage stage_facts.0 stage_facts.1 place (parallel stage) refl number below_count
 
-    ran : (funcs : Planes) → run_task points inputs phase number funcs ≡ run points inputs phase.body (consuming place turned) funcs
+    ran : (funcs : Planes) → run_task points inputs phase number funcs ≡ run points inputs phase.body (consuming place in_task) funcs
     ran funcs =
         ap (λ (c : Option Counter). run points inputs phase.body (task_values c number) funcs) counter_is
         ∙ ap (λ (v : Values). run points inputs phase.body v funcs) (before_by func extents stage stage_facts.0 stage_facts.1 place (parallel stage) number)
@@ -254,10 +254,10 @@ module _ (pipeline : Pipeline) (schedule : Schedule) (boxes : Boxes) (rules : Is
       done_by : (found : Option Loop) → parallel stage ≡ found → number < count_of (counts extents stage.splits) found → (inner made : Stmt)
           → HasOutermost pipeline schedule boxes place found inner made
           → DoesLoops (inside_of found stage.loops) inner
-          → AllByRecursion IsVisited (wholes extents stage.splits (inside_of found stage.loops) (turned_by func extents stage stage_facts.0 stage_facts.1 place
+          → AllByRecursion IsVisited (wholes extents stage.splits (inside_of found stage.loops) (in_task_of func extents stage stage_facts.0 stage_facts.1 place
           found number))
-          → Done (wholes extents stage.splits (inside_of found stage.loops) (turned_by func extents stage stage_facts.0 stage_facts.1 place found number))
-          (run points inputs made (consuming place (turned_by func extents stage stage_facts.0 stage_facts.1 place found number)) funcs)
+          → Done (wholes extents stage.splits (inside_of found stage.loops) (in_task_of func extents stage stage_facts.0 stage_facts.1 place found number))
+          (run points inputs made (consuming place (in_task_of func extents stage stage_facts.0 stage_facts.1 place found number)) funcs)
       done_by None e l inner made same does visited =
           let d = does [] (sym (append-nil stage.loops)) zeros (small_by func extents stage stage_facts.0 stage_facts.1 place (few pipeline schedule boxes place
           func plan own accepted is places.Root tt at) (splits pipeline schedule boxes place func plan own accepted is places.Root tt at) None number l) tt
@@ -274,27 +274,27 @@ module _ (pipeline : Pipeline) (schedule : Schedule) (boxes : Boxes) (rules : Is
           in
           let values = loops.with loop.id number zeros in
           let most : length stage.loops ≤ suc (length inside) = omega (arith, ap length o.last.loops_are, length-append inside (loop ∷ [])) in
-          let turns : AreTurns (counts extents stage.splits) (loop ∷ []) values = (
+          let iterations : AreIterations (counts extents stage.splits) (loop ∷ []) values = (
             subst (λ (n : ℕ). n < counts extents stage.splits loop.id)
                 (sym (with_same loop.id number zeros)) l,
             tt,
           ) in
-          let there = consumers.turn_there pipeline schedule boxes rules accepted is place func plan own at inputs begun store store_of inside loop inner made
+          let there = consumers.iteration_there pipeline schedule boxes rules accepted is place func plan own at inputs begun store store_of inside loop inner made
           nested (subst (λ (ls : List Loop). DoesLoops ls inner) same does) [] o.last.loops_are
           values (small_by func extents stage stage_facts.0 stage_facts.1 place (few pipeline schedule boxes place func plan own accepted is places.Root tt at)
-          (splits pipeline schedule boxes place func plan own accepted is places.Root tt at) (Some loop) number l) turns
+          (splits pipeline schedule boxes place func plan own accepted is places.Root tt at) (Some loop) number l) iterations
           (subst (λ (ls : List Loop). AllByRecursion IsVisited (wholes extents stage.splits ls values)) same visited) funcs (begins (suc (length inside))
           most values) in
-          let keeps = consumers.turn_keeps pipeline schedule boxes rules accepted is place func plan own at inputs begun store store_of inside loop inner made
+          let keeps = consumers.iteration_keeps pipeline schedule boxes rules accepted is place func plan own at inputs begun store store_of inside loop inner made
           nested (subst (λ (ls : List Loop). DoesLoops ls inner) same does) [] o.last.loops_are
           values (small_by func extents stage stage_facts.0 stage_facts.1 place (few pipeline schedule boxes place func plan own accepted is places.Root tt at)
-          (splits pipeline schedule boxes place func plan own accepted is places.Root tt at) (Some loop) number l) turns
+          (splits pipeline schedule boxes place func plan own accepted is places.Root tt at) (Some loop) number l) iterations
           (subst (λ (ls : List Loop). AllByRecursion IsVisited (wholes extents stage.splits ls values)) same visited) funcs (begins (suc (length inside))
           most values) in
           subst (λ (ls : List Loop). Done (wholes extents stage.splits ls values) (run points inputs made (consuming place values) funcs)) (sym same)
           (record { there = there; keeps = λ k x y public_so free. keeps k x y (public_outer (suc (length inside)) k public_so) free })
 
-      done : Done list (run points inputs phase.body (consuming place turned) funcs)
+      done : Done list (run points inputs phase.body (consuming place in_task) funcs)
       done = done_by (parallel stage) refl below_count body.inner phase.body body.begun inner_does all_visited
 
       task_does : (x y : ℕ) → owns extents stage number x y ≡ true → run_task points inputs phase number funcs place x y ≡ result place x y
@@ -312,7 +312,7 @@ module _ (pipeline : Pipeline) (schedule : Schedule) (boxes : Boxes) (rules : Is
         let l = parts_of pipeline schedule boxes rules accepted is places.Root place func plan own tt at visit v in
         ap (λ (n : ℕ). points place n y) (sym (eqb-true visit.x x p.0)) ∙ ap (λ (n : ℕ). points place visit.x n) (sym (eqb-true visit.y y p.1))
         ∙ point_there pipeline schedule boxes rules accepted is places.Root place func plan own tt at visit.x visit.y l.0 l.1)
-        (iteration extents stage number) (all_visits func extents stage stage_facts.0 stage_facts.1 place number below_count) e
+        (visits_in extents stage number) (all_visits func extents stage stage_facts.0 stage_facts.1 place number below_count) e
 
     task : DoesTask points is_private place start result (owns extents stage number) (run_task points inputs phase number)
     task = record { there = owned_there; does = task_does; keeps = task_keeps }

@@ -66,10 +66,10 @@ module _ (func : Func) (update : Update) where
   pub points_are : (own : SourceBox) → points_of func (Some update) (update_extents own update) ≡ points update
   points_are own =
       ap (λ (b : Bool). cond (has_variable variables.SecondReduction start) (second_extent update.second) 1 * cond b update.first.extent 1) has_reduction
-      ∙ ap (λ (n : ℕ). n * update.first.extent) second_count ∙ turned (second_extent update.second) update.first.extent
+      ∙ ap (λ (n : ℕ). n * update.first.extent) second_count ∙ swapped (second_extent update.second) update.first.extent
     where
-      turned : (a b : ℕ) → a * b ≡ b * a
-      turned a b = omega arith
+      swapped : (a b : ℕ) → a * b ≡ b * a
+      swapped a b = omega arith
 
   second_by : (first : Bool) → is_first_in_place update ≡ first → (name : List ℕ) → func.second_argument ≡ Some name → (reduction : Option Reduction)
       → update.second ≡ reduction

@@ -1,4 +1,4 @@
--- The nests of the updates of a Func at a loop, behind that of its pure definition.
+-- The nests of the updates of a Func at a loop, after that of its pure definition.
 use Rattle.std.proofs.Common.{◌≡◌, ℕ, zero, suc, ◌<◌, ◌^◌, length, List, [], ◌∷◌, Option, Some, None, refl, sym, ap, subst, ◌∙◌, arith}
 use Rattle.std.specs.Prelude.{nat_lt, slice_get, Ok}
 use Rattle.std.proofs.lemmas.Bool.{and_parts, and_from, ltb-true, lt-ltb}
@@ -10,10 +10,10 @@ use Rattle.halide_pipeline.specs.Pixel.{Planes, stage, pixels}
 use Rattle.schedule_lines.specs.declared.stages.LoopId.{LoopId}
 use Rattle.schedule.specs.declared.plans.FuncPlan.{FuncPlan}
 use Rattle.schedule.specs.declared.schedules.Schedule.{Schedule}
-use Rattle.schedule.specs.declared.standings.LoopPlace.{LoopPlace}
-use Rattle.schedule.specs.declared.standings.Place.{Place}
-use Rattle.schedule.specs.declared.standings.Place.TheVariants as places
-use Rattle.schedule.specs.declared.standings.Standing.{Standing}
+use Rattle.schedule.specs.declared.placements.LoopPlace.{LoopPlace}
+use Rattle.schedule.specs.declared.placements.ComputeLevel.{ComputeLevel}
+use Rattle.schedule.specs.declared.placements.ComputeLevel.TheVariants as places
+use Rattle.schedule.specs.declared.placements.FuncPlacement.{FuncPlacement}
 use Rattle.schedule.specs.Accepted.{IsAccepted, IsPlan, IsUpdateStage}
 use Rattle.schedule.proofs.Uses.{IsSome}
 use Rattle.schedule_loops.specs.Visits as loops
@@ -34,16 +34,16 @@ use Rattle.loop_ir.specs.Running.{run}
 use Rattle.loop_ir.specs.Soundness.{is_sound}
 use Rattle.lowering_nests.specs.Nests.{loops_of, put_loops}
 use Rattle.lowering_expressions.specs.declared.calls.Corner.{Corner}
-use Rattle.lowering.specs.Corners.{first_of, turns_for, IsCorner, AreCorners}
+use Rattle.lowering.specs.Corners.{first_of, iterations_for, IsCorner, AreCorners}
 use Rattle.lowering.specs.Consuming.{consuming, Leaves, DoesFirst, DoesNest, DoesNests, IsSoundNest}
 use Rattle.lowering.specs.Planes.{box_points}
 use Rattle.bounds.specs.Stages.{IsComputedAt}
-use Rattle.lowering.specs.Updates.{IsComputedIn, IsUpdateAt, IsCornerAt, IsBegin, ReadsPixels, LoadsOthers, DoesUpdate, AreSoundLoops, produced_turns}
+use Rattle.lowering.specs.Updates.{IsComputedIn, IsUpdateAt, IsCornerAt, IsBegin, ReadsPixels, LoadsOthers, DoesUpdate, AreSoundLoops, produced_iterations}
 use Rattle.lowering.specs.Updates.{consumer_at}
 use Rattle.lowering.specs.Updates as updates
 use Rattle.lowering.proofs.Facts as facts
 use Rattle.lowering.proofs.Facts.{is_box, produced_before}
-use Rattle.lowering.proofs.Filling.{loops_consuming, no_other_loops, loops_put_other, turns_by}
+use Rattle.lowering.proofs.Filling.{loops_consuming, no_other_loops, loops_put_other, iterations_by}
 use Rattle.lowering.proofs.Offsets.{first_small, from_first_on}
 use Rattle.lowering.proofs.Values.{corner_at}
 
@@ -88,7 +88,7 @@ module _ (pipeline : Pipeline) (schedule : Schedule) (boxes : Boxes) (accepted :
     box_is = parts.box_is;
     standing = parts.standing;
     there = parts.there;
-    computed = subst (λ (p : Place). IsComputed place p) (sym parts.placed_is) here;
+    computed = subst (λ (p : ComputeLevel). IsComputed place p) (sym parts.placed_is) here;
   }
 
   pub corner_there : (corners : List Corner) → AreCorners schedule.funcs boxes.funcs schedule.standings corners → IsSome (slice_get corners place)
@@ -101,7 +101,7 @@ module _ (pipeline : Pipeline) (schedule : Schedule) (boxes : Boxes) (accepted :
   corner_so corners are corner there =
       let c = corner_at schedule.funcs boxes.funcs schedule.standings corners place (Some own) parts.standing are parts.box_is parts.there.standing in
       let same : c.corner ≡ corner = let e = c.there in cc in
-      subst (λ (k : Corner). IsCorner schedule.funcs (places.At loop) own k) same (subst (λ (p : Place). IsCorner schedule.funcs p own c.corner) parts.placed_is
+      subst (λ (k : Corner). IsCorner schedule.funcs (places.At loop) own k) same (subst (λ (p : ComputeLevel). IsCorner schedule.funcs p own c.corner) parts.placed_is
       c.is)
 
   pub stage_there : (at : ℕ) (update : Update) → slice_get func.updates at ≡ Some update → IsSome (slice_get plan.updates at)
@@ -114,17 +114,17 @@ module _ (pipeline : Pipeline) (schedule : Schedule) (boxes : Boxes) (accepted :
   lasts_here : own.lasts ≡ lasts_of (consumer_at schedule boxes parts.standing)
   lasts_here =
       facts.lasts_are pipeline schedule boxes place func plan own accepted is (places.At loop) here parts
-      ∙ ap (λ (p : Place). lasts_of (consumer_in schedule boxes.funcs p)) (sym parts.placed_is)
+      ∙ ap (λ (p : ComputeLevel). lasts_of (consumer_in schedule boxes.funcs p)) (sym parts.placed_is)
 
   module _ (corners : List Corner) (are : AreCorners schedule.funcs boxes.funcs schedule.standings corners) (corner : Corner) (corner_is : slice_get corners
       place ≡ Some corner) where
-    -- while loops of the consumer are in these turns
-    module _ (turned : loops.Values) (below : Below (turns_for schedule.funcs (places.At loop) (consuming loop.func turned)) own.lasts) where
+    -- while loops of the consumer are in these iterations
+    module _ (in_task : loops.Values) (below : Below (iterations_for schedule.funcs (places.At loop) (consuming loop.func in_task)) own.lasts) where
       abbrev counters : Values
-      counters = consuming loop.func turned
+      counters = consuming loop.func in_task
 
       abbrev values : List ℕ
-      values = turns_for schedule.funcs (places.At loop) counters
+      values = iterations_for schedule.funcs (places.At loop) counters
 
       abbrev begin : BoxCorner
       begin = record { x = first_of own.x values; y = first_of own.y values }
@@ -132,15 +132,15 @@ module _ (pipeline : Pipeline) (schedule : Schedule) (boxes : Boxes) (accepted :
       consumer_below : Below values (lasts_of (consumer_at schedule boxes parts.standing))
       consumer_below = subst (λ (l : List ℕ). Below values l) lasts_here below
 
-      turns_so : produced_turns schedule boxes parts.standing values ≡ values
-      turns_so = values_are (consumer_at schedule boxes parts.standing) values consumer_below
+      iterations_so : produced_iterations schedule boxes parts.standing values ≡ values
+      iterations_so = values_are (consumer_at schedule boxes parts.standing) values consumer_below
 
-      below_so : Below (produced_turns schedule boxes parts.standing values) (lasts_of (consumer_at schedule boxes parts.standing))
-      below_so = subst (λ (l : List ℕ). Below l (lasts_of (consumer_at schedule boxes parts.standing))) (sym turns_so) consumer_below
+      below_so : Below (produced_iterations schedule boxes parts.standing values) (lasts_of (consumer_at schedule boxes parts.standing))
+      below_so = subst (λ (l : List ℕ). Below l (lasts_of (consumer_at schedule boxes parts.standing))) (sym iterations_so) consumer_below
 
-      begins : IsBegin (produced_turns schedule boxes parts.standing values) own begin
+      begins : IsBegin (produced_iterations schedule boxes parts.standing values) own begin
       begins =
-          subst (λ (l : List ℕ). IsBegin l own begin) (sym turns_so)
+          subst (λ (l : List ℕ). IsBegin l own begin) (sym iterations_so)
           (record {
             x = subst (λ (n : ℕ). IsFrom values own.x 0 n) (add_none (first_of own.x values) (first_small own.x values)) (from_first_on own.lasts values own.x 0
                 box_facts.x below (omega (arith, box_facts.x.ordered)));
@@ -148,20 +148,20 @@ module _ (pipeline : Pipeline) (schedule : Schedule) (boxes : Boxes) (accepted :
                 box_facts.y below (omega (arith, box_facts.y.ordered)));
           })
 
-      turns_stay : (inner : loops.Values) → turns_for schedule.funcs (places.At loop) (put_loops place inner counters) ≡ values
-      turns_stay inner = turns_by loop (slice_get schedule.funcs loop.func) (put_loops place inner counters) counters (loops_put_other place loop.func inner
+      iterations_stay : (inner : loops.Values) → iterations_for schedule.funcs (places.At loop) (put_loops place inner counters) ≡ values
+      iterations_stay inner = iterations_by loop (slice_get schedule.funcs loop.func) (put_loops place inner counters) counters (loops_put_other place loop.func inner
           counters (λ e. omega (arith, e, here)))
 
       begins_at : IsCornerAt place counters corner begin
       begins_at inner =
           let c = corner_so corners are corner corner_is (put_loops place inner counters) in
-          (c.0 ∙ ap (first_of own.x) (turns_stay inner), c.1 ∙ ap (first_of own.y) (turns_stay inner))
+          (c.0 ∙ ap (first_of own.x) (iterations_stay inner), c.1 ∙ ap (first_of own.y) (iterations_stay inner))
 
-      loops_stay : (inner : loops.Values) → loops_of loop.func (put_loops place inner counters) ≡ turned
-      loops_stay inner = loops_put_other place loop.func inner counters (λ e. omega (arith, e, here)) ∙ loops_consuming loop.func turned
+      loops_stay : (inner : loops.Values) → loops_of loop.func (put_loops place inner counters) ≡ in_task
+      loops_stay inner = loops_put_other place loop.func inner counters (λ e. omega (arith, e, here)) ∙ loops_consuming loop.func in_task
 
       not_begun : (id : LoopId) → loops_of place counters id ≡ 0
-      not_begun id = ap (λ (t : loops.Values). t id) (no_other_loops loop.func place turned (λ e. omega (arith, e, here)))
+      not_begun id = ap (λ (t : loops.Values). t id) (no_other_loops loop.func place in_task (λ e. omega (arith, e, here)))
 
     module _ (at : ℕ) (update : Update) (update_is : slice_get func.updates at ≡ Some update) (first next made : Stmt) (both : DoesFirst (Some first) next made)
       where
@@ -169,28 +169,28 @@ module _ (pipeline : Pipeline) (schedule : Schedule) (boxes : Boxes) (accepted :
             → DoesUpdate pipeline schedule boxes corners place func corner own at
             update next
             → DoesNests pipeline schedule boxes loop place func own (suc at) made
-        one_more_stage does goes_on inputs begun turned below funcs answered all_answered =
+        one_more_stage does goes_on inputs begun in_task below funcs answered all_answered =
             let points = box_points boxes.funcs in
-            let between = run points inputs first (counters turned below) funcs in
-            let left : Leaves place own (values turned below) (stage place func inputs (pixels pipeline.funcs inputs place) at) funcs between =
-            does inputs begun turned below funcs answered all_answered in
-            let reads : ReadsPixels pipeline schedule corners place update (values turned below) own inputs (counters turned below) between =
+            let between = run points inputs first (counters in_task below) funcs in
+            let left : Leaves place own (values in_task below) (stage place func inputs (pixels pipeline.funcs inputs place) at) funcs between =
+            does inputs begun in_task below funcs answered all_answered in
+            let reads : ReadsPixels pipeline schedule corners place update (values in_task below) own inputs (counters in_task below) between =
             λ inner number x y few lies plane words.
-            all_answered corners are (put_loops place inner (counters turned below)) (loops_stay turned below inner) between left.keeps at update update_is
+            all_answered corners are (put_loops place inner (counters in_task below)) (loops_stay in_task below inner) between left.keeps at update update_is
             number
             x y few lies plane words in
-            let after : updates.Leaves place own (updates.stage_from pipeline inputs place func (begin turned below) (suc at)) between
-            (run points inputs next (counters turned below) between) =
-            goes_on inputs begun parts.standing parts.there (values turned below) (below_so turned below) (begin turned below) (begins turned below)
-            (counters turned below) (begins_at turned below) (not_begun turned below) between
-            (subst (λ (l : List ℕ). ReadsPixels pipeline schedule corners place update l own inputs (counters turned below) between)
-            (sym (turns_so turned below))
+            let after : updates.Leaves place own (updates.stage_from pipeline inputs place func (begin in_task below) (suc at)) between
+            (run points inputs next (counters in_task below) between) =
+            goes_on inputs begun parts.standing parts.there (values in_task below) (below_so in_task below) (begin in_task below) (begins in_task below)
+            (counters in_task below) (begins_at in_task below) (not_begun in_task below) between
+            (subst (λ (l : List ℕ). ReadsPixels pipeline schedule corners place update l own inputs (counters in_task below) between)
+            (sym (iterations_so in_task below))
             reads)
             (λ x y there.
             let p = and_parts (nat_lt x (extent own.x)) (nat_lt y (extent own.y)) there in
             left.holds x y (ltb-true x (extent own.x) p.0) (ltb-true y (extent own.y) p.1)) in
-            let ran : run points inputs made (counters turned below) funcs ≡ run points inputs next (counters turned below) between =
-            both.runs points inputs (counters turned below) funcs in
+            let ran : run points inputs made (counters in_task below) funcs ≡ run points inputs next (counters in_task below) between =
+            both.runs points inputs (counters in_task below) funcs in
             record {
               holds = λ x y lx ly.
                   ap (λ (f : Planes). f place x y) ran
@@ -202,30 +202,30 @@ module _ (pipeline : Pipeline) (schedule : Schedule) (boxes : Boxes) (accepted :
             → AreSoundLoops pipeline schedule boxes corners place corner own update
             next
             → IsSoundNest pipeline schedule boxes loop place func own made
-        one_more_sound first_sound next_sound reads words written loaded turned below may =
-            let loads : LoadsOthers pipeline schedule corners place update (values turned below) own reads loaded (counters turned below) =
+        one_more_sound first_sound next_sound reads words written loaded in_task below may =
+            let loads : LoadsOthers pipeline schedule corners place update (values in_task below) own reads loaded (counters in_task below) =
             λ inner number x y few lies.
-            may.updates corners are (put_loops place inner (counters turned below)) (loops_stay turned below inner) at update update_is number x y few lies in
-            both.sound reads written loaded (counters turned below)
-            ∙ and_from (is_sound reads written loaded first (counters turned below)) (is_sound reads written loaded next (counters turned below))
-            (first_sound reads words written loaded turned below may)
-            (next_sound reads words written loaded may.writes may.loads parts.standing parts.there (values turned below) (below_so turned below)
-            (begin turned below) (begins turned below) (counters turned below)
-            (begins_at turned below) (not_begun turned below) (subst (λ (l : List ℕ). LoadsOthers pipeline schedule corners place update l own reads loaded
-            (counters turned below)) (sym (turns_so turned below)) loads))
+            may.updates corners are (put_loops place inner (counters in_task below)) (loops_stay in_task below inner) at update update_is number x y few lies in
+            both.sound reads written loaded (counters in_task below)
+            ∙ and_from (is_sound reads written loaded first (counters in_task below)) (is_sound reads written loaded next (counters in_task below))
+            (first_sound reads words written loaded in_task below may)
+            (next_sound reads words written loaded may.writes may.loads parts.standing parts.there (values in_task below) (below_so in_task below)
+            (begin in_task below) (begins in_task below) (counters in_task below)
+            (begins_at in_task below) (not_begun in_task below) (subst (λ (l : List ℕ). LoadsOthers pipeline schedule corners place update l own reads loaded
+            (counters in_task below)) (sym (iterations_so in_task below)) loads))
 
   -- the pure definition alone
   pub pure_stage : (made : Stmt) → DoesNest pipeline schedule boxes loop place func own 0 made → DoesNests pipeline schedule boxes loop place func own 0 made
-  pure_stage made does inputs begun turned below funcs answered all_answered = does inputs turned below funcs answered
+  pure_stage made does inputs begun in_task below funcs answered all_answered = does inputs in_task below funcs answered
 
 -- ---- for the code
 
-pub same_corners : (plans plans' : List FuncPlan) (own own' : List (Option SourceBox)) (standings standings' : List Standing) (corners : List Corner)
+pub same_corners : (plans plans' : List FuncPlan) (own own' : List (Option SourceBox)) (standings standings' : List FuncPlacement) (corners : List Corner)
     → plans' ≡ plans → own' ≡ own → standings' ≡ standings
     → AreCorners plans' own' standings' corners → AreCorners plans own standings corners
 same_corners plans plans' own own' standings standings' corners p o s are =
     subst (λ (l : List FuncPlan). AreCorners l own standings corners) p (subst (λ (l : List (Option SourceBox)). AreCorners plans' l standings corners) o
-    (subst (λ (l : List Standing). AreCorners plans' own' l corners) s are))
+    (subst (λ (l : List FuncPlacement). AreCorners plans' own' l corners) s are))
 
 pub nothing_there : {A : Type 0} (found : Option A) → IsSome found → None ≡ found → ⊥
 nothing_there found some e = let is = some.is in absurd cc

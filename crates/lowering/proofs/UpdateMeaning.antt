@@ -19,11 +19,11 @@ use Rattle.halide_pipeline.specs.Pixel.{Plane, Planes, Reads, value, variable, r
 use Rattle.halide_pipeline.specs.Points.{Point, Seen, AgreeAt, Agree}
 use Rattle.halide_pipeline.proofs.Seeing.{all_parts}
 use Rattle.schedule.specs.declared.schedules.Schedule.{Schedule}
-use Rattle.schedule.specs.declared.standings.Place.{Place}
-use Rattle.schedule.specs.declared.standings.Place.TheVariants as places
-use Rattle.schedule.specs.declared.standings.Standing.{Standing}
+use Rattle.schedule.specs.declared.placements.ComputeLevel.{ComputeLevel}
+use Rattle.schedule.specs.declared.placements.ComputeLevel.TheVariants as places
+use Rattle.schedule.specs.declared.placements.FuncPlacement.{FuncPlacement}
 use Rattle.schedule.specs.Accepted.{IsAccepted}
-use Rattle.schedule.specs.Standing.{calls, second_calls, update_calls, updates_call, func_calls, place_calls, place_calls_of}
+use Rattle.schedule.specs.Placements.{calls, second_calls, update_calls, updates_call, func_calls, place_calls, place_calls_of}
 use Rattle.schedule.specs.Legal.{is_inlined}
 use Rattle.schedule.specs.Uses.{IsReached}
 use Rattle.bounds_inlining.specs.Inlining.{inlined, is_computed}
@@ -41,7 +41,7 @@ use Rattle.lowering.specs.Updates.{index_of}
 use Rattle.lowering.proofs.Used.{same_value}
 
 -- a Func that is computed isn't inlined
-not_inlined : (func : ℕ) (place : Place) → IsComputed func place → is_inlined place ≡ false
+not_inlined : (func : ℕ) (place : ComputeLevel) → IsComputed func place → is_inlined place ≡ false
 not_inlined func places.Root c = refl
 not_inlined func (places.At at) c = refl
 not_inlined func places.Inlined c = absurd c
@@ -89,7 +89,7 @@ module _ (update : Update) (first_rule : (is_first_in_place update || not (is_us
 -- ---- the update of a Func
 
 module _ (pipeline : Pipeline) (schedule : Schedule) (rules : IsWellFormed pipeline) (accepted : IsAccepted pipeline schedule)
-    (place : ℕ) (func : Func) (func_is : slice_get pipeline.funcs place ≡ Some func) (standing : Standing) (there : IsReached schedule.standings place standing)
+    (place : ℕ) (func : Func) (func_is : slice_get pipeline.funcs place ≡ Some func) (standing : FuncPlacement) (there : IsReached schedule.standings place standing)
     (computed : IsComputed place standing.place)
     (at : ℕ) (update : Update) (update_is : slice_get func.updates at ≡ Some update)
     (inputs : Planes) (begun : AnswerWords pipeline.inputs (reads_of inputs (pixels pipeline.funcs inputs 0))) where

@@ -16,7 +16,7 @@ use Rattle.schedule_lines.specs.declared.stages.LoopId.TheVariants as ids
 use Rattle.schedule_lines.specs.declared.stages.Stage.{Stage}
 use Rattle.schedule.specs.declared.plans.FuncPlan.{FuncPlan}
 use Rattle.schedule.specs.declared.schedules.Schedule.{Schedule}
-use Rattle.schedule.specs.declared.standings.Standing.{Standing}
+use Rattle.schedule.specs.declared.placements.FuncPlacement.{FuncPlacement}
 use Rattle.schedule.specs.Accepted.{IsAccepted}
 use Rattle.schedule_loops.specs.declared.extents.Extents.{Extents}
 use Rattle.schedule_loops.specs.Visits as loops
@@ -100,14 +100,14 @@ module _ (pipeline : Pipeline) (schedule : Schedule) (boxes : Boxes) (rules : Is
   own_read inputs begin values corner_is inner buffers a b = rw (corner_there, (corner_is inner).0, (corner_is inner).1) refl
 
   pub does_nest : DoesUpdate pipeline schedule boxes corners place func corner own at update made
-  does_nest inputs begun standing there turns below begin begins values corner_is not_begun funcs reads_others holds =
+  does_nest inputs begun standing there iterations below begin begins values corner_is not_begun funcs reads_others holds =
       record {
         does = λ i j e. ap (λ (f : Planes). f place i j) ran ∙ left i j e;
         keeps = λ other i j free. ap (λ (f : Planes). f other i j) ran ∙ kept other i j free;
       }
     where
       computed : IsComputed place standing.place
-      computed = subst (λ (s : Standing). IsComputed place s.place) (one_standing schedule.standings place at_it.standing standing at_it.there.standing
+      computed = subst (λ (s : FuncPlacement). IsComputed place s.place) (one_standing schedule.standings place at_it.standing standing at_it.there.standing
           there.standing) at_it.computed
 
       begun_none : loops_of place values ≡ zeros
@@ -130,31 +130,31 @@ module _ (pipeline : Pipeline) (schedule : Schedule) (boxes : Boxes) (rules : Is
           place i j ≡ stage_from pipeline inputs place func begin (suc at) i j
       left i j e =
           leaves pipeline schedule boxes rules accepted is place func own at_it.func_is at_it.box_is standing there computed at update it.update_is inputs begun
-          turns below begin begins corners values corner corner_is reads_own
+          iterations below begin begins corners values corner corner_is reads_own
           store stores funcs reads_others list all_visits reduced in_all (λ i j e. e) closed in_order holds i j e
 
       kept : (other i j : ℕ) → (other ≡ place → has_point (Some own) i j ≡ false)
           → all (λ inner. run (box_points boxes.funcs) inputs store (put_loops place inner values)) list funcs other i j ≡ funcs other i j
       kept other i j free =
           stays pipeline schedule boxes rules accepted is place func own at_it.func_is at_it.box_is standing there computed at update it.update_is inputs begun
-          turns below begin begins corners values corner corner_is reads_own
+          iterations below begin begins corners values corner corner_is reads_own
           store stores funcs reads_others list all_visits reduced in_all (λ i j e. e) closed in_order holds other i j free
 
   -- ---- what it touches
 
   pub sound_nest : IsSoundUpdate corners (flags pipeline schedule) pipeline.funcs place corner update store
       → AreSoundLoops pipeline schedule boxes corners place corner own update made
-  sound_nest sound reads words written loaded writes loads standing there turns below begin begins values corner_is not_begun others =
+  sound_nest sound reads words written loaded writes loads standing there iterations below begin begins values corner_is not_begun others =
       repeats.sound reads written loaded values (λ id. omega (arith, not_begun id))
       ∙ ap (λ (t : loops.Values). list_all (λ inner. is_sound reads written loaded store (put_loops place inner values)) (wholes extents stage.splits
       stage.loops t)) (fun_ext not_begun)
       ∙ all_pass (λ inner. is_sound reads written loaded store (put_loops place inner values)) list
-      (all_sound pipeline schedule boxes rules is place func own at_it.func_is at_it.box_is standing there computed at update it.update_is turns below begin
+      (all_sound pipeline schedule boxes rules is place func own at_it.func_is at_it.box_is standing there computed at update it.update_is iterations below begin
       begins corners values corner corner_is store sound
       reads words written loaded own_placed others in_all writes loads list all_visits reduced closed)
     where
       computed : IsComputed place standing.place
-      computed = subst (λ (s : Standing). IsComputed place s.place) (one_standing schedule.standings place at_it.standing standing at_it.there.standing
+      computed = subst (λ (s : FuncPlacement). IsComputed place s.place) (one_standing schedule.standings place at_it.standing standing at_it.there.standing
           there.standing) at_it.computed
 
       own_placed : (inner : loops.Values) (a b : ℕ) → place_in corners (put_loops place inner values) (record { source = sources.Func place; x = a; y = b })

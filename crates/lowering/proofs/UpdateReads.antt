@@ -16,10 +16,10 @@ use Rattle.halide_pipeline.specs.Points.{Point}
 use Rattle.schedule_lines.specs.declared.stages.Stage.{Stage}
 use Rattle.schedule.specs.declared.plans.FuncPlan.{FuncPlan}
 use Rattle.schedule.specs.declared.schedules.Schedule.{Schedule}
-use Rattle.schedule.specs.declared.standings.LoopPlace.{LoopPlace}
-use Rattle.schedule.specs.declared.standings.Place.{Place}
-use Rattle.schedule.specs.declared.standings.Place.TheVariants as places
-use Rattle.schedule.specs.declared.standings.Standing.{Standing}
+use Rattle.schedule.specs.declared.placements.LoopPlace.{LoopPlace}
+use Rattle.schedule.specs.declared.placements.ComputeLevel.{ComputeLevel}
+use Rattle.schedule.specs.declared.placements.ComputeLevel.TheVariants as places
+use Rattle.schedule.specs.declared.placements.FuncPlacement.{FuncPlacement}
 use Rattle.schedule.specs.Accepted.{IsAccepted, IsPlan, IsLegal, IsProduced}
 use Rattle.schedule.specs.Legal.{is_inlined, is_nowhere}
 use Rattle.schedule.specs.Uses.{IsReached}
@@ -76,7 +76,7 @@ module _ (pipeline : Pipeline) (schedule : Schedule) (accepted : IsAccepted pipe
       no_stage plan.updates at stage stage_is (ap (λ (p : FuncPlan). length p.updates) (sym plan_same) ∙ h.no_updates)
 
   -- So nothing that is computed at a loop is read by a root that consumers none.
-  pub none_within : (place : ℕ) (its : Standing) → IsReached schedule.standings place its → its.place ≡ places.Root → ConsumersNone schedule.standings place
+  pub none_within : (place : ℕ) (its : FuncPlacement) → IsReached schedule.standings place its → its.place ≡ places.Root → ConsumersNone schedule.standings place
       → (k : ℕ) (w : IsReadWithin schedule place k) (consumer : LoopPlace) → w.own.place ≡ places.At consumer → ⊥
   none_within place its there root none k w consumer e = by_stand (w.within consumer e)
     where
@@ -84,7 +84,7 @@ module _ (pipeline : Pipeline) (schedule : Schedule) (accepted : IsAccepted pipe
       by_stand (HasLoop same) = none k w.own consumer w.there e (sym same)
       by_stand (IsWithin standing other there_too other_place inside) =
           let same = one_standing schedule.standings place standing its there_too.standing there.standing in
-          let wrong : places.At other ≡ places.Root = sym other_place ∙ ap (λ (s : Standing). s.place) same ∙ root in
+          let wrong : places.At other ≡ places.Root = sym other_place ∙ ap (λ (s : FuncPlacement). s.place) same ∙ root in
           cc
 
   pub roots_are_shared : RootsAreShared schedule.standings (is_private schedule.standings)
@@ -102,7 +102,7 @@ module _ (pipeline : Pipeline) (schedule : Schedule) (boxes : Boxes) (rules : Is
     (hold : (k x y : ℕ) → (k ≡ place → ⊥) → is_private schedule.standings k ≡ false → box_points boxes.funcs k x y ≡ true
     → buffers k x y ≡ held boxes.funcs (pixels pipeline.funcs inputs place) k x y) where
   computed : IsComputed place at.standing.place
-  computed = subst (λ (p : Place). IsComputed place p) (sym at.placed_is) tt
+  computed = subst (λ (p : ComputeLevel). IsComputed place p) (sym at.placed_is) tt
 
   plain : flagged (flags_of schedule.standings) place ≡ false
   plain = flag_is schedule.standings place at.standing at.there.standing ∙ ap is_inlined at.placed_is
@@ -112,13 +112,13 @@ module _ (pipeline : Pipeline) (schedule : Schedule) (boxes : Boxes) (rules : Is
 
   -- ---- which Funcs are read
 
-  somewhere : (k : ℕ) → k < place → (standing : Standing) → IsReached schedule.standings k standing → is_nowhere standing.place ≡ false
+  somewhere : (k : ℕ) → k < place → (standing : FuncPlacement) → IsReached schedule.standings k standing → is_nowhere standing.place ≡ false
   somewhere k earlier standing there =
       let f = some_before pipeline.funcs place k func at.func_is earlier in
       let p = pair_there IsPlan pipeline.funcs schedule.funcs k f.value accepted.plans f.is in
       (pair_at IsLegal schedule.funcs schedule.standings k p.value standing accepted.legal p.is there.standing there.reached).somewhere
 
-  root_read : (k : ℕ) (w : IsReadWithin schedule place k) → flagged (flags_of schedule.standings) k ≡ false → (p : Place) → w.own.place ≡ p → p ≡ places.Root
+  root_read : (k : ℕ) (w : IsReadWithin schedule place k) → flagged (flags_of schedule.standings) k ≡ false → (p : ComputeLevel) → w.own.place ≡ p → p ≡ places.Root
   root_read k w unflagged places.Root e = refl
   root_read k w unflagged (places.At consumer) e = absurd (none_within pipeline schedule accepted place at.standing at.there at.placed_is none_produced k w
       consumer e)
@@ -134,7 +134,7 @@ module _ (pipeline : Pipeline) (schedule : Schedule) (boxes : Boxes) (rules : Is
   wanted = reads_of inputs (pixels pipeline.funcs inputs place)
 
   module _ (inner : loops.Values) where
-    found_in : (k a b : ℕ) (box : SourceBox) (sought : Standing) → slice_get schedule.standings k ≡ Some sought → sought.place ≡ places.Root
+    found_in : (k a b : ℕ) (box : SourceBox) (sought : FuncPlacement) → slice_get schedule.standings k ≡ Some sought → sought.place ≡ places.Root
         → slice_get boxes.funcs k ≡ Some (Some box) → LiesIn no_loops box a b → box.lasts ≡ no_loops → is_private schedule.standings k ≡ false → k < place
         → found inner (sources.Func k) a b ≡ wanted (sources.Func k) a b
     unfolding placed
@@ -155,16 +155,16 @@ module _ (pipeline : Pipeline) (schedule : Schedule) (boxes : Boxes) (rules : Is
         ∙ ap (λ (n : ℕ). pixels pipeline.funcs inputs place k n (word.add (word_at box.y.low) j)) (offset_back box.x a first)
         ∙ ap (λ (n : ℕ). pixels pipeline.funcs inputs place k a n) (offset_back box.y b second)
 
-    lasts_at : (k : ℕ) (sought : Standing) → IsReached schedule.standings k sought → sought.place ≡ places.Root → (box : SourceBox)
+    lasts_at : (k : ℕ) (sought : FuncPlacement) → IsReached schedule.standings k sought → sought.place ≡ places.Root → (box : SourceBox)
         → slice_get boxes.funcs k ≡ Some (Some box) → box.lasts ≡ no_loops
     lasts_at k sought there root box box_is =
-        (boxes_are_produced pipeline schedule boxes is k sought there.standing there.reached (subst (λ (p : Place). IsComputed k p) (sym root) tt) box
+        (boxes_are_produced pipeline schedule boxes is k sought there.standing there.reached (subst (λ (p : ComputeLevel). IsComputed k p) (sym root) tt) box
         box_is).lasts
-        ∙ ap (λ (p : Place). lasts_of (consumer_in schedule boxes.funcs p)) root
+        ∙ ap (λ (p : ComputeLevel). lasts_of (consumer_in schedule boxes.funcs p)) root
 
     -- what is known of points that are read
     record AreRead (list : List Point) : Type 0 where
-      funcs : (k : ℕ) (sought : Standing) → k < place → IsReached schedule.standings k sought → sought.place ≡ places.Root
+      funcs : (k : ℕ) (sought : FuncPlacement) → k < place → IsReached schedule.standings k sought → sought.place ≡ places.Root
           → AreBoxed no_loops (sources.Func k) (slice_get boxes.funcs k) list
       through : AreReadThrough pipeline schedule.standings place (suc place) list
 
@@ -210,7 +210,7 @@ module _ (pipeline : Pipeline) (schedule : Schedule) (boxes : Boxes) (rules : Is
             let near = points_are_near own (is_box pipeline schedule boxes place func plan own accepted is at) no_loops below x y lies in
             update_reads_of_funcs_lie pipeline schedule boxes rules is place func own at.func_is at.box_is number_at update it.update_is k sought earlier
             there.standing there.reached
-            (subst (λ (p : Place). IsComputed k p) (sym root) tt) None (ap (λ (p : Place). consumer_in schedule boxes.funcs p) root) own refl reads words
+            (subst (λ (p : ComputeLevel). IsComputed k p) (sym root) tt) None (ap (λ (p : ComputeLevel). consumer_in schedule boxes.funcs p) root) own refl reads words
             no_loops below no_below x y lies near.0 near.1 number few;
         through = update_points_are_read_through pipeline schedule rules place func at.func_is plain number_at update it.update_is reads number x y;
       }

@@ -11,7 +11,7 @@ use Rattle.halide_pipeline.specs.Words as word
 use Rattle.halide_pipeline.specs.Pixel.{Plane, Planes, reads_of, pixels, stage, points, after, after_all}
 use Rattle.schedule_lines.specs.declared.stages.LoopId.TheVariants as ids
 use Rattle.schedule.specs.declared.schedules.Schedule.{Schedule}
-use Rattle.schedule.specs.declared.standings.Standing.{Standing}
+use Rattle.schedule.specs.declared.placements.FuncPlacement.{FuncPlacement}
 use Rattle.schedule.specs.Accepted.{IsAccepted}
 use Rattle.schedule.specs.Uses.{IsReached}
 use Rattle.schedule_loops.specs.declared.extents.Extents.{Extents}
@@ -34,7 +34,7 @@ use Rattle.lowering_expressions.specs.declared.calls.Corner.{Corner}
 use Rattle.lowering.specs.Planes.{has_point, box_points}
 use Rattle.bounds.specs.Extents.{BoxCorner, update_extents}
 use Rattle.bounds.specs.Stages.{named_point, is_point}
-use Rattle.lowering.specs.Updates.{StoresUpdate, HitsUpdate, is_visited, IsCornerAt, IsBegin, ReadsPixels, consumer_at, produced_turns, stage_from}
+use Rattle.lowering.specs.Updates.{StoresUpdate, HitsUpdate, is_visited, IsCornerAt, IsBegin, ReadsPixels, consumer_at, produced_iterations, stage_from}
 use Rattle.lowering.proofs.Lists.{any_gives, all_map}
 use Rattle.lowering.proofs.Slices.{Goes, Gone, Marks, slices_go, slices_mark}
 use Rattle.lowering.proofs.UpdateSteps.{ReadsOwn, from_begin, column_in, row_in, step, goes, marks, named_inside}
@@ -67,15 +67,15 @@ members {A} (x ∷ xs) = (
 module _ (pipeline : Pipeline) (schedule : Schedule) (boxes : Boxes) (rules : IsWellFormed pipeline) (accepted : IsAccepted pipeline schedule)
     (is : inferred pipeline schedule ≡ Ok boxes)
     (place : ℕ) (func : Func) (own : SourceBox) (func_is : slice_get pipeline.funcs place ≡ Some func) (box_is : slice_get boxes.funcs place ≡ Some (Some own))
-    (standing : Standing) (there : IsReached schedule.standings place standing) (computed : IsComputed place standing.place)
+    (standing : FuncPlacement) (there : IsReached schedule.standings place standing) (computed : IsComputed place standing.place)
     (at : ℕ) (update : Update) (update_is : slice_get func.updates at ≡ Some update)
     (inputs : Planes) (begun : AnswerWords pipeline.inputs (reads_of inputs (pixels pipeline.funcs inputs 0)))
-    (turns : List ℕ) (below : Below (produced_turns schedule boxes standing turns) (lasts_of (consumer_at schedule boxes standing)))
-    (begin : BoxCorner) (begins : IsBegin (produced_turns schedule boxes standing turns) own begin)
+    (iterations : List ℕ) (below : Below (produced_iterations schedule boxes standing iterations) (lasts_of (consumer_at schedule boxes standing)))
+    (begin : BoxCorner) (begins : IsBegin (produced_iterations schedule boxes standing iterations) own begin)
     (corners : List Corner) (before : Values) (corner : Corner) (corner_is : IsCornerAt place before corner begin) (reads_own : ReadsOwn corners place before
     inputs begin)
     (store : Stmt) (stores : StoresUpdate corners (flags pipeline schedule) pipeline.funcs place corner update store)
-    (funcs : Planes) (reads_others : ReadsPixels pipeline schedule corners place update (produced_turns schedule boxes standing turns) own inputs before funcs)
+    (funcs : Planes) (reads_others : ReadsPixels pipeline schedule corners place update (produced_iterations schedule boxes standing iterations) own inputs before funcs)
     (list : List loops.Values)
     (visits : AllByRecursion (IsVisitOf func (Some update) (update_extents own update)) (map (visit_of (update_extents own update)) list))
     (reduced : AllByRecursion (λ inner. inner (ids.Whole variables.FirstReduction) < update.first.extent) list)
@@ -86,19 +86,19 @@ module _ (pipeline : Pipeline) (schedule : Schedule) (boxes : Boxes) (rules : Is
   extents = update_extents own update
 
   abbrev stands_at : ℕ → Plane
-  stands_at = from_begin pipeline schedule boxes rules accepted is place func own func_is box_is standing there computed at update update_is inputs begun turns
+  stands_at = from_begin pipeline schedule boxes rules accepted is place func own func_is box_is standing there computed at update update_is inputs begun iterations
       below begin begins corners before corner corner_is reads_own store stores funcs reads_others inside
 
   abbrev columns : ℕ → ℕ
-  columns = column_in pipeline schedule boxes rules accepted is place func own func_is box_is standing there computed at update update_is inputs begun turns
+  columns = column_in pipeline schedule boxes rules accepted is place func own func_is box_is standing there computed at update update_is inputs begun iterations
       below begin begins corners before corner corner_is reads_own store stores funcs reads_others inside
 
   abbrev rows : ℕ → ℕ
-  rows = row_in pipeline schedule boxes rules accepted is place func own func_is box_is standing there computed at update update_is inputs begun turns below
+  rows = row_in pipeline schedule boxes rules accepted is place func own func_is box_is standing there computed at update update_is inputs begun iterations below
       begin begins corners before corner corner_is reads_own store stores funcs reads_others inside
 
   abbrev pub steps : loops.Values → Planes → Planes
-  steps = step pipeline schedule boxes rules accepted is place func own func_is box_is standing there computed at update update_is inputs begun turns below
+  steps = step pipeline schedule boxes rules accepted is place func own func_is box_is standing there computed at update update_is inputs begun iterations below
       begin begins corners before corner corner_is reads_own store stores funcs reads_others inside
 
   abbrev IsGone : loops.Values → Type 0
@@ -124,7 +124,7 @@ module _ (pipeline : Pipeline) (schedule : Schedule) (boxes : Boxes) (rules : Is
   all_go =
       all_so Known IsGone
       (λ inner p.
-      goes pipeline schedule boxes rules accepted is place func own func_is box_is standing there computed at update update_is inputs begun turns below begin
+      goes pipeline schedule boxes rules accepted is place func own func_is box_is standing there computed at update update_is inputs begun iterations below begin
       begins corners before corner corner_is reads_own store stores funcs reads_others inside
       inner p.0.0 p.1 p.0.1 in_box)
       list all_known
@@ -137,7 +137,7 @@ module _ (pipeline : Pipeline) (schedule : Schedule) (boxes : Boxes) (rules : Is
   names_inside x y e =
       any_gives Known (inside x y ≡ true) (is_hit x y)
       (λ inner p hit.
-      named_inside pipeline schedule boxes rules accepted is place func own func_is box_is standing there computed at update update_is inputs begun turns below
+      named_inside pipeline schedule boxes rules accepted is place func own func_is box_is standing there computed at update update_is inputs begun iterations below
       begin begins corners before corner corner_is reads_own store stores funcs
       reads_others inside inner p.0.0 p.1 p.0.1 in_box x y hit)
       list all_known e
@@ -147,7 +147,7 @@ module _ (pipeline : Pipeline) (schedule : Schedule) (boxes : Boxes) (rules : Is
   unfolding after
   at_first i j = refl
 
-  -- behind the last one
+  -- after the last one
   at_last : (i j : ℕ) → stands_at (points update) i j ≡ stage_from pipeline inputs place func begin (suc at) i j
   unfolding stage
   at_last i j =
@@ -180,7 +180,7 @@ module _ (pipeline : Pipeline) (schedule : Schedule) (boxes : Boxes) (rules : Is
       all_mark =
           all_so Known (Marks place funcs inside columns rows stands_at (visit_of extents) steps traced (is_hit x y))
           (λ inner p.
-          marks pipeline schedule boxes rules accepted is place func own func_is box_is standing there computed at update update_is inputs begun turns below
+          marks pipeline schedule boxes rules accepted is place func own func_is box_is standing there computed at update update_is inputs begun iterations below
           begin begins corners before corner corner_is reads_own store stores funcs reads_others
           inside inner p.0.0 p.1 p.0.1 in_box hits x y)
           list all_known

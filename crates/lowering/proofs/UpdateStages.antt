@@ -11,7 +11,7 @@ use Rattle.halide_pipeline.specs.WellFormed.{IsWellFormed}
 use Rattle.schedule_lines.specs.declared.stages.Stage.{Stage}
 use Rattle.schedule.specs.declared.plans.FuncPlan.{FuncPlan}
 use Rattle.schedule.specs.declared.schedules.Schedule.{Schedule}
-use Rattle.schedule.specs.declared.standings.Standing.{Standing}
+use Rattle.schedule.specs.declared.placements.FuncPlacement.{FuncPlacement}
 use Rattle.schedule.specs.Accepted.{IsAccepted, IsPlan, IsLegal}
 use Rattle.schedule.specs.Uses.{IsReached}
 use Rattle.schedule_loops.specs.Visits.{AreSplits}
@@ -31,7 +31,7 @@ use Rattle.lowering.specs.Updates.{IsUpdateAt}
 use Rattle.lowering.proofs.Facts.{few_at, first_few, second_few}
 use Rattle.lowering.proofs.UpdateFacts as facts
 
-module _ (pipeline : Pipeline) (schedule : Schedule) (accepted : IsAccepted pipeline schedule) (place : ℕ) (func : Func) (plan : FuncPlan) (standing : Standing)
+module _ (pipeline : Pipeline) (schedule : Schedule) (accepted : IsAccepted pipeline schedule) (place : ℕ) (func : Func) (plan : FuncPlan) (standing : FuncPlacement)
     (func_is : slice_get pipeline.funcs place ≡ Some func) (there : IsReached schedule.standings place standing) (at : ℕ) (update : Update) (stage : Stage)
     (it : IsUpdateAt schedule place func plan at update stage) where
   pub staged : IsStageOf func (Some update) stage × KeepsRules stage
@@ -56,7 +56,7 @@ place_small pipeline rules place func func_is = elim (cases_lt place (length pip
 module _ (pipeline : Pipeline) (schedule : Schedule) (boxes : Boxes) (rules : IsWellFormed pipeline) (accepted : IsAccepted pipeline schedule)
     (is : inferred pipeline schedule ≡ Ok boxes)
     (place : ℕ) (func : Func) (own : SourceBox) (func_is : slice_get pipeline.funcs place ≡ Some func) (box_is : slice_get boxes.funcs place ≡ Some (Some own))
-    (at : ℕ) (update : Update) (update_is : slice_get func.updates at ≡ Some update) (standing : Standing) (there : IsReached schedule.standings place standing)
+    (at : ℕ) (update : Update) (update_is : slice_get func.updates at ≡ Some update) (standing : FuncPlacement) (there : IsReached schedule.standings place standing)
     (computed : IsComputed place standing.place) where
   pub is_box : IsBox own
   is_box = (boxes_are_produced pipeline schedule boxes is place standing there.standing there.reached computed own box_is).box

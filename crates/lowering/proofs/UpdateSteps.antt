@@ -17,7 +17,7 @@ use Rattle.halide_pipeline.specs.Pixel.{Plane, Planes, Reads, variable, reads_of
 use Rattle.halide_pipeline.specs.Points.{Point, Agree}
 use Rattle.schedule_lines.specs.declared.stages.LoopId.TheVariants as ids
 use Rattle.schedule.specs.declared.schedules.Schedule.{Schedule}
-use Rattle.schedule.specs.declared.standings.Standing.{Standing}
+use Rattle.schedule.specs.declared.placements.FuncPlacement.{FuncPlacement}
 use Rattle.schedule.specs.Accepted.{IsAccepted}
 use Rattle.schedule.specs.Uses.{IsReached}
 use Rattle.schedule_loops.specs.declared.extents.Extents.{Extents}
@@ -50,10 +50,10 @@ use Rattle.lowering_expressions.specs.Lowering.{placed}
 use Rattle.lowering.specs.Planes.{has_point, box_points}
 use Rattle.bounds.specs.Stages.{named_point, is_point}
 use Rattle.lowering.specs.Updates.{StoresUpdate, HitsUpdate, index_of, visited_point, in_place, is_visited, IsCornerAt, IsBegin, ReadsPixels, consumer_at}
-use Rattle.lowering.specs.Updates.{produced_turns}
+use Rattle.lowering.specs.Updates.{produced_iterations}
 use Rattle.lowering.proofs.AtVisit as visiting
 use Rattle.lowering.proofs.Begins.{back_on, same_test}
-use Rattle.lowering.proofs.Offsets.{add_turned}
+use Rattle.lowering.proofs.Offsets.{add_swapped}
 use Rattle.lowering.proofs.Painting.{put_there, put_other}
 use Rattle.lowering.proofs.Slices.{Goes, HoldsAt, Others}
 use Rattle.lowering.proofs.UpdateStoring.{put_as}
@@ -69,19 +69,19 @@ ReadsOwn corners place before inputs begin = (inner : loops.Values) (buffers : P
 module _ (pipeline : Pipeline) (schedule : Schedule) (boxes : Boxes) (rules : IsWellFormed pipeline) (accepted : IsAccepted pipeline schedule)
     (is : inferred pipeline schedule ≡ Ok boxes)
     (place : ℕ) (func : Func) (own : SourceBox) (func_is : slice_get pipeline.funcs place ≡ Some func) (box_is : slice_get boxes.funcs place ≡ Some (Some own))
-    (standing : Standing) (there : IsReached schedule.standings place standing) (computed : IsComputed place standing.place)
+    (standing : FuncPlacement) (there : IsReached schedule.standings place standing) (computed : IsComputed place standing.place)
     (at : ℕ) (update : Update) (update_is : slice_get func.updates at ≡ Some update)
     (inputs : Planes) (begun : AnswerWords pipeline.inputs (reads_of inputs (pixels pipeline.funcs inputs 0)))
-    (turns : List ℕ) (below : Below (produced_turns schedule boxes standing turns) (lasts_of (consumer_at schedule boxes standing)))
-    (begin : BoxCorner) (begins : IsBegin (produced_turns schedule boxes standing turns) own begin)
+    (iterations : List ℕ) (below : Below (produced_iterations schedule boxes standing iterations) (lasts_of (consumer_at schedule boxes standing)))
+    (begin : BoxCorner) (begins : IsBegin (produced_iterations schedule boxes standing iterations) own begin)
     (corners : List Corner) (before : Values) (corner : Corner) (corner_is : IsCornerAt place before corner begin) (reads_own : ReadsOwn corners place before
     inputs begin)
     (store : Stmt) (stores : StoresUpdate corners (flags pipeline schedule) pipeline.funcs place corner update store)
-    (funcs0 : Planes) (reads_others : ReadsPixels pipeline schedule corners place update (produced_turns schedule boxes standing turns) own inputs before
+    (funcs0 : Planes) (reads_others : ReadsPixels pipeline schedule corners place update (produced_iterations schedule boxes standing iterations) own inputs before
     funcs0)
     (inside : ℕ → ℕ → Bool) where
   abbrev values : List ℕ
-  values = produced_turns schedule boxes standing turns
+  values = produced_iterations schedule boxes standing iterations
 
   abbrev extents : Extents
   extents = update_extents own update
@@ -96,11 +96,11 @@ module _ (pipeline : Pipeline) (schedule : Schedule) (boxes : Boxes) (rules : Is
   answers = wanted pipeline schedule rules accepted place func func_is standing there computed at update update_is inputs begun
 
   produced : IsProduced (consumer_at schedule boxes standing) own
-  produced = visiting.produced pipeline schedule boxes rules is place func own func_is box_is standing there computed at update update_is turns below begin
+  produced = visiting.produced pipeline schedule boxes rules is place func own func_is box_is standing there computed at update update_is iterations below begin
       begins before corner corner_is
 
   below_own : Below values own.lasts
-  below_own = visiting.below_own pipeline schedule boxes rules is place func own func_is box_is standing there computed at update update_is turns below begin
+  below_own = visiting.below_own pipeline schedule boxes rules is place func own func_is box_is standing there computed at update update_is iterations below begin
       begins before corner corner_is
 
   points_own : (i j : ℕ) → boxed place i j ≡ has_point (Some own) i j
@@ -138,38 +138,38 @@ module _ (pipeline : Pipeline) (schedule : Schedule) (boxes : Boxes) (rules : Is
     -- ---- the visit
 
     wide : extent own.x ≤ 2 ^ 32
-    wide = visiting.wide pipeline schedule boxes rules is place func own func_is box_is standing there computed at update update_is turns below begin begins
+    wide = visiting.wide pipeline schedule boxes rules is place func own func_is box_is standing there computed at update update_is iterations below begin begins
         before corner corner_is inner v reduced
 
     high : extent own.y ≤ 2 ^ 32
-    high = visiting.high pipeline schedule boxes rules is place func own func_is box_is standing there computed at update update_is turns below begin begins
+    high = visiting.high pipeline schedule boxes rules is place func own func_is box_is standing there computed at update update_is iterations below begin begins
         before corner corner_is inner v reduced
 
     lies : LiesIn values own x y
-    lies = visiting.lies pipeline schedule boxes rules is place func own func_is box_is standing there computed at update update_is turns below begin begins
+    lies = visiting.lies pipeline schedule boxes rules is place func own func_is box_is standing there computed at update update_is iterations below begin begins
         before corner corner_is inner v reduced
 
     few_points : visit.number < points update
-    few_points = visiting.few_points pipeline schedule boxes rules is place func own func_is box_is standing there computed at update update_is turns below
+    few_points = visiting.few_points pipeline schedule boxes rules is place func own func_is box_is standing there computed at update update_is iterations below
         begin begins before corner corner_is inner v reduced
 
     point_is : visited_point now place corner update ≡ at_reduction update visit.number x y
-    point_is = visiting.point_is pipeline schedule boxes rules is place func own func_is box_is standing there computed at update update_is turns below begin
+    point_is = visiting.point_is pipeline schedule boxes rules is place func own func_is box_is standing there computed at update update_is iterations below begin
         begins before corner corner_is inner v reduced
 
     on_slice : (a b : ℕ) → IsInPlace update x y (record { source = sources.Func place; x = a; y = b })
         → is_visited update (word.subtract a begin.x) (word.subtract b begin.y) visit ≡ true
-    on_slice = visiting.on_slice pipeline schedule boxes rules is place func own func_is box_is standing there computed at update update_is turns below begin
+    on_slice = visiting.on_slice pipeline schedule boxes rules is place func own func_is box_is standing there computed at update update_is iterations below begin
         begins before corner corner_is inner v reduced
 
     boxed_at : (a b : ℕ) → LiesIn values own a b → has_point (Some own) (word.subtract a begin.x) (word.subtract b begin.y) ≡ true
-    boxed_at = visiting.boxed_at pipeline schedule boxes rules is place func own func_is box_is standing there computed at update update_is turns below begin
+    boxed_at = visiting.boxed_at pipeline schedule boxes rules is place func own func_is box_is standing there computed at update update_is iterations below begin
         begins before corner corner_is inner v reduced
 
     -- ---- the point that the left side names
 
     near : IsNear x × IsNear y
-    near = visiting.near pipeline schedule boxes rules is place func own func_is box_is standing there computed at update update_is turns below begin begins
+    near = visiting.near pipeline schedule boxes rules is place func own func_is box_is standing there computed at update update_is iterations below begin begins
         before corner corner_is inner v reduced
 
     wanted_are : AnswerWords pipeline.inputs (answers visit.number)
@@ -181,7 +181,7 @@ module _ (pipeline : Pipeline) (schedule : Schedule) (boxes : Boxes) (rules : Is
     all_lie : AreBoxed values (sources.Func place) (Some (Some own)) all_read
     all_lie =
         own_points_lie pipeline schedule boxes rules is place func standing func_is there.standing there.reached computed (consumer_at schedule boxes standing)
-        refl turns below own box_is at update update_is
+        refl iterations below own box_is at update update_is
         (answers visit.number) wanted_are x y lies.first.word lies.second.word near.0 near.1 visit.number few_points (record {
           first = λ e. lies.first;
           second =
@@ -355,12 +355,12 @@ module _ (pipeline : Pipeline) (schedule : Schedule) (boxes : Boxes) (rules : Is
         placed_first : is_first_in_place update ≡ true → word.add begin.x i ≡ x
         placed_first e =
             let c : column_in i ≡ i = ap (λ (b : Bool). in_place b i) e in
-            add_turned begin.x i ∙ ap (λ (n : ℕ). word.add n begin.x) (sym (eqb-true visit.x (column_in i) on_parts.0 ∙ c))
+            add_swapped begin.x i ∙ ap (λ (n : ℕ). word.add n begin.x) (sym (eqb-true visit.x (column_in i) on_parts.0 ∙ c))
 
         placed_second : is_second_in_place update ≡ true → word.add begin.y j ≡ y
         placed_second e =
             let c : row_in j ≡ j = ap (λ (b : Bool). in_place b j) e in
-            add_turned begin.y j ∙ ap (λ (n : ℕ). word.add n begin.y) (sym (eqb-true visit.y (row_in j) on_parts.1 ∙ c))
+            add_swapped begin.y j ∙ ap (λ (n : ℕ). word.add n begin.y) (sym (eqb-true visit.y (row_in j) on_parts.1 ∙ c))
 
         more : from_begin (suc visit.number) i j ≡ cond (written_column == word.add begin.x i && written_row == word.add begin.y j) written
             (from_begin visit.number i j)

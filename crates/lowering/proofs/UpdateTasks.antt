@@ -19,12 +19,12 @@ use Rattle.schedule_lines.specs.declared.stages.LoopId.TheVariants as ids
 use Rattle.schedule_lines.specs.declared.stages.Stage.{Stage}
 use Rattle.schedule.specs.declared.plans.FuncPlan.{FuncPlan}
 use Rattle.schedule.specs.declared.schedules.Schedule.{Schedule}
-use Rattle.schedule.specs.declared.standings.LoopPlace.{LoopPlace}
-use Rattle.schedule.specs.declared.standings.Place.{Place}
-use Rattle.schedule.specs.declared.standings.Place.TheVariants as places
+use Rattle.schedule.specs.declared.placements.LoopPlace.{LoopPlace}
+use Rattle.schedule.specs.declared.placements.ComputeLevel.{ComputeLevel}
+use Rattle.schedule.specs.declared.placements.ComputeLevel.TheVariants as places
 use Rattle.schedule.specs.Accepted.{IsAccepted}
 use Rattle.schedule_loops.specs.declared.extents.Extents.{Extents}
-use Rattle.schedule_loops.specs.Visits.{counts, Visit, visit_of, slice, rising, parallel, iteration, iteration_count, count_of}
+use Rattle.schedule_loops.specs.Visits.{counts, Visit, visit_of, slice, rising, parallel, visits_in, iteration_count, count_of}
 use Rattle.schedule_loops.specs.Visits as loops
 use Rattle.schedule_loops.specs.Reach.{wholes}
 use Rattle.schedule_loops.specs.Stages.{IsStageOf, KeepsRules, IsVisitOf, points_of}
@@ -53,7 +53,7 @@ use Rattle.loop_ir.specs.Running.{run, task_values, run_task}
 use Rattle.loop_ir.specs.Soundness.{is_sound}
 use Rattle.loop_ir.specs.Stores.{Trace, is_stored_by, is_stored_by_task}
 use Rattle.lowering_nests.specs.Nests.{loops_of, put_loops, all, AreSmall, Repeats}
-use Rattle.lowering_nests.proofs.Few.{few_turns}
+use Rattle.lowering_nests.proofs.Few.{iterations_few}
 use Rattle.schedule_lines.specs.Directives.{same_id}
 use Rattle.lowering_expressions.specs.Lowering.{placed, place as place_in}
 use Rattle.lowering.specs.Phases.{Hold, DoesTask, DoesPhase}
@@ -63,7 +63,7 @@ use Rattle.bounds.specs.Stages.{IsAtRoot, named_point, is_point, names}
 use Rattle.lowering.specs.Stages.{is_private, after_stages}
 use Rattle.lowering.specs.Touching.{may_write, may_load, TouchesItsOwn}
 use Rattle.lowering.specs.Updates.{IsUpdateAt, IsUpdateStoreOf, LoadsOthers, in_place, is_visited, owns_update, IsBegin, IsCornerAt, ReadsPixels, consumer_at}
-use Rattle.lowering.specs.Updates.{produced_turns, stage_from}
+use Rattle.lowering.specs.Updates.{produced_iterations, stage_from}
 use Rattle.lowering.proofs.Lists.{any_map, all_pass, before_last}
 use Rattle.lowering.proofs.Loads.{update_loads}
 use Rattle.lowering.proofs.Offsets.{first_none}
@@ -107,7 +107,7 @@ module _ (pipeline : Pipeline) (schedule : Schedule) (boxes : Boxes) (rules : Is
   begin = corner_of (Some own)
 
   computed : IsComputed place root.standing.place
-  computed = subst (λ (p : Place). IsComputed place p) (sym root.placed_is) tt
+  computed = subst (λ (p : ComputeLevel). IsComputed place p) (sym root.placed_is) tt
 
   stage_facts : IsStageOf func (Some update) stage × KeepsRules stage
   stage_facts = staged pipeline schedule accepted place func plan root.standing root.func_is root.there at update stage it
@@ -117,22 +117,22 @@ module _ (pipeline : Pipeline) (schedule : Schedule) (boxes : Boxes) (rules : Is
 
   -- ---- no loops outside
 
-  turns_are : produced_turns schedule boxes root.standing no_loops ≡ no_loops
-  turns_are = ap (λ (p : Place). values_for (consumer_in schedule boxes.funcs p) no_loops) root.placed_is
+  iterations_are : produced_iterations schedule boxes root.standing no_loops ≡ no_loops
+  iterations_are = ap (λ (p : ComputeLevel). values_for (consumer_in schedule boxes.funcs p) no_loops) root.placed_is
 
   lasts_are : lasts_of (consumer_at schedule boxes root.standing) ≡ no_loops
-  lasts_are = ap (λ (p : Place). lasts_of (consumer_in schedule boxes.funcs p)) root.placed_is
+  lasts_are = ap (λ (p : ComputeLevel). lasts_of (consumer_in schedule boxes.funcs p)) root.placed_is
 
-  below : Below (produced_turns schedule boxes root.standing no_loops) (lasts_of (consumer_at schedule boxes root.standing))
-  below = subst (λ (l : List ℕ). Below l (lasts_of (consumer_at schedule boxes root.standing))) (sym turns_are) (subst (λ (l : List ℕ). Below no_loops l)
+  below : Below (produced_iterations schedule boxes root.standing no_loops) (lasts_of (consumer_at schedule boxes root.standing))
+  below = subst (λ (l : List ℕ). Below l (lasts_of (consumer_at schedule boxes root.standing))) (sym iterations_are) (subst (λ (l : List ℕ). Below no_loops l)
       (sym lasts_are) no_below)
 
   none_of : own.lasts ≡ no_loops
   none_of = no_lasts pipeline schedule boxes place func plan own accepted is root
 
-  begins : IsBegin (produced_turns schedule boxes root.standing no_loops) own begin
+  begins : IsBegin (produced_iterations schedule boxes root.standing no_loops) own begin
   begins =
-      subst (λ (l : List ℕ). IsBegin l own begin) (sym turns_are)
+      subst (λ (l : List ℕ). IsBegin l own begin) (sym iterations_are)
       (record {
         x = subst (λ (n : ℕ). IsFrom no_loops own.x 0 n) (none_added (word_at own.x.low) (word_small own.x.low))
             (from_corner_on own.x 0 (subst (λ (l : List ℕ). IsFit l own.x) none_of box_facts.x) (omega (arith, box_facts.x.ordered)));
@@ -179,7 +179,7 @@ module _ (pipeline : Pipeline) (schedule : Schedule) (boxes : Boxes) (rules : Is
     abbrev owned : ℕ → ℕ → Bool
     owned = owns_update own update stage number
 
-    visits_are : iteration extents stage number ≡ map (visit_of extents) list
+    visits_are : visits_in extents stage number ≡ map (visit_of extents) list
     visits_are = listed func update extents stage stage_facts.0 place stage_facts.1 (parallel stage) refl number below_count
 
     all_visits : AllByRecursion (IsVisitOf func (Some update) extents) (map (visit_of extents) list)
@@ -196,13 +196,13 @@ module _ (pipeline : Pipeline) (schedule : Schedule) (boxes : Boxes) (rules : Is
         let o = outermost stage loop stage_facts.1 e in
         let taken : inside_of (Some loop) stage.loops ≡ o.last.inside = ap (λ (ls : List Loop). take (length ls - 1) ls) o.last.loops_are
         ∙ before_last o.last.inside loop in
-        let turn : loops_of place (task_values (counter_of place (Some loop)) number) loop.id ≡ number =
+        let iteration : loops_of place (task_values (counter_of place (Some loop)) number) loop.id ≡ number =
         ap (λ (b : Bool). cond b number 0) (and_from (place == place) (same_id loop.id loop.id) (eq-eqb place place refl) (same_id-self loop.id)) in
         subst (λ (ls : List Loop). AllByRecursion (λ inner. inner (ids.Whole variables.FirstReduction) < update.first.extent) (wholes extents stage.splits ls
         (loops_of place (task_values (counter_of place (Some loop)) number)))) (sym taken)
         (within func (Some update) extents stage o.last.inside (loop ∷ []) variables.FirstReduction (loops_of place (task_values (counter_of place (Some loop))
         number)) stage_facts.0 o.last.loops_are (has_reduction func update)
-        (omega (arith, turn, l), tt))
+        (omega (arith, iteration, l), tt))
 
     reduced : AllByRecursion (λ inner. inner (ids.Whole variables.FirstReduction) < update.first.extent) list
     reduced = reduced_by (parallel stage) refl below_count
@@ -217,7 +217,7 @@ module _ (pipeline : Pipeline) (schedule : Schedule) (boxes : Boxes) (rules : Is
             omega (
               arith,
               l,
-              few_turns extents stage.splits (few pipeline schedule boxes rules accepted is place func own root.func_is root.box_is at update
+              iterations_few extents stage.splits (few pipeline schedule boxes rules accepted is place func own root.func_is root.box_is at update
                   it.update_is root.standing root.there computed) (splits pipeline schedule accepted place func plan root.standing root.func_is root.there at
                   update stage it) loop.id,
             )
@@ -242,10 +242,10 @@ module _ (pipeline : Pipeline) (schedule : Schedule) (boxes : Boxes) (rules : Is
         rw (c.there, (c.is now).0, (c.is now).1) refl
 
     in_box : (i j : ℕ) → owned i j ≡ true → has_point (Some own) i j ≡ true
-    in_box i j e = (and_parts (has_point (Some own) i j) (list_any (is_visited update i j) (iteration extents stage number)) e).0
+    in_box i j e = (and_parts (has_point (Some own) i j) (list_any (is_visited update i j) (visits_in extents stage number)) e).0
 
-    on_visited : (i j : ℕ) → owned i j ≡ true → list_any (is_visited update i j) (iteration extents stage number) ≡ true
-    on_visited i j e = (and_parts (has_point (Some own) i j) (list_any (is_visited update i j) (iteration extents stage number)) e).1
+    on_visited : (i j : ℕ) → owned i j ≡ true → list_any (is_visited update i j) (visits_in extents stage number) ≡ true
+    on_visited i j e = (and_parts (has_point (Some own) i j) (list_any (is_visited update i j) (visits_in extents stage number)) e).1
 
     closed : AllByRecursion (λ visit. (i j : ℕ) → has_point (Some own) i j ≡ true → is_visited update i j visit ≡ true
         → owned i j ≡ true) (map (visit_of extents) list)
@@ -253,7 +253,7 @@ module _ (pipeline : Pipeline) (schedule : Schedule) (boxes : Boxes) (rules : Is
         all_so (λ visit. (test : Visit → Bool) → test visit ≡ true → list_any test (map (visit_of extents) list) ≡ true) (λ visit. (i j : ℕ)
         → has_point (Some own) i j ≡ true → is_visited update i j visit ≡ true → owned i j ≡ true)
         (λ visit member i j boxed on.
-        and_from (has_point (Some own) i j) (list_any (is_visited update i j) (iteration extents stage number)) boxed (ap (list_any (is_visited update i j))
+        and_from (has_point (Some own) i j) (list_any (is_visited update i j) (visits_in extents stage number)) boxed (ap (list_any (is_visited update i j))
         visits_are ∙ member (is_visited update i j) on))
         (map (visit_of extents) list) (members (map (visit_of extents) list))
 
@@ -271,14 +271,14 @@ module _ (pipeline : Pipeline) (schedule : Schedule) (boxes : Boxes) (rules : Is
         ≡ list_any (λ inner. is_point x y (named_point (reads_of inputs (pixels pipeline.funcs inputs place)) begin update (visit_of extents inner))) list
     names_are x y =
         let left = named_point (reads_of inputs (pixels pipeline.funcs inputs place)) begin update in
-        any_map (is_point x y) left (iteration extents stage number)
+        any_map (is_point x y) left (visits_in extents stage number)
         ∙ ap (list_any (λ (visit : Visit). is_point x y (left visit))) visits_are ∙ any_map (λ (visit : Visit). is_point x y (left visit)) (visit_of extents)
         list
 
     module _ (funcs : Planes) (hold : Hold (box_points boxes.funcs) (is_private schedule.standings) place owned start funcs) where
-      others : ReadsPixels pipeline schedule store_of.corners place update (produced_turns schedule boxes root.standing no_loops) own inputs before funcs
+      others : ReadsPixels pipeline schedule store_of.corners place update (produced_iterations schedule boxes root.standing no_loops) own inputs before funcs
       others =
-          subst (λ (l : List ℕ). ReadsPixels pipeline schedule store_of.corners place update l own inputs before funcs) (sym turns_are)
+          subst (λ (l : List ℕ). ReadsPixels pipeline schedule store_of.corners place update l own inputs before funcs) (sym iterations_are)
           (reads_pixels pipeline schedule boxes rules accepted is place func plan own root at update stage it inputs begun store_of.corners store_of.are_corners
           before funcs
           (λ k x y d public_so boxed. hold k x y public_so boxed (λ e. absurd (d e)) ∙ held_other at k x y d))
@@ -370,7 +370,7 @@ module _ (pipeline : Pipeline) (schedule : Schedule) (boxes : Boxes) (rules : Is
           (all_sound pipeline schedule boxes rules is place func own root.func_is root.box_is root.standing root.there computed at update it.update_is no_loops
           below begin begins store_of.corners before store_of.corner corner_is
           store store_of.sound reads words written loaded own_placed (subst (λ (l : List ℕ). LoadsOthers pipeline schedule store_of.corners place update l own
-          reads loaded before) (sym turns_are) others_load)
+          reads loaded before) (sym iterations_are) others_load)
           owned (own_writes pipeline schedule boxes place owned phase.private) (own_loads pipeline schedule boxes place owned phase.private) list all_visits
           reduced closed)
 
@@ -379,8 +379,8 @@ module _ (pipeline : Pipeline) (schedule : Schedule) (boxes : Boxes) (rules : Is
   in_count : (number : ℕ) → number < phase.tasks → number < iteration_count extents stage
   in_count number l = subst (λ (n : ℕ). number < n) tasks_are l
 
-  visited_by : (number x y : ℕ) → owns_update own update stage number x y ≡ true → list_any (is_visited update x y) (iteration extents stage number) ≡ true
-  visited_by number x y e = (and_parts (has_point (Some own) x y) (list_any (is_visited update x y) (iteration extents stage number)) e).1
+  visited_by : (number x y : ℕ) → owns_update own update stage number x y ≡ true → list_any (is_visited update x y) (visits_in extents stage number) ≡ true
+  visited_by number x y e = (and_parts (has_point (Some own) x y) (list_any (is_visited update x y) (visits_in extents stage number)) e).1
 
   never_unowned : (x y : ℕ) → box_points boxes.funcs place x y ≡ true → ((number : ℕ) → number < phase.tasks → owns_update own update stage number x y ≡ false)
       → ⊥
@@ -390,7 +390,7 @@ module _ (pipeline : Pipeline) (schedule : Schedule) (boxes : Boxes) (rules : Is
       (slice_there func update own pipeline.inputs pipeline.funcs place ((rules.funcs place func root.func_is).updates at update it.update_is) x y here)
       some_points
       (λ number l.
-      ap (λ (b : Bool). b && list_any (is_visited update x y) (iteration extents stage number)) (sym here)
+      ap (λ (b : Bool). b && list_any (is_visited update x y) (visits_in extents stage number)) (sym here)
       ∙ none number (subst (λ (n : ℕ). number < n) (sym tasks_are) l))
 
   pub does_update : DoesPhase (box_points boxes.funcs) (is_private schedule.standings) place start result phase.tasks (owns_update own update stage)

@@ -18,7 +18,7 @@ use Rattle.halide_pipeline.specs.Points.{Point, Hold}
 use Rattle.halide_pipeline.proofs.Seeing.{all_parts}
 use Rattle.schedule_lines.specs.declared.stages.LoopId.TheVariants as ids
 use Rattle.schedule.specs.declared.schedules.Schedule.{Schedule}
-use Rattle.schedule.specs.declared.standings.Standing.{Standing}
+use Rattle.schedule.specs.declared.placements.FuncPlacement.{FuncPlacement}
 use Rattle.schedule.specs.Uses.{IsReached}
 use Rattle.schedule_loops.specs.declared.extents.Extents.{Extents}
 use Rattle.schedule_loops.specs.Visits as loops
@@ -49,7 +49,7 @@ use Rattle.lowering_expressions.specs.Lowering.{placed, place as place_in}
 use Rattle.lowering.specs.Planes.{has_point}
 use Rattle.bounds.specs.Extents.{BoxCorner, update_extents}
 use Rattle.lowering.specs.Updates.{IsSoundUpdate, LoadsOthers, index_of, points_of_index, visited_point, is_visited, IsCornerAt, IsBegin, consumer_at}
-use Rattle.lowering.specs.Updates.{produced_turns}
+use Rattle.lowering.specs.Updates.{produced_iterations}
 use Rattle.lowering.proofs.AtVisit as visiting
 use Rattle.lowering.proofs.Lists.{all_map}
 use Rattle.lowering.proofs.Loads.{placed_words}
@@ -57,20 +57,20 @@ use Rattle.lowering.proofs.UpdateRuns.{all_and, all_so}
 
 module _ (pipeline : Pipeline) (schedule : Schedule) (boxes : Boxes) (rules : IsWellFormed pipeline) (is : inferred pipeline schedule ≡ Ok boxes)
     (place : ℕ) (func : Func) (own : SourceBox) (func_is : slice_get pipeline.funcs place ≡ Some func) (box_is : slice_get boxes.funcs place ≡ Some (Some own))
-    (standing : Standing) (there : IsReached schedule.standings place standing) (computed : IsComputed place standing.place)
+    (standing : FuncPlacement) (there : IsReached schedule.standings place standing) (computed : IsComputed place standing.place)
     (at : ℕ) (update : Update) (update_is : slice_get func.updates at ≡ Some update)
-    (turns : List ℕ) (below : Below (produced_turns schedule boxes standing turns) (lasts_of (consumer_at schedule boxes standing)))
-    (begin : BoxCorner) (begins : IsBegin (produced_turns schedule boxes standing turns) own begin)
+    (iterations : List ℕ) (below : Below (produced_iterations schedule boxes standing iterations) (lasts_of (consumer_at schedule boxes standing)))
+    (begin : BoxCorner) (begins : IsBegin (produced_iterations schedule boxes standing iterations) own begin)
     (corners : List Corner) (before : Values) (corner : Corner) (corner_is : IsCornerAt place before corner begin)
     (store : Stmt) (sound : IsSoundUpdate corners (flags pipeline schedule) pipeline.funcs place corner update store)
     (reads : Reads) (words : AnswerWords pipeline.inputs reads) (written : Points) (loaded : Point → Bool)
     (own_placed : (inner : loops.Values) (a b : ℕ) → place_in corners (put_loops place inner before) (record { source = sources.Func place; x = a; y = b })
     ≡ record { source = sources.Func place; x = word.subtract a begin.x; y = word.subtract b begin.y })
-    (others : LoadsOthers pipeline schedule corners place update (produced_turns schedule boxes standing turns) own reads loaded before)
+    (others : LoadsOthers pipeline schedule corners place update (produced_iterations schedule boxes standing iterations) own reads loaded before)
     (inside : ℕ → ℕ → Bool) (own_writes : (i j : ℕ) → inside i j ≡ true → written place i j ≡ true)
     (own_loads : (i j : ℕ) → inside i j ≡ true → loaded (record { source = sources.Func place; x = i; y = j }) ≡ true) where
   abbrev values : List ℕ
-  values = produced_turns schedule boxes standing turns
+  values = produced_iterations schedule boxes standing iterations
 
   abbrev extents : Extents
   extents = update_extents own update
@@ -113,21 +113,21 @@ module _ (pipeline : Pipeline) (schedule : Schedule) (boxes : Boxes) (rules : Is
     answer_words = placed_words pipeline corners now reads words
 
     lies : LiesIn values own x y
-    lies = visiting.lies pipeline schedule boxes rules is place func own func_is box_is standing there computed at update update_is turns below begin begins
+    lies = visiting.lies pipeline schedule boxes rules is place func own func_is box_is standing there computed at update update_is iterations below begin begins
         before corner corner_is inner v reduced
 
     few : visit.number < points update
-    few = visiting.few_points pipeline schedule boxes rules is place func own func_is box_is standing there computed at update update_is turns below begin
+    few = visiting.few_points pipeline schedule boxes rules is place func own func_is box_is standing there computed at update update_is iterations below begin
         begins before corner corner_is inner v reduced
 
     near : IsNear x × IsNear y
-    near = visiting.near pipeline schedule boxes rules is place func own func_is box_is standing there computed at update update_is turns below begin begins
+    near = visiting.near pipeline schedule boxes rules is place func own func_is box_is standing there computed at update update_is iterations below begin begins
         before corner corner_is inner v reduced
 
     all_lie : AreBoxed values (sources.Func place) (Some (Some own)) all_read
     all_lie =
         own_points_lie pipeline schedule boxes rules is place func standing func_is there.standing there.reached computed (consumer_at schedule boxes standing)
-        refl turns below own box_is at update update_is
+        refl iterations below own box_is at update update_is
         answers answer_words x y lies.first.word lies.second.word near.0 near.1 visit.number few (record { first = λ e. lies.first; second = λ e. lies.second })
 
     all_stay : AllByRecursion (λ own. same_source own.source (sources.Func place) ≡ true → IsInPlace update x y own) all_read
@@ -137,9 +137,9 @@ module _ (pipeline : Pipeline) (schedule : Schedule) (boxes : Boxes) (rules : Is
         → inside (word.subtract a begin.x) (word.subtract b begin.y) ≡ true
     own_inside a b boxed stays =
         closed (word.subtract a begin.x) (word.subtract b begin.y)
-        (visiting.boxed_at pipeline schedule boxes rules is place func own func_is box_is standing there computed at update update_is turns below begin begins
+        (visiting.boxed_at pipeline schedule boxes rules is place func own func_is box_is standing there computed at update update_is iterations below begin begins
         before corner corner_is inner v reduced a b boxed)
-        (visiting.on_slice pipeline schedule boxes rules is place func own func_is box_is standing there computed at update update_is turns below begin begins
+        (visiting.on_slice pipeline schedule boxes rules is place func own func_is box_is standing there computed at update update_is iterations below begin begins
         before corner corner_is inner v reduced a b stays)
 
     one_loads : (s : Source) (a b : ℕ) (test : Bool) → same_source s (sources.Func place) ≡ test → (test ≡ true → LiesIn values own a b)
@@ -229,7 +229,7 @@ module _ (pipeline : Pipeline) (schedule : Schedule) (boxes : Boxes) (rules : Is
     sound_at : IsSoundAt inner
     sound_at =
         let point_is : visited_point now place corner update ≡ point = visiting.point_is pipeline schedule boxes rules is place func own func_is box_is standing
-        there computed at update update_is turns below begin begins before corner corner_is inner v reduced in
+        there computed at update update_is iterations below begin begins before corner corner_is inner v reduced in
         let back = sym point_is in
         let parts = behind_left (λ own. loaded (place_in corners now own) ≡ true) loads in
         sound reads written loaded now

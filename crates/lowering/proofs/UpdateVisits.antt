@@ -9,15 +9,15 @@ use Rattle.halide_pipeline.specs.declared.definitions.Update.{Update}
 use Rattle.schedule_lines.specs.declared.stages.Loop.{Loop}
 use Rattle.schedule_lines.specs.declared.stages.Stage.{Stage}
 use Rattle.schedule_loops.specs.declared.extents.Extents.{Extents}
-use Rattle.schedule_loops.specs.Visits.{counts, Visit, nest, over_loops, zeros, visit_of, visits, slice, is_slice, rising, parallel, is_turn, iteration}
+use Rattle.schedule_loops.specs.Visits.{counts, Visit, nest, over_loops, zeros, visit_of, visits, slice, is_slice, rising, parallel, is_iteration_of, visits_in}
 use Rattle.schedule_loops.specs.Visits.{iteration_count, count_of}
 use Rattle.schedule_loops.specs.Visits as loops
 use Rattle.schedule_loops.specs.Reach.{wholes}
 use Rattle.schedule_loops.specs.Stages.{IsStageOf, KeepsRules, IsVisitOf, is_slice_of, points_of}
-use Rattle.schedule_loops.proofs.Parallel.{outermost, iteration_turn, all_iterations, slice_owner}
+use Rattle.schedule_loops.proofs.Parallel.{outermost, iteration_visits, all_iterations, slice_owner}
 use Rattle.schedule_loops.proofs.Rising.{slice_is}
 use Rattle.schedule_loops.proofs.Slices.{visits_within}
-use Rattle.schedule_loops.proofs.Turns.{upto_one, filter-upto}
+use Rattle.schedule_loops.proofs.Iterations.{upto_one, filter-upto}
 use Rattle.schedule_loops.proofs.Wholes.{visits_of_wholes}
 use Rattle.loop_ir.specs.Counters.{no_values}
 use Rattle.loop_ir.specs.Running.{task_values}
@@ -48,33 +48,33 @@ module _ (func : Func) (update : Update) (extents : Extents) (stage : Stage) (st
 
   module _ (legal : KeepsRules stage) where
     pub listed : (found : Option Loop) → parallel stage ≡ found → (number : ℕ) → number < count_of (counts extents stage.splits) found
-        → iteration extents stage number ≡ map (visit_of extents) (wholes extents stage.splits (inside_of found stage.loops)
+        → visits_in extents stage number ≡ map (visit_of extents) (wholes extents stage.splits (inside_of found stage.loops)
         (loops_of place (task_values (counter_of place found) number)))
     listed None is number l =
         let first : number ≡ 0 = omega (arith, l) in
-        ap (iteration extents stage) first
-        ∙ ap (λ (p : Option Loop). nest (counts extents stage.splits) stage.loops (λ values. cond (is_turn p 0 values) (over_loops extents stage.splits
+        ap (visits_in extents stage) first
+        ∙ ap (λ (p : Option Loop). nest (counts extents stage.splits) stage.loops (λ values. cond (is_iteration_of p 0 values) (over_loops extents stage.splits
         (λ whole. visit_of extents whole ∷ []) values) []) zeros) is
         ∙ visits_of_wholes extents stage.splits stage.loops zeros
     listed (Some own) is number l =
         let o = outermost stage own legal is in
-        let turns = loops.with own.id number zeros in
+        let iterations = loops.with own.id number zeros in
         let taken : take (length stage.loops - 1) stage.loops ≡ o.last.inside =
         ap (λ (ls : List Loop). take (length ls - 1) ls) o.last.loops_are ∙ before_last o.last.inside own in
-        iteration_turn func (Some update) extents stage o.last.inside own stage_is o.last.loops_are is number l
-        ∙ visits_of_wholes extents stage.splits o.last.inside turns
-        ∙ ap (λ (ls : List Loop). map (visit_of extents) (wholes extents stage.splits ls turns)) (sym taken)
+        iteration_visits func (Some update) extents stage o.last.inside own stage_is o.last.loops_are is number l
+        ∙ visits_of_wholes extents stage.splits o.last.inside iterations
+        ∙ ap (λ (ls : List Loop). map (visit_of extents) (wholes extents stage.splits ls iterations)) (sym taken)
         ∙ ap (λ (t : loops.Values). map (visit_of extents) (wholes extents stage.splits (take (length stage.loops - 1) stage.loops) t))
         (sym (loops_with place own.id number no_values))
 
     pub task_within : (number : ℕ) → number < iteration_count extents stage
-        → AllByRecursion (IsVisitOf func (Some update) extents) (iteration extents stage number)
+        → AllByRecursion (IsVisitOf func (Some update) extents) (visits_in extents stage number)
     task_within number l =
-        all_upto (IsVisitOf func (Some update) extents) (iteration extents stage) (iteration_count extents stage)
+        all_upto (IsVisitOf func (Some update) extents) (visits_in extents stage) (iteration_count extents stage)
         (subst (λ (v : List Visit). AllByRecursion (IsVisitOf func (Some update) extents) v) (all_iterations func (Some update) extents stage stage_is legal)
         all_within) number l
 
-    pub visited_slice : (number : ℕ) → number < iteration_count extents stage → (x y : ℕ) → list_any (is_slice x y) (iteration extents stage number) ≡ true
+    pub visited_slice : (number : ℕ) → number < iteration_count extents stage → (x y : ℕ) → list_any (is_slice x y) (visits_in extents stage number) ≡ true
         → is_slice_of func (Some update) extents x y ≡ true
     visited_slice number l x y e =
         any_gives (IsVisitOf func (Some update) extents) (is_slice_of func (Some update) extents x y ≡ true) (is_slice x y)
@@ -82,49 +82,49 @@ module _ (func : Func) (update : Update) (extents : Extents) (stage : Stage) (st
         let p = and_parts (visit.x == x) (visit.y == y) here in
         ap (λ (n : ℕ). is_slice_of func (Some update) extents n y) (sym (eqb-true visit.x x p.0))
         ∙ ap (λ (n : ℕ). is_slice_of func (Some update) extents visit.x n) (sym (eqb-true visit.y y p.1)) ∙ is.slice)
-        (iteration extents stage number) (task_within number l) e
+        (visits_in extents stage number) (task_within number l) e
 
     owner_is : (first owner x y : ℕ) → first < iteration_count extents stage → ((n : ℕ) → n < iteration_count extents stage → (n ≡ owner → ⊥)
-        → slice x y (iteration extents stage n) ≡ [])
-        → list_any (is_slice x y) (iteration extents stage first) ≡ true → first ≡ owner
+        → slice x y (visits_in extents stage n) ≡ [])
+        → list_any (is_slice x y) (visits_in extents stage first) ≡ true → first ≡ owner
     owner_is first owner x y l no_other e = elim (cases_eq first owner) [
       | inl same ↦ same
-      | inr other ↦ absurd (kept_some (is_slice x y) (iteration extents stage first) e (no_other first l other))
+      | inr other ↦ absurd (kept_some (is_slice x y) (visits_in extents stage first) e (no_other first l other))
     ]
 
     pub one_task : (x y first second : ℕ) → first < iteration_count extents stage → second < iteration_count extents stage
-        → list_any (is_slice x y) (iteration extents stage first) ≡ true
-        → list_any (is_slice x y) (iteration extents stage second) ≡ true → first ≡ second
+        → list_any (is_slice x y) (visits_in extents stage first) ≡ true
+        → list_any (is_slice x y) (visits_in extents stage second) ≡ true → first ≡ second
     one_task x y first second lf ls ef es =
         let h = slice_owner func (Some update) extents stage stage_is legal x y (visited_slice first lf x y ef) in
         owner_is first h.owner x y lf h.no_other ef ∙ sym (owner_is second h.owner x y ls h.no_other es)
 
     -- all slices of the owner
     slices_of_owner : (x y owner : ℕ) → owner < iteration_count extents stage → ((n : ℕ) → n < iteration_count extents stage → (n ≡ owner → ⊥)
-        → slice x y (iteration extents stage n) ≡ [])
-        → slice x y (visits extents stage) ≡ slice x y (iteration extents stage owner)
+        → slice x y (visits_in extents stage n) ≡ [])
+        → slice x y (visits extents stage) ≡ slice x y (visits_in extents stage owner)
     slices_of_owner x y owner l no_other =
         ap (slice x y) (all_iterations func (Some update) extents stage stage_is legal)
-        ∙ filter-upto (is_slice x y) (iteration_count extents stage) (iteration extents stage)
-        ∙ upto_one (iteration_count extents stage) owner (λ n. slice x y (iteration extents stage n)) l no_other
+        ∙ filter-upto (is_slice x y) (iteration_count extents stage) (visits_in extents stage)
+        ∙ upto_one (iteration_count extents stage) owner (λ n. slice x y (visits_in extents stage n)) l no_other
 
     -- a slice that a task visits it visits in order
-    pub task_in_order : (number : ℕ) → number < iteration_count extents stage → (x y : ℕ) → list_any (is_slice x y) (iteration extents stage number) ≡ true
-        → slice x y (iteration extents stage number) ≡ rising x y 0 (points_of func (Some update) extents)
+    pub task_in_order : (number : ℕ) → number < iteration_count extents stage → (x y : ℕ) → list_any (is_slice x y) (visits_in extents stage number) ≡ true
+        → slice x y (visits_in extents stage number) ≡ rising x y 0 (points_of func (Some update) extents)
     task_in_order number l x y e =
         let there = visited_slice number l x y e in
         let h = slice_owner func (Some update) extents stage stage_is legal x y there in
         let own : number ≡ h.owner = owner_is number h.owner x y l h.no_other e in
-        ap (λ (n : ℕ). slice x y (iteration extents stage n)) own ∙ sym (slices_of_owner x y h.owner h.is_iteration h.no_other) ∙ all_in_order x y there
+        ap (λ (n : ℕ). slice x y (visits_in extents stage n)) own ∙ sym (slices_of_owner x y h.owner h.is_iteration h.no_other) ∙ all_in_order x y there
 
     -- a slice that is there and has points is visited by a task
     pub some_task : (x y : ℕ) → is_slice_of func (Some update) extents x y ≡ true → 1 ≤ points_of func (Some update) extents
-        → ((number : ℕ) → number < iteration_count extents stage → list_any (is_slice x y) (iteration extents stage number) ≡ false) → ⊥
+        → ((number : ℕ) → number < iteration_count extents stage → list_any (is_slice x y) (visits_in extents stage number) ≡ false) → ⊥
     some_task x y there some none =
         let h = slice_owner func (Some update) extents stage stage_is legal x y there in
-        let listed_so : slice x y (iteration extents stage h.owner) ≡ rising x y 0 (points_of func (Some update) extents) =
+        let listed_so : slice x y (visits_in extents stage h.owner) ≡ rising x y 0 (points_of func (Some update) extents) =
         sym (slices_of_owner x y h.owner h.is_iteration h.no_other) ∙ all_in_order x y there in
-        not_empty (points_of func (Some update) extents) some (sym listed_so ∙ empty_of (iteration extents stage h.owner) (none h.owner h.is_iteration))
+        not_empty (points_of func (Some update) extents) some (sym listed_so ∙ empty_of (visits_in extents stage h.owner) (none h.owner h.is_iteration))
       where
         not_empty : (n : ℕ) → 1 ≤ n → rising x y 0 n ≡ [] → ⊥
         not_empty zero l e = omega (arith, l)

@@ -1,4 +1,4 @@
--- The value of an expression hangs on the variables that it uses alone.
+-- The value of an expression depends on the variables that it uses alone.
 use Rattle.std.proofs.Common.{◌≡◌, ℕ, Bool, true, cond, sym, ap, subst, ◌∙◌}
 use Rattle.std.specs.Prelude.{◌||◌, ◌==◌}
 use Rattle.halide_pipeline.specs.declared.expressions.Expr.{Expr, ind-Expr, fold-roll-Expr, roll-Expr, map-Expr}

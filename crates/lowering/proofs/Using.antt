@@ -15,7 +15,7 @@ use Rattle.halide_pipeline.specs.Contents.{PictureContents, pixel_at}
 use Rattle.halide_pipeline.specs.Pixel.{Planes, input_plane, input_planes, reads_of, pixels}
 use Rattle.schedule_loops.specs.Visits.{times}
 use Rattle.bounds.specs.Extents.{extent}
-use Rattle.loop_ir.specs.Running.{turns}
+use Rattle.loop_ir.specs.Running.{iterated}
 use Rattle.lowering.specs.Phases.{Done, Nothing, Task}
 use Rattle.lowering.specs.Using.{numbers_below, RisingIsAnOrder, BuffersHaveBoxPoints, AreInputs, PicturesAnswerWords}
 
@@ -63,10 +63,10 @@ module _ (is_private : ℕ → Bool) (tasks : ℕ → Planes → Planes) where
   one_more _ last _ between (Task first others funcs before _ same done) = Task first (others ++ (last ∷ [])) funcs before (tasks last between) same
       (one_more others last (tasks first before) between done)
 
-  pub turns_are_done : (count : ℕ) (funcs : Planes) → Done is_private tasks (numbers_below count) funcs (turns count tasks funcs)
-  unfolding turns
-  turns_are_done zero funcs = Nothing funcs
-  turns_are_done (suc count) funcs = one_more (numbers_below count) count funcs (turns count tasks funcs) (turns_are_done count funcs)
+  pub iterations_are_done : (count : ℕ) (funcs : Planes) → Done is_private tasks (numbers_below count) funcs (iterated count tasks funcs)
+  unfolding iterated
+  iterations_are_done zero funcs = Nothing funcs
+  iterations_are_done (suc count) funcs = one_more (numbers_below count) count funcs (iterated count tasks funcs) (iterations_are_done count funcs)
 
 -- ---- buffers
 

@@ -16,12 +16,12 @@ use Rattle.halide_pipeline.specs.Points.{Point, Seen, Agree}
 use Rattle.schedule_lines.specs.declared.stages.LoopId.{LoopId}
 use Rattle.schedule.specs.declared.plans.FuncPlan.{FuncPlan}
 use Rattle.schedule.specs.declared.schedules.Schedule.{Schedule}
-use Rattle.schedule.specs.declared.standings.LoopPlace.{LoopPlace}
-use Rattle.schedule.specs.declared.standings.Place.{Place}
-use Rattle.schedule.specs.declared.standings.Place.TheVariants as places
-use Rattle.schedule.specs.declared.standings.Standing.{Standing}
+use Rattle.schedule.specs.declared.placements.LoopPlace.{LoopPlace}
+use Rattle.schedule.specs.declared.placements.ComputeLevel.{ComputeLevel}
+use Rattle.schedule.specs.declared.placements.ComputeLevel.TheVariants as places
+use Rattle.schedule.specs.declared.placements.FuncPlacement.{FuncPlacement}
 use Rattle.schedule.specs.Accepted.{IsAccepted, IsPlan, IsLegal}
-use Rattle.schedule.specs.Standing.{calls, updates_call, func_calls, place_calls, place_calls_of}
+use Rattle.schedule.specs.Placements.{calls, updates_call, func_calls, place_calls, place_calls_of}
 use Rattle.schedule.specs.Legal.{is_inlined, is_nowhere}
 use Rattle.schedule.specs.Uses.{IsReached}
 use Rattle.schedule.proofs.Uses.{IsSome, some_before}
@@ -53,7 +53,7 @@ use Rattle.loop_ir.specs.Counters.{Values}
 use Rattle.lowering_nests.specs.Nests.{loops_of}
 use Rattle.lowering_expressions.specs.declared.calls.Corner.{Corner}
 use Rattle.lowering_expressions.specs.Lowering.{placed}
-use Rattle.lowering.specs.Corners.{first_of, turns_for, turns_at, IsCornerOf, AreCorners}
+use Rattle.lowering.specs.Corners.{first_of, iterations_for, iterations_at, IsCornerOf, AreCorners}
 use Rattle.lowering.specs.Consuming.{Holds, Keeps}
 use Rattle.bounds.specs.Stages.{IsComputedAt, IsAtRoot}
 use Rattle.lowering.proofs.Facts.{produced_before}
@@ -61,13 +61,13 @@ use Rattle.lowering.proofs.Offsets.{offset_within, offset_back}
 
 -- ---- corners
 
-pub record HasCorner (plans : List FuncPlan) (corners : List Corner) (k : ℕ) (place : Place) (own : Option SourceBox) : Type 0 where
+pub record HasCorner (plans : List FuncPlan) (corners : List Corner) (k : ℕ) (place : ComputeLevel) (own : Option SourceBox) : Type 0 where
   pub corner : Corner
   pub there : slice_get corners k ≡ Some corner
   pub is : IsCornerOf plans place own corner
 
-pub corner_at : (plans : List FuncPlan) (boxes : List (Option SourceBox)) (standings : List Standing) (corners : List Corner) (k : ℕ) (own : Option SourceBox)
-    (standing : Standing)
+pub corner_at : (plans : List FuncPlan) (boxes : List (Option SourceBox)) (standings : List FuncPlacement) (corners : List Corner) (k : ℕ) (own : Option SourceBox)
+    (standing : FuncPlacement)
     → AreCorners plans boxes standings corners → slice_get boxes k ≡ Some own → slice_get standings k ≡ Some standing
     → HasCorner plans corners k standing.place own
 corner_at plans [] standings corners k own standing are there stands = absurd cc
@@ -80,13 +80,13 @@ corner_at plans (first ∷ boxes) (other ∷ standings) (corner ∷ corners) zer
       corner = corner;
       there = refl;
       is = subst (λ (o : Option SourceBox). IsCornerOf plans standing.place o corner) same
-          (subst (λ (s : Standing). IsCornerOf plans s.place first corner) same_standing are.0);
+          (subst (λ (s : FuncPlacement). IsCornerOf plans s.place first corner) same_standing are.0);
     }
 corner_at plans (first ∷ boxes) (other ∷ standings) (corner ∷ corners) (suc k) own standing are there stands =
     let h = corner_at plans boxes standings corners k own standing are.1 there stands in
     record { corner = h.corner; there = h.there; is = h.is }
 
-not_inlined : (k : ℕ) (p : Place) → IsComputed k p → is_inlined p ≡ false
+not_inlined : (k : ℕ) (p : ComputeLevel) → IsComputed k p → is_inlined p ≡ false
 not_inlined k places.Root c = refl
 not_inlined k (places.At at) c = refl
 not_inlined k places.Inlined c = absurd c
@@ -97,7 +97,7 @@ same_self k = eq-eqb k k refl
 
 module _ (pipeline : Pipeline) (schedule : Schedule) (boxes : Boxes) (rules : IsWellFormed pipeline) (accepted : IsAccepted pipeline schedule)
     (is : inferred pipeline schedule ≡ Ok boxes)
-    (placed_at : Place) (reader : ℕ) (func : Func) (plan : FuncPlan) (own : SourceBox) (here : IsComputed reader placed_at) (at : IsComputedAt pipeline schedule
+    (placed_at : ComputeLevel) (reader : ℕ) (func : Func) (plan : FuncPlan) (own : SourceBox) (here : IsComputed reader placed_at) (at : IsComputedAt pipeline schedule
     boxes placed_at reader func plan own)
     (inputs : Planes) where
   -- what reads are answered by
@@ -107,15 +107,15 @@ module _ (pipeline : Pipeline) (schedule : Schedule) (boxes : Boxes) (rules : Is
   -- ---- which Funcs are read
 
   reader_computed : IsComputed reader at.standing.place
-  reader_computed = subst (λ (p : Place). IsComputed reader p) (sym at.placed_is) here
+  reader_computed = subst (λ (p : ComputeLevel). IsComputed reader p) (sym at.placed_is) here
 
-  somewhere : (k : ℕ) → k < reader → (standing : Standing) → IsReached schedule.standings k standing → is_nowhere standing.place ≡ false
+  somewhere : (k : ℕ) → k < reader → (standing : FuncPlacement) → IsReached schedule.standings k standing → is_nowhere standing.place ≡ false
   somewhere k before standing there =
       let f = some_before pipeline.funcs reader k func at.func_is before in
       let p = pair_there IsPlan pipeline.funcs schedule.funcs k f.value accepted.plans f.is in
       (pair_at IsLegal schedule.funcs schedule.standings k p.value standing accepted.legal p.is there.standing there.reached).somewhere
 
-  computed_by : (k : ℕ) (standing : Standing) → IsReached schedule.standings k standing → (p : Place) → standing.place ≡ p → is_inlined p ≡ false
+  computed_by : (k : ℕ) (standing : FuncPlacement) → IsReached schedule.standings k standing → (p : ComputeLevel) → standing.place ≡ p → is_inlined p ≡ false
       → is_nowhere p ≡ false → IsComputed k p
   computed_by k standing there places.Root e plain some = tt
   computed_by k standing there (places.At consumer) e plain some = produced_before pipeline schedule accepted k standing there consumer e
@@ -124,15 +124,15 @@ module _ (pipeline : Pipeline) (schedule : Schedule) (boxes : Boxes) (rules : Is
 
   module _ (begun : AnswerWords pipeline.inputs (reads_of inputs (pixels pipeline.funcs inputs 0)))
       (consumer : ℕ) (consumer_func : Func) (consumer_plan : FuncPlan) (consuming : SourceBox) (consumer_at : IsAtRoot pipeline schedule boxes consumer
-      consumer_func consumer_plan consuming) (turned : loops.Values)
+      consumer_func consumer_plan consuming) (in_task : loops.Values)
       (funcs : Planes)
-      (roots_hold : (k : ℕ) (standing : Standing) → k < reader → IsReached schedule.standings k standing → standing.place ≡ places.Root
+      (roots_hold : (k : ℕ) (standing : FuncPlacement) → k < reader → IsReached schedule.standings k standing → standing.place ≡ places.Root
       → (box : SourceBox) → slice_get boxes.funcs k ≡ Some (Some box) → Holds k box no_loops (pixels pipeline.funcs inputs reader k) funcs)
       (of_consumer : (k : ℕ) (w : IsReadWithin schedule reader k) (loop : LoopPlace) → w.own.place ≡ places.At loop → loop.func ≡ consumer)
       (loops_hold : (k : ℕ) (w : IsReadWithin schedule reader k) (loop : LoopPlace) → w.own.place ≡ places.At loop
       → (box : SourceBox) → slice_get boxes.funcs k ≡ Some (Some box)
-      → Holds k box (values_in consumer_plan loop.inside turned) (pixels pipeline.funcs inputs reader k) funcs)
-      (counters : Values) (counters_are : (id : LoopId) → values_in consumer_plan id (loops_of consumer counters) ≡ values_in consumer_plan id turned)
+      → Holds k box (values_in consumer_plan loop.inside in_task) (pixels pipeline.funcs inputs reader k) funcs)
+      (counters : Values) (counters_are : (id : LoopId) → values_in consumer_plan id (loops_of consumer counters) ≡ values_in consumer_plan id in_task)
       (corners : List Corner) (are : AreCorners schedule.funcs boxes.funcs schedule.standings corners) (now : Planes) (keeps : Keeps reader funcs now) where
     words : AnswerWords pipeline.inputs wanted
     words = pixels_are_words pipeline.inputs pipeline.funcs inputs rules.funcs begun reader
@@ -142,54 +142,54 @@ module _ (pipeline : Pipeline) (schedule : Schedule) (boxes : Boxes) (rules : Is
 
     -- ---- a point that is read
 
-    ordered : (k : ℕ) (standing : Standing) → IsReached schedule.standings k standing → IsComputed k standing.place → (box : SourceBox)
+    ordered : (k : ℕ) (standing : FuncPlacement) → IsReached schedule.standings k standing → IsComputed k standing.place → (box : SourceBox)
         → slice_get boxes.funcs k ≡ Some (Some box) → IsBox box
     ordered k standing there computed box box_is = (boxes_are_produced pipeline schedule boxes is k standing there.standing there.reached computed box
         box_is).box
 
-    found_in : (k a b : ℕ) (box : SourceBox) (values : List ℕ) (standing : Standing) → IsReached schedule.standings k standing → IsComputed k standing.place
+    found_in : (k a b : ℕ) (box : SourceBox) (values : List ℕ) (standing : FuncPlacement) → IsReached schedule.standings k standing → IsComputed k standing.place
         → slice_get boxes.funcs k ≡ Some (Some box)
-        → turns_for schedule.funcs standing.place counters ≡ values → LiesIn values box a b → k < reader
+        → iterations_for schedule.funcs standing.place counters ≡ values → LiesIn values box a b → k < reader
         → Holds k box values (pixels pipeline.funcs inputs reader k) funcs
         → found (sources.Func k) a b ≡ pixels pipeline.funcs inputs reader k a b
     unfolding placed
-    found_in k a b box values standing there computed box_is turns_are lies before holds =
+    found_in k a b box values standing there computed box_is iterations_are lies before holds =
         let c = corner_at schedule.funcs boxes.funcs schedule.standings corners k (Some box) standing are box_is there.standing in
         let i = word.subtract a (first_of box.x values) in
         let j = word.subtract b (first_of box.y values) in
         let o = ordered k standing there computed box box_is in
-        let x_is = (c.is counters).0 ∙ ap (first_of box.x) turns_are in
-        let y_is = (c.is counters).1 ∙ ap (first_of box.y) turns_are in
+        let x_is = (c.is counters).0 ∙ ap (first_of box.x) iterations_are in
+        let y_is = (c.is counters).1 ∙ ap (first_of box.y) iterations_are in
         let lies_at : found (sources.Func k) a b ≡ now k i j = rw (c.there, x_is, y_is) refl in
         lies_at ∙ keeps k i j (λ e. omega (arith, e, before))
         ∙ holds i j (offset_within box.lasts values box.x a lies.first o.x.ordered) (offset_within box.lasts values box.y b lies.second o.y.ordered)
         ∙ ap (λ (n : ℕ). pixels pipeline.funcs inputs reader k n (word.add (first_of box.y values) j)) (offset_back box.lasts values box.x a lies.first)
         ∙ ap (λ (n : ℕ). pixels pipeline.funcs inputs reader k a n) (offset_back box.lasts values box.y b lies.second)
 
-    -- the turns of its consumer's loops that a Func at one of them is counted from
-    turns_are : (place : Place) (loop : LoopPlace) → place ≡ places.At loop → loop.func ≡ consumer → turns_for schedule.funcs place counters
-        ≡ values_in consumer_plan loop.inside turned
-    turns_are place loop e same =
-        ap (λ (p : Place). turns_for schedule.funcs p counters) e
-        ∙ ap (λ (p : Option FuncPlan). turns_at loop p counters) (ap (λ (n : ℕ). slice_get schedule.funcs n) same ∙ consumer_at.plan_is)
+    -- the iterations of its consumer's loops that a Func at one of them is counted from
+    iterations_are : (place : ComputeLevel) (loop : LoopPlace) → place ≡ places.At loop → loop.func ≡ consumer → iterations_for schedule.funcs place counters
+        ≡ values_in consumer_plan loop.inside in_task
+    iterations_are place loop e same =
+        ap (λ (p : ComputeLevel). iterations_for schedule.funcs p counters) e
+        ∙ ap (λ (p : Option FuncPlan). iterations_at loop p counters) (ap (λ (n : ℕ). slice_get schedule.funcs n) same ∙ consumer_at.plan_is)
         ∙ ap (λ (n : ℕ). values_in consumer_plan loop.inside (loops_of n counters)) same
         ∙ counters_are loop.inside
 
     -- ---- all points that are read
 
     record AreRead (list : List Point) : Type 0 where
-      roots : (k : ℕ) (standing : Standing) → k < reader → IsReached schedule.standings k standing → standing.place ≡ places.Root
+      roots : (k : ℕ) (standing : FuncPlacement) → k < reader → IsReached schedule.standings k standing → standing.place ≡ places.Root
           → AreBoxed no_loops (sources.Func k) (slice_get boxes.funcs k) list
       produced : (k : ℕ) (w : IsReadWithin schedule reader k) (loop : LoopPlace) → w.own.place ≡ places.At loop
-          → AreBoxed (values_in consumer_plan loop.inside turned) (sources.Func k) (slice_get boxes.funcs k) list
+          → AreBoxed (values_in consumer_plan loop.inside in_task) (sources.Func k) (slice_get boxes.funcs k) list
       through : AreReadThrough pipeline schedule.standings reader reader list
 
     -- where a point of a Func lies that is read
     record LiesThere (k a b : ℕ) : Type 0 where
-      roots : (standing : Standing) → k < reader → IsReached schedule.standings k standing → standing.place ≡ places.Root
+      roots : (standing : FuncPlacement) → k < reader → IsReached schedule.standings k standing → standing.place ≡ places.Root
           → IsBoxed no_loops (slice_get boxes.funcs k) a b
       produced : (w : IsReadWithin schedule reader k) (loop : LoopPlace) → w.own.place ≡ places.At loop
-          → IsBoxed (values_in consumer_plan loop.inside turned) (slice_get boxes.funcs k) a b
+          → IsBoxed (values_in consumer_plan loop.inside in_task) (slice_get boxes.funcs k) a b
 
     of_list : (k a b : ℕ) (list : List Point) → AreRead (record { source = sources.Func k; x = a; y = b } ∷ list) → LiesThere k a b
     of_list k a b list r = record {
@@ -203,25 +203,25 @@ module _ (pipeline : Pipeline) (schedule : Schedule) (boxes : Boxes) (rules : Is
         let w = readers_stand_within pipeline schedule accepted reader at.standing at.there reader_computed k through in
         by_place w w.own.place refl (sym (flag_is schedule.standings k w.own w.there.standing) ∙ plain) (somewhere k w.before w.own w.there)
       where
-        by_box : (w : IsReadWithin schedule reader k) → IsComputed k w.own.place → (values : List ℕ) → turns_for schedule.funcs w.own.place counters ≡ values
+        by_box : (w : IsReadWithin schedule reader k) → IsComputed k w.own.place → (values : List ℕ) → iterations_for schedule.funcs w.own.place counters ≡ values
             → ((box : SourceBox) → slice_get boxes.funcs k ≡ Some (Some box) → Holds k box values (pixels pipeline.funcs inputs reader k) funcs)
             → (answer : Option (Option SourceBox)) → slice_get boxes.funcs k ≡ answer → IsSome answer → IsBoxed values answer a b
             → found (sources.Func k) a b ≡ pixels pipeline.funcs inputs reader k a b
-        by_box w computed values turns holds None e some lies = let wrong = some.is in absurd cc
-        by_box w computed values turns holds (Some None) e some lies = absurd lies
-        by_box w computed values turns holds (Some (Some box)) e some lies = found_in k a b box values w.own w.there computed e turns lies w.before
+        by_box w computed values iterations holds None e some lies = let wrong = some.is in absurd cc
+        by_box w computed values iterations holds (Some None) e some lies = absurd lies
+        by_box w computed values iterations holds (Some (Some box)) e some lies = found_in k a b box values w.own w.there computed e iterations lies w.before
             (holds box e)
 
-        by_place : (w : IsReadWithin schedule reader k) (p : Place) → w.own.place ≡ p → is_inlined w.own.place ≡ false → is_nowhere w.own.place ≡ false
+        by_place : (w : IsReadWithin schedule reader k) (p : ComputeLevel) → w.own.place ≡ p → is_inlined w.own.place ≡ false → is_nowhere w.own.place ≡ false
             → found (sources.Func k) a b ≡ pixels pipeline.funcs inputs reader k a b
         by_place w places.Root e plain some =
-            by_box w (subst (λ (p : Place). IsComputed k p) (sym e) tt) no_loops (ap (λ (p : Place). turns_for schedule.funcs p counters) e)
+            by_box w (subst (λ (p : ComputeLevel). IsComputed k p) (sym e) tt) no_loops (ap (λ (p : ComputeLevel). iterations_for schedule.funcs p counters) e)
             (roots_hold k w.own w.before w.there e)
             (slice_get boxes.funcs k) refl (some_before boxes.funcs reader k (Some own) at.box_is w.before) (r.roots w.own w.before w.there e)
         by_place w (places.At loop) e plain some =
-            by_box w (subst (λ (p : Place). IsComputed k p) (sym e) (produced_before pipeline schedule accepted k w.own w.there loop e))
-            (values_in consumer_plan loop.inside turned)
-            (turns_are w.own.place loop e (of_consumer k w loop e)) (loops_hold k w loop e)
+            by_box w (subst (λ (p : ComputeLevel). IsComputed k p) (sym e) (produced_before pipeline schedule accepted k w.own w.there loop e))
+            (values_in consumer_plan loop.inside in_task)
+            (iterations_are w.own.place loop e (of_consumer k w loop e)) (loops_hold k w loop e)
             (slice_get boxes.funcs k) refl (some_before boxes.funcs reader k (Some own) at.box_is w.before) (r.produced w loop e)
         by_place w places.Inlined e plain some = absurd (true≢false (sym (ap is_inlined e) ∙ plain))
         by_place w places.Nowhere e plain some = absurd (true≢false (sym (ap is_nowhere e) ∙ some))
@@ -246,21 +246,21 @@ module _ (pipeline : Pipeline) (schedule : Schedule) (boxes : Boxes) (rules : Is
 
     module _ (values : List ℕ) (below : Below values own.lasts) (x y : ℕ) (lies : LiesIn values own x y)
         (may_be : (k : ℕ) (w : IsReadWithin schedule reader k) (loop : LoopPlace) → w.own.place ≡ places.At loop
-        → MayBeArguments consumer_func consumer_plan consuming loop.inside turned placed_at own x y) where
+        → MayBeArguments consumer_func consumer_plan consuming loop.inside in_task placed_at own x y) where
       are_read : AreRead (pure_points pipeline schedule wanted reader func x y)
       are_read = record {
         roots = λ k standing before there root.
             pure_reads_of_funcs_lie pipeline schedule boxes rules is reader func own at.func_is at.box_is k standing before there.standing there.reached
-            (subst (λ (p : Place). IsComputed k p) (sym root) tt)
-            None (ap (λ (p : Place). consumer_in schedule boxes.funcs p) root) own refl wanted words values below no_below x y lies;
+            (subst (λ (p : ComputeLevel). IsComputed k p) (sym root) tt)
+            None (ap (λ (p : ComputeLevel). consumer_in schedule boxes.funcs p) root) own refl wanted words values below no_below x y lies;
         produced = λ k w loop e.
             let same = of_consumer k w loop e in
             pure_reads_in_loops_lie pipeline schedule boxes rules accepted is k w.own loop w.there.standing w.there.reached e consumer_func consumer_plan
             consuming
             (ap (λ (n : ℕ). slice_get pipeline.funcs n) same ∙ consumer_at.func_is) (ap (λ (n : ℕ). slice_get schedule.funcs n) same
             ∙ consumer_at.plan_is) (ap (λ (n : ℕ). slice_get boxes.funcs n) same ∙ consumer_at.box_is)
-            reader func at.standing own w.before at.func_is at.there.standing at.there.reached at.box_is wanted words turned x y
-            (subst (λ (p : Place). MayBeArguments consumer_func consumer_plan consuming loop.inside turned p own x y) (sym at.placed_is) (may_be k w loop e));
+            reader func at.standing own w.before at.func_is at.there.standing at.there.reached at.box_is wanted words in_task x y
+            (subst (λ (p : ComputeLevel). MayBeArguments consumer_func consumer_plan consuming loop.inside in_task p own x y) (sym at.placed_is) (may_be k w loop e));
         through = pure_points_are_read_through pipeline schedule rules reader func at.func_is wanted x y;
       }
 
@@ -270,10 +270,10 @@ module _ (pipeline : Pipeline) (schedule : Schedule) (boxes : Boxes) (rules : Is
     -- ---- all points that an update reads of other Funcs
 
     record AreReadBeside (list : List Point) : Type 0 where
-      roots : (k : ℕ) (standing : Standing) → k < reader → IsReached schedule.standings k standing → standing.place ≡ places.Root
+      roots : (k : ℕ) (standing : FuncPlacement) → k < reader → IsReached schedule.standings k standing → standing.place ≡ places.Root
           → AreBoxed no_loops (sources.Func k) (slice_get boxes.funcs k) list
       produced : (k : ℕ) (w : IsReadWithin schedule reader k) (loop : LoopPlace) → w.own.place ≡ places.At loop
-          → AreBoxed (values_in consumer_plan loop.inside turned) (sources.Func k) (slice_get boxes.funcs k) list
+          → AreBoxed (values_in consumer_plan loop.inside in_task) (sources.Func k) (slice_get boxes.funcs k) list
       through : AreReadThrough pipeline schedule.standings reader (suc reader) list
 
     one_beside : (s : Source) (a b : ℕ) (list : List Point) → AreReadBeside (record { source = s; x = a; y = b } ∷ list)
@@ -305,7 +305,7 @@ module _ (pipeline : Pipeline) (schedule : Schedule) (boxes : Boxes) (rules : Is
 
     module _ (values : List ℕ) (below : Below values own.lasts) (x y : ℕ) (lies : LiesIn values own x y)
         (may_be : (k : ℕ) (w : IsReadWithin schedule reader k) (loop : LoopPlace) → w.own.place ≡ places.At loop
-        → MayBeArguments consumer_func consumer_plan consuming loop.inside turned placed_at own x y)
+        → MayBeArguments consumer_func consumer_plan consuming loop.inside in_task placed_at own x y)
         (number_at : ℕ) (update : Update) (update_is : slice_get func.updates number_at ≡ Some update) (number : ℕ) (few : number < pixel.points update)
         (reads : Reads) (read_words : AnswerWords pipeline.inputs reads) where
       near : IsNear x × IsNear y
@@ -320,7 +320,7 @@ module _ (pipeline : Pipeline) (schedule : Schedule) (boxes : Boxes) (rules : Is
         roots = λ k standing before there root.
             update_reads_of_funcs_lie pipeline schedule boxes rules is reader func own at.func_is at.box_is number_at update update_is k standing before
             there.standing there.reached
-            (subst (λ (p : Place). IsComputed k p) (sym root) tt) None (ap (λ (p : Place). consumer_in schedule boxes.funcs p) root) own refl reads read_words
+            (subst (λ (p : ComputeLevel). IsComputed k p) (sym root) tt) None (ap (λ (p : ComputeLevel). consumer_in schedule boxes.funcs p) root) own refl reads read_words
             values below no_below x y lies near.0 near.1 number few;
         produced = λ k w loop e.
             let same = of_consumer k w loop e in
@@ -328,8 +328,8 @@ module _ (pipeline : Pipeline) (schedule : Schedule) (boxes : Boxes) (rules : Is
             consuming
             (ap (λ (n : ℕ). slice_get pipeline.funcs n) same ∙ consumer_at.func_is) (ap (λ (n : ℕ). slice_get schedule.funcs n) same
             ∙ consumer_at.plan_is) (ap (λ (n : ℕ). slice_get boxes.funcs n) same ∙ consumer_at.box_is)
-            reader func at.standing own w.before at.func_is at.there.standing at.there.reached at.box_is number_at update update_is reads read_words turned x y
-            (subst (λ (p : Place). MayBeArguments consumer_func consumer_plan consuming loop.inside turned p own x y) (sym at.placed_is) (may_be k w loop e))
+            reader func at.standing own w.before at.func_is at.there.standing at.there.reached at.box_is number_at update update_is reads read_words in_task x y
+            (subst (λ (p : ComputeLevel). MayBeArguments consumer_func consumer_plan consuming loop.inside in_task p own x y) (sym at.placed_is) (may_be k w loop e))
             near.0 near.1 number few;
         through = update_points_are_read_through pipeline schedule rules reader func at.func_is unflagged number_at update update_is reads number x y;
       }

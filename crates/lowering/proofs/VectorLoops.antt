@@ -1,5 +1,5 @@
--- What is known of a vectorized loop of a stage: it has as many rounds as its split has a factor, each round takes its variable further, and
--- loops of updates take it as far in each turn.
+-- What is known of a vectorized loop of a stage: it has as many lanes as its split has a factor, each lane takes its variable further, and
+-- loops of updates take it as far in each iteration.
 use Rattle.std.proofs.Common.{◌≡◌, ℕ, zero, suc, ◌*◌, ◌≤◌, Bool, true, false, not, cond, List, [], ◌∷◌, ◌++◌, length, Option, Some, None, refl, sym, ap, subst}
 use Rattle.std.proofs.Common.{◌∙◌, arith, eq-eqb, true≢false}
 use Rattle.std.specs.Prelude.{◌==◌, ◌&&◌, ◌||◌, nat_le, is_some}
@@ -34,12 +34,12 @@ use Rattle.schedule_loops.proofs.Making.{Sound, Stays, by_making, sound_stays, s
 use Rattle.schedule_loops.proofs.Nesting.{has_id, has_same}
 use Rattle.bounds_laws.proofs.Callers.{or_right}
 use Rattle.schedule_loops.proofs.Selecting.{Unique}
-use Rattle.loop_ir.specs.Rounds.{is_round_count}
+use Rattle.loop_ir.specs.LoopLanes.{is_lane_count}
 use Rattle.schedule_loops.specs.Runs.{is_vectorized_loop}
 
 -- ---- what is asked of loops
 
--- an inner loop has as many turns as the factor of its split
+-- an inner loop has as many iterations as the factor of its split
 abbrev pub fits : Values → Loop → Option ℕ → Bool
 fits counted own None = true
 fits counted own (Some factor) = counted own.id == factor
@@ -300,7 +300,7 @@ module _ (func : Func) (update : Option Update) (extents : Extents) (stage : Sta
   unique_loops = stage_fine.is_sound.unique
 
   pub record IsVectorized (own : Loop) (outside : List Loop) : Type 0 where
-    pub count : is_round_count (counts extents stage.splits own.id) ≡ true
+    pub count : is_lane_count (counts extents stage.splits own.id) ≡ true
     pub stride : 1 ≤ strides stage.splits own.id
     pub argument : is_reduction own.variable ≡ false
     pub there : has_variable own.variable start ≡ true
@@ -343,15 +343,15 @@ module _ (func : Func) (update : Option Update) (extents : Extents) (stage : Sta
     vector_by false r e k = absurd (true≢false (sym k ∙ ap (λ (t : Bool). not (t && true)) e))
 
     count_by : (factor : Option ℕ) → is_vector_length factor ≡ true → fits (counts extents stage.splits) own factor ≡ true
-        → is_round_count (counts extents stage.splits own.id) ≡ true
+        → is_lane_count (counts extents stage.splits own.id) ≡ true
     count_by None long fit = cc
-    count_by (Some factor) long fit = ap is_round_count (eqb-true (counts extents stage.splits own.id) factor fit)
-        ∙ turned (factor == 4) (factor == 8) (factor == 16) long
+    count_by (Some factor) long fit = ap is_lane_count (eqb-true (counts extents stage.splits own.id) factor fit)
+        ∙ swapped (factor == 4) (factor == 8) (factor == 16) long
       where
-        turned : (a b c : Bool) → (a || b || c) ≡ true → (a || (b || c)) ≡ true
-        turned true b c e = refl
-        turned false true c e = refl
-        turned false false c e = e
+        swapped : (a b c : Bool) → (a || b || c) ≡ true → (a || (b || c)) ≡ true
+        swapped true b c e = refl
+        swapped false true c e = refl
+        swapped false false c e = e
 
     pub vectorized : is_vectorized_loop own ≡ true → IsVectorized own outside
     vectorized e =

@@ -13,16 +13,16 @@ use Rattle.schedule_lines.specs.Directives.{is_marked, same_id}
 use Rattle.schedule_lines.specs.Making.{IsStage, total}
 use Rattle.schedule.specs.declared.plans.FuncPlan.{FuncPlan}
 use Rattle.schedule.specs.declared.schedules.Schedule.{Schedule}
-use Rattle.schedule.specs.declared.standings.Place.{Place}
-use Rattle.schedule.specs.declared.standings.Place.TheVariants as places
-use Rattle.schedule.specs.declared.standings.Standing.{Standing}
+use Rattle.schedule.specs.declared.placements.ComputeLevel.{ComputeLevel}
+use Rattle.schedule.specs.declared.placements.ComputeLevel.TheVariants as places
+use Rattle.schedule.specs.declared.placements.FuncPlacement.{FuncPlacement}
 use Rattle.schedule.specs.Accepted.{IsAccepted, IsPlan, IsUpdateStage, Pairwise}
 use Rattle.schedule.specs.Plans.{pure_loops, update_loops, with_loop, with_second, with_reduction}
 use Rattle.halide_pipeline.specs.WellFormed.{is_first_in_place, is_second_in_place}
 use Rattle.halide_pipeline.specs.declared.definitions.Reduction.{Reduction}
 use Rattle.halide_pipeline.specs.declared.expressions.Variable.{Variable}
 use Rattle.halide_pipeline.specs.declared.expressions.Variable.TheVariants as variables
-use Rattle.schedule.specs.Standing.{pure_loops_of}
+use Rattle.schedule.specs.Placements.{pure_loops_of}
 use Rattle.schedule_loops.proofs.Making.{Stays, by_making, total_parts, bare_total}
 use Rattle.bounds_weights.specs.Weight.{copies, all_copies, copies_from, consumer_copies, factor_of, flags_of, is_computed, nodes_in, update_nodes}
 use Rattle.bounds_weights.specs.Weight.{stage_weight, updates_weight, func_weight, computed_weight, funcs_weight, weight}
@@ -67,7 +67,7 @@ module _ (flags : List Bool) (all : List Func) where
       let r = updates-most func updates stages are.1 n in
       omega (arith, e, r)
 
-  func-most : (plans : List FuncPlan) (func : Func) (plan : FuncPlan) (own : Standing) → IsPlan func plan
+  func-most : (plans : List FuncPlan) (func : Func) (plan : FuncPlan) (own : FuncPlacement) → IsPlan func plan
       → placed_share flags all plans func plan own ≤ func_weight flags all plans func plan own
   func-most plans func plan own is =
       let s = shares-are func plan (length func.updates) in
@@ -81,17 +81,17 @@ module _ (pipeline : Pipeline) (schedule : Schedule) (boxes : Boxes) (accepted :
   abbrev flagged : List Bool
   flagged = flags_of schedule.standings
 
-  abbrev share : Option Func → Option FuncPlan → Option Standing → ℕ
+  abbrev share : Option Func → Option FuncPlan → Option FuncPlacement → ℕ
   share func plan own = computed_share pipeline schedule boxes func plan own
 
-  abbrev listed : List Func → List FuncPlan → List Standing → ℕ → ℕ
+  abbrev listed : List Func → List FuncPlan → List FuncPlacement → ℕ → ℕ
   listed funcs plans standings at = share (slice_get funcs at) (slice_get plans at) (slice_get standings at)
 
   none-listed : (f : ℕ → ℕ) → ((k : ℕ) → f k ≡ 0) → (at n : ℕ) → summed f at n ≡ 0
   none-listed f none at zero = refl
   none-listed f none at (suc n) = let z = none at in let r = none-listed f none (suc at) n in omega (arith, z, r)
 
-  no-func : (plan : Option FuncPlan) (own : Option Standing) → share None plan own ≡ 0
+  no-func : (plan : Option FuncPlan) (own : Option FuncPlacement) → share None plan own ≡ 0
   no-func plan own = refl
 
   no-standing : (func : Option Func) (plan : Option FuncPlan) → share func plan None ≡ 0
@@ -103,7 +103,7 @@ module _ (pipeline : Pipeline) (schedule : Schedule) (boxes : Boxes) (accepted :
   nothing zero = refl
   nothing (suc k) = refl
 
-  computed-most : (func : Func) (plan : FuncPlan) (own : Standing) → IsPlan func plan
+  computed-most : (func : Func) (plan : FuncPlan) (own : FuncPlacement) → IsPlan func plan
       → share (Some func) (Some plan) (Some own) ≤ computed_weight flagged pipeline.funcs schedule.funcs func plan own
   computed-most func plan own is = by-test (is_computed own)
     where
@@ -112,7 +112,7 @@ module _ (pipeline : Pipeline) (schedule : Schedule) (boxes : Boxes) (accepted :
       by-test true = func-most flagged pipeline.funcs schedule.funcs func plan own is
       by-test false = omega arith
 
-  lists-most : (funcs : List Func) (plans : List FuncPlan) (standings : List Standing) → Pairwise IsPlan funcs plans → (n : ℕ)
+  lists-most : (funcs : List Func) (plans : List FuncPlan) (standings : List FuncPlacement) → Pairwise IsPlan funcs plans → (n : ℕ)
       → summed (listed funcs plans standings) 0 n ≤ funcs_weight flagged pipeline.funcs schedule.funcs funcs plans standings
   lists-most [] plans standings are n =
       let z = none-listed (listed [] plans standings) (λ k. ap (λ (f : Option Func). share f (slice_get plans k) (slice_get standings k)) (nothing k)) 0 n in
@@ -120,7 +120,7 @@ module _ (pipeline : Pipeline) (schedule : Schedule) (boxes : Boxes) (accepted :
   lists-most (func ∷ funcs) [] standings are n = absurd are
   lists-most (func ∷ funcs) (plan ∷ plans) [] are n =
       let z = none-listed (listed (func ∷ funcs) (plan ∷ plans) [])
-      (λ k. ap (λ (o : Option Standing). share (slice_get (func ∷ funcs) k) (slice_get (plan ∷ plans) k) o) (nothing k)
+      (λ k. ap (λ (o : Option FuncPlacement). share (slice_get (func ∷ funcs) k) (slice_get (plan ∷ plans) k) o) (nothing k)
       ∙ no-standing (slice_get (func ∷ funcs) k) (slice_get (plan ∷ plans) k)) 0 n in
       omega (arith, z)
   lists-most (func ∷ funcs) (plan ∷ plans) (own ∷ standings) are zero = omega arith

@@ -14,7 +14,7 @@ use Rattle.halide_pipeline.specs.Points.{Point, Agree, Hold}
 use Rattle.schedule_lines.specs.declared.stages.LoopId.TheVariants as ids
 use Rattle.schedule.specs.declared.plans.FuncPlan.{FuncPlan}
 use Rattle.schedule.specs.declared.schedules.Schedule.{Schedule}
-use Rattle.schedule.specs.declared.standings.Place.{Place}
+use Rattle.schedule.specs.declared.placements.ComputeLevel.{ComputeLevel}
 use Rattle.schedule.specs.Accepted.{IsAccepted}
 use Rattle.schedule_loops.specs.declared.extents.Extents.{Extents}
 use Rattle.schedule_loops.specs.Visits as loops
@@ -41,14 +41,14 @@ use Rattle.loop_ir.specs.Running.{run}
 use Rattle.loop_ir.specs.Soundness.{is_sound}
 use Rattle.lowering_nests.specs.Nests.{put_loops}
 use Rattle.lowering_expressions.specs.Lowering.{placed, place as place_in}
-use Rattle.lowering.specs.Corners.{first_of, turns_for}
+use Rattle.lowering.specs.Corners.{first_of, iterations_for}
 use Rattle.lowering.specs.Consuming.{Keeps}
 use Rattle.lowering.specs.Planes.{box_points}
 use Rattle.lowering.specs.PurePhases.{IsStoreOf, whole_at}
 use Rattle.bounds.specs.Stages.{IsComputedAt}
 use Rattle.lowering.proofs.Covered.{parts_of, point_there}
 use Rattle.lowering.proofs.Facts.{is_box, few}
-use Rattle.lowering.proofs.Offsets.{from_first_on, add_turned}
+use Rattle.lowering.proofs.Offsets.{from_first_on, add_swapped}
 use Rattle.lowering.proofs.Painting.{Writes}
 use Rattle.lowering.proofs.Values.{value_is}
 
@@ -58,11 +58,11 @@ put_same points place funcs f a x b y e g = ap (λ (n : ℕ). put points place n
 
 module _ (pipeline : Pipeline) (schedule : Schedule) (boxes : Boxes) (rules : IsWellFormed pipeline) (accepted : IsAccepted pipeline schedule)
     (is : inferred pipeline schedule ≡ Ok boxes)
-    (placed_at : Place) (place : ℕ) (func : Func) (plan : FuncPlan) (own : SourceBox) (here : IsComputed place placed_at) (at : IsComputedAt pipeline schedule
+    (placed_at : ComputeLevel) (place : ℕ) (func : Func) (plan : FuncPlan) (own : SourceBox) (here : IsComputed place placed_at) (at : IsComputedAt pipeline schedule
     boxes placed_at place func plan own)
     (store : Stmt) (store_of : IsStoreOf pipeline schedule boxes placed_at place func own store) (inputs : Planes)
     (values : List ℕ) (below : Below values own.lasts) (counters : Values)
-    (turns_same : (inner : loops.Values) → turns_for schedule.funcs placed_at (put_loops place inner counters) ≡ values) where
+    (iterations_same : (inner : loops.Values) → iterations_for schedule.funcs placed_at (put_loops place inner counters) ≡ values) where
   abbrev extents : Extents
   extents = extents_of own
 
@@ -122,16 +122,16 @@ module _ (pipeline : Pipeline) (schedule : Schedule) (boxes : Boxes) (rules : Is
         variables.SecondArgument) parts.1
 
     pub corner_x : linear_value (put_loops place inner counters) store_of.corner.x ≡ first_of own.x values
-    corner_x = (store_of.is_corner (put_loops place inner counters)).0 ∙ ap (first_of own.x) (turns_same inner)
+    corner_x = (store_of.is_corner (put_loops place inner counters)).0 ∙ ap (first_of own.x) (iterations_same inner)
 
     pub corner_y : linear_value (put_loops place inner counters) store_of.corner.y ≡ first_of own.y values
-    corner_y = (store_of.is_corner (put_loops place inner counters)).1 ∙ ap (first_of own.y) (turns_same inner)
+    corner_y = (store_of.is_corner (put_loops place inner counters)).1 ∙ ap (first_of own.y) (iterations_same inner)
 
     pure_is : value wanted (at_point (across inner) (down inner)) func.pure ≡ plane (x_of inner) (y_of inner)
     unfolding stage
     pure_is =
-        ap (λ (n : ℕ). value wanted (at_point n (down inner)) func.pure) (add_turned (x_of inner) (first_of own.x values))
-        ∙ ap (λ (n : ℕ). value wanted (at_point (word.add (first_of own.x values) (x_of inner)) n) func.pure) (add_turned (y_of inner) (first_of own.y values))
+        ap (λ (n : ℕ). value wanted (at_point n (down inner)) func.pure) (add_swapped (x_of inner) (first_of own.x values))
+        ∙ ap (λ (n : ℕ). value wanted (at_point (word.add (first_of own.x values) (x_of inner)) n) func.pure) (add_swapped (y_of inner) (first_of own.y values))
 
     module _ (funcs : Planes)
         (agree : Agree wanted (placed store_of.corners (put_loops place inner counters) (reads_of inputs funcs)) (pure_points pipeline schedule wanted place

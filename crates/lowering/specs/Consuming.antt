@@ -1,7 +1,7 @@
 -- Nests of Funcs that are computed at the loops of a consumer.
 --
--- At the beginning of each turn of a loop stand the nests of the Funcs that are computed at it, in order of the text. Each fills the Func's
--- buffer, which begins at the corner of its box in that turn. The loops of the consumer alone have turns there.
+-- At the beginning of each iteration of a loop stand the nests of the Funcs that are computed at it, in order of the text. Each fills the Func's
+-- buffer, which begins at the corner of its box in that iteration. The loops of the consumer alone have iterations there.
 -- This project's own.
 use Rattle.std.specs.Prelude.{◌≡◌, ◌<◌, ℕ, suc, ◌≤◌, ◌&&◌, Bool, true, List, [], ◌∷◌, ◌++◌, ◌+◌, ◌*◌, length, max, Option, Some, None, slice_get, false}
 use Rattle.std.specs.List.{AllByRecursion}
@@ -18,8 +18,8 @@ use Rattle.schedule_lines.specs.declared.stages.Stage.{Stage}
 use Rattle.schedule_lines.specs.Directives.{is_marked}
 use Rattle.schedule.specs.declared.plans.FuncPlan.{FuncPlan}
 use Rattle.schedule.specs.declared.schedules.Schedule.{Schedule}
-use Rattle.schedule.specs.declared.standings.LoopPlace.{LoopPlace}
-use Rattle.schedule.specs.declared.standings.Place.TheVariants as places
+use Rattle.schedule.specs.declared.placements.LoopPlace.{LoopPlace}
+use Rattle.schedule.specs.declared.placements.ComputeLevel.TheVariants as places
 use Rattle.schedule_loops.specs.declared.extents.Extents.{Extents}
 use Rattle.schedule_loops.specs.Visits as loops
 use Rattle.schedule_loops.specs.Visits.{parallel}
@@ -36,30 +36,30 @@ use Rattle.loop_ir.specs.Counters.{Values, no_values, with}
 use Rattle.loop_ir.specs.Depths.{depth}
 use Rattle.loop_ir.specs.Needs.{greatest_need}
 use Rattle.loop_ir.specs.Sizes.{loop_room, whole_size}
-use Rattle.loop_ir.specs.Running.{run, turns}
+use Rattle.loop_ir.specs.Running.{run, iterated}
 use Rattle.loop_ir.specs.Soundness.{every, is_sound}
 use Rattle.loop_ir.specs.Stores.{Trace, trace}
 use Rattle.lowering_nests.specs.Nests.{loops_of, put_loops, AreSmall, Repeats}
 use Rattle.lowering_expressions.specs.declared.calls.Corner.{Corner}
 use Rattle.lowering_expressions.specs.Lowering.{placed, place as place_in}
-use Rattle.lowering.specs.Corners.{first_of, turns_for, AreCorners}
+use Rattle.lowering.specs.Corners.{first_of, iterations_for, AreCorners}
 use Rattle.lowering.specs.Planes.{has_point, box_points}
 use Rattle.lowering.specs.PurePhases.{inside_of}
 use Rattle.bounds.specs.Stages.{IsComputedAt}
 use Rattle.lowering.specs.Registers.{most_need}
 use Rattle.lowering.specs.Sizes.{func_share}
 use Rattle.bounds_weights.specs.Weight.{flags_of}
-use Rattle.lowering.specs.Rounds.{MayAlwaysBeAtOnce, at_once_first}
-use Rattle.lowering_nests.specs.Rounds.{GoesAround, IsLeaf}
+use Rattle.lowering.specs.LoopLanes.{MayAlwaysBeAtOnce, at_once_first}
+use Rattle.lowering_nests.specs.LoopLanes.{GoesAround, IsLeaf}
 use Rattle.lowering_nests.specs.Runs.{RunsAround}
-use Rattle.loop_ir.specs.Rounds.{may_be_at_once}
+use Rattle.loop_ir.specs.LoopLanes.{may_be_at_once}
 use Rattle.loop_ir.specs.Runs.{is_about, stores_in_runs}
 
 -- ---- what a nest does
 
--- The loops of the consumer alone are in these turns.
+-- The loops of the consumer alone are in these iterations.
 abbrev pub consuming : ℕ → loops.Values → Values
-consuming consumer turns = put_loops consumer turns no_values
+consuming consumer iterations = put_loops consumer iterations no_values
 
 -- The buffer of a Func has these pixels from the corner of its box on, while loops have these values.
 abbrev pub Holds : ℕ → SourceBox → List ℕ → Plane → Planes → Type 0
@@ -130,15 +130,15 @@ StoresInIt place made =
     (points : Points) (inputs : Planes) (func x y : ℕ) → (func ≡ place → ⊥) → (values : Values) → AreSmall (loops_of place values) → (so_far : Trace)
     → (trace points inputs func x y made values so_far).is_stored ≡ so_far.is_stored
 
--- It does another one in so many turns of a loop.
-pub record DoesTurns (consumer : ℕ) (own : Loop) (count : ℕ) (body made : Stmt) : Type 0 where
+-- It does another one in so many iterations of a loop.
+pub record DoesIterations (consumer : ℕ) (own : Loop) (count : ℕ) (body made : Stmt) : Type 0 where
   pub runs : (points : Points) (inputs : Planes) (values : Values) (funcs : Planes)
-      → run points inputs made values funcs ≡ turns count (λ turn. run points inputs body (with (record { func = consumer; id = own.id }) turn values)) funcs
+      → run points inputs made values funcs ≡ iterated count (λ iteration. run points inputs body (with (record { func = consumer; id = own.id }) iteration values)) funcs
   pub traces : (points : Points) (inputs : Planes) (place x y : ℕ) (values : Values) (so_far : Trace)
-      → trace points inputs place x y made values so_far ≡ turns count (λ turn. trace points inputs place x y body
-      (with (record { func = consumer; id = own.id }) turn values)) so_far
+      → trace points inputs place x y made values so_far ≡ iterated count (λ iteration. trace points inputs place x y body
+      (with (record { func = consumer; id = own.id }) iteration values)) so_far
   pub sound : (reads : Reads) (written : Points) (loaded : Point → Bool) (values : Values)
-      → is_sound reads written loaded made values ≡ every count (λ turn. is_sound reads written loaded body (with (record { func = consumer; id = own.id }) turn
+      → is_sound reads written loaded made values ≡ every count (λ iteration. is_sound reads written loaded body (with (record { func = consumer; id = own.id }) iteration
       values))
   pub depth_is : depth made ≡ suc (depth body)
   pub need_is : greatest_need made ≡ greatest_need body
@@ -148,18 +148,18 @@ module _ (pipeline : Pipeline) (schedule : Schedule) (boxes : Boxes) where
   -- What the pure definition reads of other Funcs, wherever its arguments lie in its box, is answered as by their pixels, while the loops
   -- of the consumer stand so, and whatever its own buffer holds.
   abbrev pub IsAnswered : ℕ → ℕ → Func → SourceBox → List ℕ → Planes → loops.Values → Planes → Type 0
-  IsAnswered consumer place func own values inputs turned funcs =
+  IsAnswered consumer place func own values inputs in_task funcs =
       (corners : List Corner) → AreCorners schedule.funcs boxes.funcs schedule.standings corners
-      → (counters : Values) → loops_of consumer counters ≡ turned → (now : Planes) → Keeps place funcs now
+      → (counters : Values) → loops_of consumer counters ≡ in_task → (now : Planes) → Keeps place funcs now
       → (x y : ℕ) → LiesIn values own x y
       → Agree (reads_of inputs (pixels pipeline.funcs inputs place)) (placed corners counters (reads_of inputs now))
       (pure_points pipeline schedule (reads_of inputs (pixels pipeline.funcs inputs place)) place func x y)
 
   -- What its updates read of other Funcs, wherever its arguments lie in its box, is answered so too.
   abbrev pub AreUpdatesAnswered : ℕ → ℕ → Func → SourceBox → List ℕ → Planes → loops.Values → Planes → Type 0
-  AreUpdatesAnswered consumer place func own values inputs turned funcs =
+  AreUpdatesAnswered consumer place func own values inputs in_task funcs =
       (corners : List Corner) → AreCorners schedule.funcs boxes.funcs schedule.standings corners
-      → (counters : Values) → loops_of consumer counters ≡ turned → (now : Planes) → Keeps place funcs now
+      → (counters : Values) → loops_of consumer counters ≡ in_task → (now : Planes) → Keeps place funcs now
       → (at : ℕ) (update : Update) → slice_get func.updates at ≡ Some update → (number x y : ℕ) → number < points update → LiesIn values own x y
       → (plane : Plane) → AnswerWords pipeline.inputs (reads_of inputs (with_plane place plane (pixels pipeline.funcs inputs place)))
       → AllByRecursion
@@ -169,39 +169,39 @@ module _ (pipeline : Pipeline) (schedule : Schedule) (boxes : Boxes) where
       (update_points pipeline schedule (reads_of inputs (with_plane place plane (pixels pipeline.funcs inputs place))) place update number x y)
 
   -- The nest leaves what stands after the stages up to the one with this number in the whole box of the Func, and keeps all else. Where
-  -- the box begins hangs on the turns of the consumer's loops.
+  -- the box begins depends on the iterations of the consumer's loops.
   abbrev pub DoesNest : LoopPlace → ℕ → Func → SourceBox → ℕ → Stmt → Type 0
   DoesNest at place func own number made =
-      (inputs : Planes) (turned : loops.Values) → Below (turns_for schedule.funcs (places.At at) (consuming at.func turned)) own.lasts
-      → (funcs : Planes) → IsAnswered at.func place func own (turns_for schedule.funcs (places.At at) (consuming at.func turned)) inputs turned funcs
-      → Leaves place own (turns_for schedule.funcs (places.At at) (consuming at.func turned)) (stage place func inputs (pixels pipeline.funcs inputs place)
+      (inputs : Planes) (in_task : loops.Values) → Below (iterations_for schedule.funcs (places.At at) (consuming at.func in_task)) own.lasts
+      → (funcs : Planes) → IsAnswered at.func place func own (iterations_for schedule.funcs (places.At at) (consuming at.func in_task)) inputs in_task funcs
+      → Leaves place own (iterations_for schedule.funcs (places.At at) (consuming at.func in_task)) (stage place func inputs (pixels pipeline.funcs inputs place)
       number)
-      funcs (run (box_points boxes.funcs) inputs made (consuming at.func turned) funcs)
+      funcs (run (box_points boxes.funcs) inputs made (consuming at.func in_task) funcs)
 
   -- So it is for inputs of words, where what updates read is answered too.
   abbrev pub DoesNests : LoopPlace → ℕ → Func → SourceBox → ℕ → Stmt → Type 0
   DoesNests at place func own number made =
       (inputs : Planes) → AnswerWords pipeline.inputs (reads_of inputs (pixels pipeline.funcs inputs 0))
-      → (turned : loops.Values) → Below (turns_for schedule.funcs (places.At at) (consuming at.func turned)) own.lasts
-      → (funcs : Planes) → IsAnswered at.func place func own (turns_for schedule.funcs (places.At at) (consuming at.func turned)) inputs turned funcs
-      → AreUpdatesAnswered at.func place func own (turns_for schedule.funcs (places.At at) (consuming at.func turned)) inputs turned funcs
-      → Leaves place own (turns_for schedule.funcs (places.At at) (consuming at.func turned)) (stage place func inputs (pixels pipeline.funcs inputs place)
+      → (in_task : loops.Values) → Below (iterations_for schedule.funcs (places.At at) (consuming at.func in_task)) own.lasts
+      → (funcs : Planes) → IsAnswered at.func place func own (iterations_for schedule.funcs (places.At at) (consuming at.func in_task)) inputs in_task funcs
+      → AreUpdatesAnswered at.func place func own (iterations_for schedule.funcs (places.At at) (consuming at.func in_task)) inputs in_task funcs
+      → Leaves place own (iterations_for schedule.funcs (places.At at) (consuming at.func in_task)) (stage place func inputs (pixels pipeline.funcs inputs place)
       number)
-      funcs (run (box_points boxes.funcs) inputs made (consuming at.func turned) funcs)
+      funcs (run (box_points boxes.funcs) inputs made (consuming at.func in_task) funcs)
 
   -- ---- what a nest touches
 
   -- The points of the Func's box may be written and loaded, and so may be loaded, wherever its arguments lie in its box, all that its pure
   -- definition and its updates read of other sources, while the loops of the consumer stand so.
   pub record MayTouch (consumer place : ℕ) (func : Func) (own : SourceBox) (values : List ℕ) (reads : Reads) (written : Points) (loaded : Point
-      → Bool) (turned : loops.Values) : Type 0 where
+      → Bool) (in_task : loops.Values) : Type 0 where
     pub writes : (x y : ℕ) → has_point (Some own) x y ≡ true → written place x y ≡ true
     pub loads : (x y : ℕ) → has_point (Some own) x y ≡ true → loaded (record { source = sources.Func place; x = x; y = y }) ≡ true
     pub pure : (corners : List Corner) → AreCorners schedule.funcs boxes.funcs schedule.standings corners
-        → (counters : Values) → loops_of consumer counters ≡ turned → (x y : ℕ) → LiesIn values own x y
+        → (counters : Values) → loops_of consumer counters ≡ in_task → (x y : ℕ) → LiesIn values own x y
         → Hold (λ point. loaded (place_in corners counters point)) (pure_points pipeline schedule (placed corners counters reads) place func x y)
     pub updates : (corners : List Corner) → AreCorners schedule.funcs boxes.funcs schedule.standings corners
-        → (counters : Values) → loops_of consumer counters ≡ turned
+        → (counters : Values) → loops_of consumer counters ≡ in_task
         → (at : ℕ) (update : Update) → slice_get func.updates at ≡ Some update → (number x y : ℕ) → number < points update → LiesIn values own x y
         → AllByRecursion (λ point. same_source point.source (sources.Func place) ≡ false → loaded (place_in corners counters point) ≡ true)
         (update_points pipeline schedule (placed corners counters reads) place update number x y)
@@ -210,11 +210,11 @@ module _ (pipeline : Pipeline) (schedule : Schedule) (boxes : Boxes) where
   abbrev pub IsSoundNest : LoopPlace → ℕ → Func → SourceBox → Stmt → Type 0
   IsSoundNest at place func own made =
       (reads : Reads) → AnswerWords pipeline.inputs reads → (written : Points) (loaded : Point → Bool)
-      → (turned : loops.Values) → Below (turns_for schedule.funcs (places.At at) (consuming at.func turned)) own.lasts
-      → MayTouch at.func place func own (turns_for schedule.funcs (places.At at) (consuming at.func turned)) reads written loaded turned
-      → is_sound reads written loaded made (consuming at.func turned) ≡ true
+      → (in_task : loops.Values) → Below (iterations_for schedule.funcs (places.At at) (consuming at.func in_task)) own.lasts
+      → MayTouch at.func place func own (iterations_for schedule.funcs (places.At at) (consuming at.func in_task)) reads written loaded in_task
+      → is_sound reads written loaded made (consuming at.func in_task) ≡ true
 
-  -- ---- nests at the beginning of a turn
+  -- ---- nests at the beginning of an iteration
 
   -- A Func that is computed at the loop, and the nests of all its stages.
   pub record IsNestOf (at : LoopPlace) (place : ℕ) (made : Stmt) : Type 0 where
@@ -249,7 +249,7 @@ module _ (pipeline : Pipeline) (schedule : Schedule) (boxes : Boxes) where
   pub data HasLoops (consumer : ℕ) (counts : loops.Values) (leaf : Stmt) : List Loop → Stmt → Type 0 where
     No_loops : HasLoops consumer counts leaf [] leaf
     One_outside : (inside : List Loop) (own : Loop) (inner body made : Stmt) → HasLoops consumer counts leaf inside inner
-        → HasNests (record { func = consumer; inside = own.id }) 0 inner body → DoesTurns consumer own (counts own.id) body made
+        → HasNests (record { func = consumer; inside = own.id }) 0 inner body → DoesIterations consumer own (counts own.id) body made
         → GoesAround consumer counts own body made → RunsAround consumer counts own body made
         → HasLoops consumer counts leaf (inside ++ own ∷ []) made
 

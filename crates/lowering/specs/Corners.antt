@@ -1,15 +1,15 @@
--- Where boxes begin, while loops of consumers are in given turns.
+-- Where boxes begin, while loops of consumers are in given iterations.
 --
 -- The box of a Func at root begins at one point. That of a Func at a loop begins at another point in each iteration: the ends of its ranges
--- are counted from bases, multiples of the turns of its consumer's loops from that one outward.
+-- are counted from bases, multiples of the numbers of its consumer's iterations, from that loop outward.
 -- This project's own.
 use Rattle.std.specs.Prelude.{◌≡◌, ℕ, ◌%◌, ◌^◌, List, [], ◌∷◌, slice_get, Option, Some, None}
 use Rattle.halide_pipeline.specs.Words as word
 use Rattle.schedule.specs.declared.plans.FuncPlan.{FuncPlan}
-use Rattle.schedule.specs.declared.standings.LoopPlace.{LoopPlace}
-use Rattle.schedule.specs.declared.standings.Place.{Place}
-use Rattle.schedule.specs.declared.standings.Place.TheVariants as places
-use Rattle.schedule.specs.declared.standings.Standing.{Standing}
+use Rattle.schedule.specs.declared.placements.LoopPlace.{LoopPlace}
+use Rattle.schedule.specs.declared.placements.ComputeLevel.{ComputeLevel}
+use Rattle.schedule.specs.declared.placements.ComputeLevel.TheVariants as places
+use Rattle.schedule.specs.declared.placements.FuncPlacement.{FuncPlacement}
 use Rattle.bounds_ranges.specs.declared.ranges.Range.{Range}
 use Rattle.bounds_ranges.specs.Ranges.{more_sum, less_sum}
 use Rattle.bounds.specs.declared.boxes.SourceBox.{SourceBox}
@@ -29,30 +29,30 @@ abbrev pub first_of : Range → List ℕ → ℕ
 first_of range values = word.subtract (word.add (word_at range.low) (more_sum range.base values % 2 ^ 32)) (less_sum range.base values % 2 ^ 32)
 
 -- what the bases of a Func at a loop count, while counters stand so
-abbrev pub turns_at : LoopPlace → Option FuncPlan → Values → List ℕ
-turns_at at None values = no_loops
-turns_at at (Some plan) values = values_in plan at.inside (loops_of at.func values)
+abbrev pub iterations_at : LoopPlace → Option FuncPlan → Values → List ℕ
+iterations_at at None values = no_loops
+iterations_at at (Some plan) values = values_in plan at.inside (loops_of at.func values)
 
-abbrev pub turns_for : List FuncPlan → Place → Values → List ℕ
-turns_for plans (places.At at) values = turns_at at (slice_get plans at.func) values
-turns_for plans places.Root values = no_loops
-turns_for plans places.Inlined values = no_loops
-turns_for plans places.Nowhere values = no_loops
+abbrev pub iterations_for : List FuncPlan → ComputeLevel → Values → List ℕ
+iterations_for plans (places.At at) values = iterations_at at (slice_get plans at.func) values
+iterations_for plans places.Root values = no_loops
+iterations_for plans places.Inlined values = no_loops
+iterations_for plans places.Nowhere values = no_loops
 
 -- ---- corners of boxes
 
 -- It is the corner of the box of a Func that is computed there.
-abbrev pub IsCorner : List FuncPlan → Place → SourceBox → Corner → Type 0
+abbrev pub IsCorner : List FuncPlan → ComputeLevel → SourceBox → Corner → Type 0
 IsCorner plans place own corner =
-    (values : Values) → (linear_value values corner.x ≡ first_of own.x (turns_for plans place values))
-    × (linear_value values corner.y ≡ first_of own.y (turns_for plans place values))
+    (values : Values) → (linear_value values corner.x ≡ first_of own.x (iterations_for plans place values))
+    × (linear_value values corner.y ≡ first_of own.y (iterations_for plans place values))
 
-abbrev pub IsCornerOf : List FuncPlan → Place → Option SourceBox → Corner → Type 0
+abbrev pub IsCornerOf : List FuncPlan → ComputeLevel → Option SourceBox → Corner → Type 0
 IsCornerOf plans place None corner = Unit {0}
 IsCornerOf plans place (Some own) corner = IsCorner plans place own corner
 
 -- Each box has its corner.
-abbrev pub AreCorners : List FuncPlan → List (Option SourceBox) → List Standing → List Corner → Type 0
+abbrev pub AreCorners : List FuncPlan → List (Option SourceBox) → List FuncPlacement → List Corner → Type 0
 AreCorners plans [] standings corners = Unit {0}
 AreCorners plans (own ∷ boxes) [] corners = Unit {0}
 AreCorners plans (own ∷ boxes) (standing ∷ standings) [] = ⊥

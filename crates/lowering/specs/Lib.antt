@@ -13,5 +13,5 @@ pub mod Consuming
 pub mod Updates
 pub mod Lowered
 pub mod Using
-pub mod Rounds
+pub mod LoopLanes
 pub mod Runs

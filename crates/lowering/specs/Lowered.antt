@@ -26,7 +26,7 @@ use Rattle.lowering.specs.Planes.{held, box_points}
 use Rattle.lowering.specs.PurePhases.{byte_places}
 use Rattle.bounds.specs.Stages.{IsAtRoot}
 use Rattle.lowering.specs.Registers.{TakesFew}
-use Rattle.lowering.specs.Rounds.{RoundsMayBeAtOnce}
+use Rattle.lowering.specs.LoopLanes.{LanesMayBeAtOnce}
 use Rattle.lowering.specs.Runs.{StoresInRuns}
 use Rattle.lowering.specs.Sizes.{IsLight}
 use Rattle.lowering.specs.Stages.{is_private, DoesStage}
@@ -39,21 +39,21 @@ use Rattle.lowering.specs.Updates.{IsUpdateAt, owns_update}
 module _ (pipeline : Pipeline) (schedule : Schedule) (boxes : Boxes) where
   -- The phase of the stage with this number of a Func: how many tasks it has, which points each owns, which buffers are private, which
   -- inputs are bytes, what its tasks touch, that they take few registers and few words of code, which points its tasks store at, that the
-  -- rounds of vectorized loops may be done at once, and which points a run of a pure definition's vectorized loop stores at.
+  -- lanes of vectorized loops may be done at once, and which points a run of a pure definition's vectorized loop stores at.
   pub data IsStagePhase (place : ℕ) (func : Func) (plan : FuncPlan) (own : SourceBox) : ℕ → Phase → Type 0 where
     Pure : (phase : Phase) → phase.tasks ≡ iteration_count (extents_of own) plan.pure → phase.private ≡ produced_from place 0 schedule.standings
         → phase.bytes ≡ byte_places 0 pipeline.inputs
         → DoesStage pipeline schedule boxes place func 0 (owns (extents_of own) plan.pure) phase
         → TouchesItsOwn pipeline schedule boxes place (owns (extents_of own) plan.pure) phase → TakesFew pipeline schedule phase
         × IsLight pipeline schedule place func plan 0 phase
-        → StoresItsOwn boxes place (owns (extents_of own) plan.pure) phase → RoundsMayBeAtOnce phase → StoresInRuns place (extents_of own) plan.pure phase
+        → StoresItsOwn boxes place (owns (extents_of own) plan.pure) phase → LanesMayBeAtOnce phase → StoresInRuns place (extents_of own) plan.pure phase
         → IsStagePhase place func plan own 0 phase
     Updating : (at : ℕ) (update : Update) (stage : Stage) (phase : Phase) → IsUpdateAt schedule place func plan at update stage
         → phase.tasks ≡ iteration_count (update_extents own update) stage → phase.private ≡ [] → phase.bytes ≡ byte_places 0 pipeline.inputs
         → DoesStage pipeline schedule boxes place func (suc at) (owns_update own update stage) phase
         → TouchesItsOwn pipeline schedule boxes place (owns_update own update stage) phase → TakesFew pipeline schedule phase
         × IsLight pipeline schedule place func plan (suc at) phase
-        → StoresWhatItNames pipeline schedule boxes place func at own update stage phase → RoundsMayBeAtOnce phase
+        → StoresWhatItNames pipeline schedule boxes place func at own update stage phase → LanesMayBeAtOnce phase
         → IsStagePhase place func plan own (suc at) phase
 
   -- There is one exactly if there is the stage.
@@ -61,7 +61,7 @@ module _ (pipeline : Pipeline) (schedule : Schedule) (boxes : Boxes) where
   IsStagePhaseIfThere place func plan own number None = length func.updates < number
   IsStagePhaseIfThere place func plan own number (Some phase) = IsStagePhase place func plan own number phase
 
-  -- Behind other phases stand those of the first so many stages of a Func.
+  -- After other phases stand those of the first so many stages of a Func.
   pub data ArePhasesOf (place : ℕ) (func : Func) (plan : FuncPlan) (own : SourceBox) (others : List Phase) : ℕ → List Phase → Type 0 where
     None_yet : ArePhasesOf place func plan own others 0 others
     One_more : (number : ℕ) (phases : List Phase) (phase : Phase) → ArePhasesOf place func plan own others number phases
@@ -105,7 +105,7 @@ module _ (pipeline : Pipeline) (schedule : Schedule) (boxes : Boxes) where
 
   -- Wherever the phases were done one after the other, the tasks of each in any order and whatever private buffers held before each, from
   -- buffers of zeros, private ones apart, the output's buffer has each point of the picture and holds the output's pixels. (A phase asks for
-  -- zeros in the buffers of the Funcs behind its own, since those aren't its to write.)
+  -- zeros in the buffers of the Funcs after its own, since those aren't its to write.)
   abbrev pub LeaveOutput : List Phase → Type 0
   LeaveOutput phases = (inputs : Planes) → AnswerWords pipeline.inputs (reads_of inputs (pixels pipeline.funcs inputs 0))
       → (funcs after : Planes) → AgreeThere (box_points boxes.funcs) (is_private schedule.standings) funcs (λ place x y. 0)

@@ -1,7 +1,7 @@
 -- What the tasks of a phase leave in the Funcs' buffers.
 --
 -- A phase works on one Func, from planes that the buffers hold at first, the start, to planes that they hold at its end, the result. Its
--- tasks divide the points of its Func among them; what a task leaves hangs on points of other Funcs, and of its own Func on those that it
+-- tasks divide the points of its Func among them; what a task leaves depends on points of other Funcs, and of its own Func on those that it
 -- owns. Nothing is said here of which points it writes or loads on the way. Funcs whose
 -- buffers each hart has for itself are private: they hold anything before a task, and what they hold after it doesn't count.
 -- This project's own.

@@ -15,7 +15,7 @@ use Rattle.bounds.specs.Extents.{box_in, extent, BoxCorner, corner_of}
 abbrev pub from_corner : BoxCorner → Plane → Plane
 from_corner corner plane x y = plane (word.add corner.x x) (word.add corner.y y)
 
--- These pixels, each Func's counted from the corner of its box. Of a Func at a loop, whose box begins elsewhere in each turn, this means
+-- These pixels, each Func's counted from the corner of its box. Of a Func at a loop, whose box begins elsewhere in each iteration, this means
 -- nothing: its buffers are private.
 abbrev pub held : List (Option SourceBox) → Planes → Planes
 held boxes pixels place = from_corner (corner_of (box_in (slice_get boxes place))) (pixels place)

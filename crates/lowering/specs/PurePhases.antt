@@ -15,10 +15,10 @@ use Rattle.schedule_lines.specs.declared.stages.Loop.{Loop}
 use Rattle.schedule_lines.specs.declared.stages.LoopId.TheVariants as ids
 use Rattle.schedule.specs.declared.plans.FuncPlan.{FuncPlan}
 use Rattle.schedule.specs.declared.schedules.Schedule.{Schedule}
-use Rattle.schedule.specs.declared.standings.LoopPlace.{LoopPlace}
-use Rattle.schedule.specs.declared.standings.Place.{Place}
-use Rattle.schedule.specs.declared.standings.Place.TheVariants as places
-use Rattle.schedule.specs.declared.standings.Standing.{Standing}
+use Rattle.schedule.specs.declared.placements.LoopPlace.{LoopPlace}
+use Rattle.schedule.specs.declared.placements.ComputeLevel.{ComputeLevel}
+use Rattle.schedule.specs.declared.placements.ComputeLevel.TheVariants as places
+use Rattle.schedule.specs.declared.placements.FuncPlacement.{FuncPlacement}
 use Rattle.schedule.specs.Legal.{is_root}
 use Rattle.schedule.specs.Uses.{IsReached}
 use Rattle.bounds_inlining.specs.Inlining.{inlined, flagged}
@@ -35,7 +35,7 @@ use Rattle.loop_ir.specs.declared.statements.Stmt.{Stmt}
 use Rattle.loop_ir.specs.Buffers.{Points, put}
 use Rattle.loop_ir.specs.Counters.{Values}
 use Rattle.loop_ir.specs.Expressions.{linear_value}
-use Rattle.loop_ir.specs.Rounds.{all_but, all_points}
+use Rattle.loop_ir.specs.LoopLanes.{all_but, all_points}
 use Rattle.loop_ir.specs.Running.{run, run_task}
 use Rattle.loop_ir.specs.Runs.{point_of}
 use Rattle.loop_ir.specs.Soundness.{is_sound}
@@ -49,16 +49,16 @@ use Rattle.schedule_loops.specs.Visits.{owns}
 
 -- ---- which Func it is
 
-abbrev pub is_at_root : Standing → Bool
+abbrev pub is_at_root : FuncPlacement → Bool
 is_at_root own = own.is_reached && is_root own.place
 
 -- Funcs that are computed at root aren't private.
-abbrev pub RootsAreShared : List Standing → (ℕ → Bool) → Type 0
-RootsAreShared standings is_private = (other : ℕ) (own : Standing) → IsReached standings other own → own.place ≡ places.Root → is_private other ≡ false
+abbrev pub RootsAreShared : List FuncPlacement → (ℕ → Bool) → Type 0
+RootsAreShared standings is_private = (other : ℕ) (own : FuncPlacement) → IsReached standings other own → own.place ≡ places.Root → is_private other ≡ false
 
 -- The buffers of Funcs that are computed at its loops are private.
-abbrev pub ProducedArePrivate : List Standing → (ℕ → Bool) → ℕ → Type 0
-ProducedArePrivate standings is_private consumer = (place : ℕ) (own : Standing) (at : LoopPlace)
+abbrev pub ProducedArePrivate : List FuncPlacement → (ℕ → Bool) → ℕ → Type 0
+ProducedArePrivate standings is_private consumer = (place : ℕ) (own : FuncPlacement) (at : LoopPlace)
     → IsReached standings place own → own.place ≡ places.At at → at.func ≡ consumer → is_private place ≡ true
 
 -- ---- what its phase does
@@ -117,7 +117,7 @@ IsSoundPure corners flags funcs place corner pure made =
 
 -- It does so for the pure definition of a Func with this box that is computed there, where inlined Funcs are put in place, and each buffer
 -- begins at its box's corner.
-pub record IsStoreOf (pipeline : Pipeline) (schedule : Schedule) (boxes : Boxes) (placed : Place) (place : ℕ) (func : Func) (own : SourceBox) (made : Stmt) :
+pub record IsStoreOf (pipeline : Pipeline) (schedule : Schedule) (boxes : Boxes) (placed : ComputeLevel) (place : ℕ) (func : Func) (own : SourceBox) (made : Stmt) :
     Type 0 where
   pub corners : List Corner
   pub are_corners : AreCorners schedule.funcs boxes.funcs schedule.standings corners

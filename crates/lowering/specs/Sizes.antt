@@ -10,7 +10,7 @@ use Rattle.halide_pipeline.specs.Pipelines.{Pipeline}
 use Rattle.schedule_lines.specs.declared.stages.Stage.{Stage}
 use Rattle.schedule.specs.declared.plans.FuncPlan.{FuncPlan}
 use Rattle.schedule.specs.declared.schedules.Schedule.{Schedule}
-use Rattle.schedule.specs.declared.standings.Standing.{Standing}
+use Rattle.schedule.specs.declared.placements.FuncPlacement.{FuncPlacement}
 use Rattle.bounds_inlining.specs.Inlining.{inlined, flagged, counting}
 use Rattle.bounds_weights.specs.Weight.{consumer_copies, flags_of, nodes_in, update_nodes, stage_weight}
 use Rattle.loop_ir.specs.declared.expressions.Expr as loop
@@ -63,10 +63,10 @@ summed f at zero = 0
 summed f at (suc n) = f at + summed f (suc at) n
 
 -- in each copy of the code around it
-abbrev pub placed_share : List Bool → List Func → List FuncPlan → Func → FuncPlan → Standing → ℕ
+abbrev pub placed_share : List Bool → List Func → List FuncPlan → Func → FuncPlan → FuncPlacement → ℕ
 placed_share flags funcs plans func plan own = func_share flags funcs func plan * consumer_copies plans own.place
 
-abbrev pub produced_share : List Bool → List Func → List FuncPlan → ℕ → Option Func → Option FuncPlan → Option Standing → ℕ
+abbrev pub produced_share : List Bool → List Func → List FuncPlan → ℕ → Option Func → Option FuncPlan → Option FuncPlacement → ℕ
 produced_share flags funcs plans consumer None plan own = 0
 produced_share flags funcs plans consumer (Some func) None own = 0
 produced_share flags funcs plans consumer (Some func) (Some plan) None = 0

@@ -7,9 +7,9 @@ use Rattle.halide_pipeline.specs.declared.definitions.Func.{Func}
 use Rattle.halide_pipeline.specs.Pipelines.{Pipeline}
 use Rattle.halide_pipeline.specs.Pixel.{Planes, with_plane, reads_of, stage, pixels}
 use Rattle.schedule.specs.declared.schedules.Schedule.{Schedule}
-use Rattle.schedule.specs.declared.standings.Place.{Place}
-use Rattle.schedule.specs.declared.standings.Place.TheVariants as places
-use Rattle.schedule.specs.declared.standings.Standing.{Standing}
+use Rattle.schedule.specs.declared.placements.ComputeLevel.{ComputeLevel}
+use Rattle.schedule.specs.declared.placements.ComputeLevel.TheVariants as places
+use Rattle.schedule.specs.declared.placements.FuncPlacement.{FuncPlacement}
 use Rattle.bounds_ranges.specs.Laws.{AnswerWords}
 use Rattle.bounds.specs.declared.verdict.Boxes.{Boxes}
 use Rattle.loop_ir.specs.declared.statements.Phase.{Phase}
@@ -19,16 +19,16 @@ use Rattle.lowering.specs.Planes.{held, box_points}
 
 -- ---- private buffers
 
-abbrev pub is_at_loop : Place → Bool
+abbrev pub is_at_loop : ComputeLevel → Bool
 is_at_loop (places.At at) = true
 is_at_loop _ = false
 
-abbrev pub is_private_in : Option Standing → Bool
+abbrev pub is_private_in : Option FuncPlacement → Bool
 is_private_in None = false
 is_private_in (Some own) = own.is_reached && is_at_loop own.place
 
 -- Each hart has buffers of its own of Funcs that are computed at loops, of whichever consumer.
-abbrev pub is_private : List Standing → ℕ → Bool
+abbrev pub is_private : List FuncPlacement → ℕ → Bool
 is_private standings place = is_private_in (slice_get standings place)
 
 -- ---- pixels after stages

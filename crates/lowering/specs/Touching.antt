@@ -11,7 +11,7 @@ use Rattle.halide_pipeline.specs.declared.expressions.Source.TheVariants as sour
 use Rattle.halide_pipeline.specs.Pipelines.{Pipeline}
 use Rattle.halide_pipeline.specs.Points.{Point}
 use Rattle.schedule.specs.declared.schedules.Schedule.{Schedule}
-use Rattle.schedule.specs.declared.standings.Standing.{Standing}
+use Rattle.schedule.specs.declared.placements.FuncPlacement.{FuncPlacement}
 use Rattle.bounds.specs.declared.boxes.SourceBox.{SourceBox}
 use Rattle.bounds.specs.declared.verdict.Boxes.{Boxes}
 use Rattle.bounds_laws.specs.Closure.{is_within}
@@ -25,12 +25,12 @@ use Rattle.lowering.specs.PurePhases.{is_at_root}
 
 -- ---- which Funcs they are
 
-abbrev pub is_root_in : Option Standing → Bool
+abbrev pub is_root_in : Option FuncPlacement → Bool
 is_root_in None = false
 is_root_in (Some own) = is_at_root own
 
 -- the output reaches it, and it is computed at root
-abbrev pub is_root_at : List Standing → ℕ → Bool
+abbrev pub is_root_at : List FuncPlacement → ℕ → Bool
 is_root_at standings place = is_root_in (slice_get standings place)
 
 abbrev pub is_listed : List ℕ → ℕ → Bool

@@ -21,11 +21,11 @@ use Rattle.schedule_lines.specs.declared.stages.LoopId.{LoopId}
 use Rattle.schedule_lines.specs.declared.stages.Stage.{Stage}
 use Rattle.schedule.specs.declared.plans.FuncPlan.{FuncPlan}
 use Rattle.schedule.specs.declared.schedules.Schedule.{Schedule}
-use Rattle.schedule.specs.declared.standings.Place.TheVariants as places
-use Rattle.schedule.specs.declared.standings.Standing.{Standing}
+use Rattle.schedule.specs.declared.placements.ComputeLevel.TheVariants as places
+use Rattle.schedule.specs.declared.placements.FuncPlacement.{FuncPlacement}
 use Rattle.schedule.specs.Uses.{IsReached}
 use Rattle.schedule_loops.specs.Visits as loops
-use Rattle.schedule_loops.specs.Visits.{iteration, Visit, is_slice}
+use Rattle.schedule_loops.specs.Visits.{visits_in, Visit, is_slice}
 use Rattle.bounds_inlining.specs.Inlining.{inlined, flagged}
 use Rattle.bounds_inlining.specs.Laws.{seen_variable}
 use Rattle.bounds_inlining.specs.Values.{values as valuing, seeing}
@@ -59,7 +59,7 @@ pub record IsComputedIn (pipeline : Pipeline) (schedule : Schedule) (boxes : Box
   pub func_is : slice_get pipeline.funcs place ≡ Some func
   pub plan_is : slice_get schedule.funcs place ≡ Some plan
   pub box_is : slice_get boxes.funcs place ≡ Some (Some own)
-  pub standing : Standing
+  pub standing : FuncPlacement
   pub there : IsReached schedule.standings place standing
   pub computed : IsComputed place standing.place
 
@@ -161,9 +161,9 @@ in_place false n = 0
 abbrev pub is_visited : Update → ℕ → ℕ → Visit → Bool
 is_visited update x y visit = is_slice (in_place (is_first_in_place update) x) (in_place (is_second_in_place update) y) visit
 
--- A task owns the points of the box in the slices that its iteration visits. Which of them it writes hangs on data.
+-- A task owns the points of the box in the slices that its iteration visits. Which of them it writes depends on data.
 abbrev pub owns_update : SourceBox → Update → Stage → ℕ → ℕ → ℕ → Bool
-owns_update own update stage number x y = has_point (Some own) x y && list_any (is_visited update x y) (iteration (update_extents own update) stage number)
+owns_update own update stage number x y = has_point (Some own) x y && list_any (is_visited update x y) (visits_in (update_extents own update) stage number)
 
 -- ---- its loops, where the Func is computed at a loop
 
@@ -179,8 +179,8 @@ pub record IsBegin (values : List ℕ) (own : SourceBox) (corner : BoxCorner) : 
 
 -- Wherever its loops take its arguments, an update reads other Funcs as by their pixels.
 abbrev pub ReadsPixels : Pipeline → Schedule → List Corner → ℕ → Update → List ℕ → SourceBox → Planes → Values → Planes → Type 0
-ReadsPixels pipeline schedule corners place update turns own inputs values funcs =
-    (inner : loops.Values) (number x y : ℕ) → number < points update → LiesIn turns own x y
+ReadsPixels pipeline schedule corners place update iterations own inputs values funcs =
+    (inner : loops.Values) (number x y : ℕ) → number < points update → LiesIn iterations own x y
     → (plane : Plane) → AnswerWords pipeline.inputs (reads_of inputs (with_plane place plane (pixels pipeline.funcs inputs place)))
     → AllByRecursion
     (λ point. same_source point.source (sources.Func place) ≡ false
@@ -190,8 +190,8 @@ ReadsPixels pipeline schedule corners place update turns own inputs values funcs
 
 -- Wherever its loops take its arguments, all that an update reads of other sources may be loaded.
 abbrev pub LoadsOthers : Pipeline → Schedule → List Corner → ℕ → Update → List ℕ → SourceBox → Reads → (Point → Bool) → Values → Type 0
-LoadsOthers pipeline schedule corners place update turns own reads loaded values =
-    (inner : loops.Values) (number x y : ℕ) → number < points update → LiesIn turns own x y
+LoadsOthers pipeline schedule corners place update iterations own reads loaded values =
+    (inner : loops.Values) (number x y : ℕ) → number < points update → LiesIn iterations own x y
     → AllByRecursion (λ point. same_source point.source (sources.Func place) ≡ false → loaded (place_in corners (put_loops place inner values) point) ≡ true)
     (update_points pipeline schedule (placed corners (put_loops place inner values) reads) place update number x y)
 
@@ -205,22 +205,22 @@ pub record Leaves (place : ℕ) (own : SourceBox) (result : Plane) (funcs after 
   pub keeps : (other x y : ℕ) → (other ≡ place → has_point (Some own) x y ≡ false) → after other x y ≡ funcs other x y
 
 -- the loop at which the Func is computed, if it is computed at one
-abbrev pub consumer_at : Schedule → Boxes → Standing → Option ConsumerLoop
+abbrev pub consumer_at : Schedule → Boxes → FuncPlacement → Option ConsumerLoop
 consumer_at schedule boxes standing = consumer_in schedule boxes.funcs standing.place
 
 -- what loops of the consumer stand at, where there is a consumer
-abbrev pub produced_turns : Schedule → Boxes → Standing → List ℕ → List ℕ
-produced_turns schedule boxes standing turns = values_for (consumer_at schedule boxes standing) turns
+abbrev pub produced_iterations : Schedule → Boxes → FuncPlacement → List ℕ → List ℕ
+produced_iterations schedule boxes standing iterations = values_for (consumer_at schedule boxes standing) iterations
 
 -- So it is under all values of loops, of which the Func's own haven't begun, wherever those of the consumer take the Func's box.
 abbrev pub DoesUpdate : Pipeline → Schedule → Boxes → List Corner → ℕ → Func → Corner → SourceBox → ℕ → Update → Stmt → Type 0
 DoesUpdate pipeline schedule boxes corners place func corner own at update made =
     (inputs : Planes) → AnswerWords pipeline.inputs (reads_of inputs (pixels pipeline.funcs inputs 0))
-    → (standing : Standing) → IsReached schedule.standings place standing
-    → (turns : List ℕ) → Below (produced_turns schedule boxes standing turns) (lasts_of (consumer_at schedule boxes standing))
-    → (begin : BoxCorner) → IsBegin (produced_turns schedule boxes standing turns) own begin
+    → (standing : FuncPlacement) → IsReached schedule.standings place standing
+    → (iterations : List ℕ) → Below (produced_iterations schedule boxes standing iterations) (lasts_of (consumer_at schedule boxes standing))
+    → (begin : BoxCorner) → IsBegin (produced_iterations schedule boxes standing iterations) own begin
     → (values : Values) → IsCornerAt place values corner begin → ((id : LoopId) → loops_of place values id ≡ 0)
-    → (funcs : Planes) → ReadsPixels pipeline schedule corners place update (produced_turns schedule boxes standing turns) own inputs values funcs
+    → (funcs : Planes) → ReadsPixels pipeline schedule corners place update (produced_iterations schedule boxes standing iterations) own inputs values funcs
     → ((x y : ℕ) → has_point (Some own) x y ≡ true → funcs place x y ≡ stage_from pipeline inputs place func begin at x y)
     → Leaves place own (stage_from pipeline inputs place func begin (suc at)) funcs (run (box_points boxes.funcs) inputs made values funcs)
 
@@ -231,9 +231,9 @@ AreSoundLoops pipeline schedule boxes corners place corner own update made =
     (reads : Reads) → AnswerWords pipeline.inputs reads → (written : Points) (loaded : Point → Bool)
     → ((x y : ℕ) → has_point (Some own) x y ≡ true → written place x y ≡ true)
     → ((x y : ℕ) → has_point (Some own) x y ≡ true → loaded (record { source = sources.Func place; x = x; y = y }) ≡ true)
-    → (standing : Standing) → IsReached schedule.standings place standing
-    → (turns : List ℕ) → Below (produced_turns schedule boxes standing turns) (lasts_of (consumer_at schedule boxes standing))
-    → (begin : BoxCorner) → IsBegin (produced_turns schedule boxes standing turns) own begin
+    → (standing : FuncPlacement) → IsReached schedule.standings place standing
+    → (iterations : List ℕ) → Below (produced_iterations schedule boxes standing iterations) (lasts_of (consumer_at schedule boxes standing))
+    → (begin : BoxCorner) → IsBegin (produced_iterations schedule boxes standing iterations) own begin
     → (values : Values) → IsCornerAt place values corner begin → ((id : LoopId) → loops_of place values id ≡ 0)
-    → LoadsOthers pipeline schedule corners place update (produced_turns schedule boxes standing turns) own reads loaded values
+    → LoadsOthers pipeline schedule corners place update (produced_iterations schedule boxes standing iterations) own reads loaded values
     → is_sound reads written loaded made values ≡ true

@@ -12,7 +12,7 @@ use Rattle.bounds_ranges.specs.Laws.{AnswerWords}
 use Rattle.bounds.specs.declared.boxes.SourceBox.{SourceBox}
 use Rattle.bounds.specs.Extents.{extent}
 use Rattle.loop_ir.specs.Buffers.{BufferContents, points_of}
-use Rattle.loop_ir.specs.Running.{turns}
+use Rattle.loop_ir.specs.Running.{iterated}
 use Rattle.lowering.specs.Phases.{Done}
 use Rattle.lowering.specs.Planes.{box_points}
 
@@ -27,10 +27,10 @@ numbers_below (suc n) = numbers_below n ++ (n ∷ [])
 abbrev pub RisingIsAnOrder : Type 0
 RisingIsAnOrder = (count : ℕ) → IsOrder count (numbers_below count)
 
--- The turns of a loop over tasks do them in that order.
-abbrev pub TurnsAreDone : Type 0
-TurnsAreDone = (is_private : ℕ → Bool) (tasks : ℕ → Planes → Planes) (count : ℕ) (funcs : Planes)
-    → Done is_private tasks (numbers_below count) funcs (turns count tasks funcs)
+-- The iterations of a loop over tasks do them in that order.
+abbrev pub IterationsAreDone : Type 0
+IterationsAreDone = (is_private : ℕ → Bool) (tasks : ℕ → Planes → Planes) (count : ℕ) (funcs : Planes)
+    → Done is_private tasks (numbers_below count) funcs (iterated count tasks funcs)
 
 -- ---- buffers
 

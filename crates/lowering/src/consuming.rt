@@ -3,7 +3,7 @@
 ghost use Rattle.std.specs.Prelude.{◌≡◌, ◌-◌, ◌<◌, ◌≤◌, ◌^◌, ◌+◌, ◌++◌, IfOk, OnOk, length, slice_get, suc, true};
 ghost use Rattle.std.specs.Prelude.{◌*◌};
 ghost use Rattle.std.specs.Option.{option_copied};
-ghost use Rattle.schedule.specs.declared.standings.Place.TheVariants as places;
+ghost use Rattle.schedule.specs.declared.placements.ComputeLevel.TheVariants as places;
 ghost use Rattle.schedule_loops.specs.Visits.{AreSplits, counts};
 ghost use Rattle.schedule_loops.specs.Visits.{parallel};
 ghost use Rattle.bounds.specs.Extents.{box_in};
@@ -18,7 +18,7 @@ ghost use Rattle.lowering.specs.Consuming as spec;
 ghost use Rattle.lowering.specs.PurePhases.{inside_of};
 ghost use Rattle.bounds.specs.Stages.{IsComputedAt};
 ghost use Rattle.lowering.specs.Registers.{most_need};
-ghost use Rattle.lowering.specs.Rounds.{MayAlwaysBeAtOnce};
+ghost use Rattle.lowering.specs.LoopLanes.{MayAlwaysBeAtOnce};
 ghost use Rattle.lowering.specs.Sizes.{shares};
 ghost use Rattle.lowering.specs.Updates.{IsUpdateAt};
 
@@ -30,7 +30,7 @@ use bounds::{Plan, SourceBox};
 use loop_ir::statements::Stmt;
 use lowering_nests::loops::loop_once;
 use lowering_nests::splits::with_splits;
-use schedule::{LoopPlace, Place, Standing};
+use schedule::{ComputeLevel, FuncPlacement, LoopPlace};
 use schedule_lines::stages::same_id;
 use schedule_lines::{Loop, Stage};
 use schedule_loops::{Extents, LoopSizes};
@@ -38,19 +38,19 @@ use sqlite_items::{Boxed, Items};
 use std::alloc::{AllocError, Global};
 
 /// Whether a place is at a loop of the consumer.
-fn is_at_loop_of(consumer: usize, place: Place) -> bool
+fn is_at_loop_of(consumer: usize, place: ComputeLevel) -> bool
     ensures { result ≡ produced.is_at_loop_of consumer place }
 {
     match place {
-        Place::At(at) => at.func == consumer,
-        Place::Root => false,
-        Place::Inlined => false,
-        Place::Nowhere => false,
+        ComputeLevel::At(at) => at.func == consumer,
+        ComputeLevel::Root => false,
+        ComputeLevel::Inlined => false,
+        ComputeLevel::Nowhere => false,
     }
 }
 
 /// Whether the output reaches a Func that is computed at a loop of the consumer.
-fn is_produced(consumer: usize, own: &Standing) -> bool
+fn is_produced(consumer: usize, own: &FuncPlacement) -> bool
     ensures { result ≡ produced.is_produced consumer own.now }
 {
     own.is_reached && is_at_loop_of(consumer, own.place)
@@ -60,7 +60,7 @@ fn is_produced(consumer: usize, own: &Standing) -> bool
 fn add_produced(
     consumer: usize,
     at: usize,
-    standings: &[Standing],
+    standings: &[FuncPlacement],
     places: &mut Items<usize>,
 ) -> Result<(), AllocError>
     requires { at + length standings.now < 2 ^ 64 }
@@ -86,7 +86,7 @@ fn add_produced(
 pub fn produced_places(
     alloc: Global,
     consumer: usize,
-    standings: &[Standing],
+    standings: &[FuncPlacement],
 ) -> Result<Items<usize>, AllocError>
     ensures { IfOk result (λ places. places ≡ produced.produced_from consumer 0 standings.now) }
 {
@@ -96,15 +96,15 @@ pub fn produced_places(
 }
 
 /// Whether the output reaches a Func that is computed at this loop.
-fn is_computed_at(at: LoopPlace, own: &Standing) -> bool
+fn is_computed_at(at: LoopPlace, own: &FuncPlacement) -> bool
     ensures { result ≡ produced.is_computed_at at own.now }
 {
     own.is_reached
         && match own.place {
-            Place::At(other) => other.func == at.func && same_id(other.inside, at.inside),
-            Place::Root => false,
-            Place::Inlined => false,
-            Place::Nowhere => false,
+            ComputeLevel::At(other) => other.func == at.func && same_id(other.inside, at.inside),
+            ComputeLevel::Root => false,
+            ComputeLevel::Inlined => false,
+            ComputeLevel::Nowhere => false,
         }
 }
 
@@ -118,7 +118,7 @@ pub fn box_at(boxes: &[Option<SourceBox>], place: usize) -> Option<&SourceBox>
     }
 }
 
-/// The nest of an update of a Func that is computed at a loop, behind the nests of the stages before it.
+/// The nest of an update of a Func that is computed at a loop, after the nests of the stages before it.
 fn with_update(
     alloc: Global,
     plan: &Plan<'_>,

@@ -3,7 +3,7 @@
 ghost use Rattle.std.specs.Prelude.{◌≡◌, ◌≤◌, ◌+◌, ◌*◌, ◌%◌, ◌^◌, List, IfOk, OnOk, length, slice_get};
 ghost use Rattle.std.specs.Option.{option_copied};
 ghost use Rattle.bounds.specs.Boxes as bounds_boxes;
-ghost use Rattle.bounds_laws.specs.ConsumerLaws.{turn_at, values_in};
+ghost use Rattle.bounds_laws.specs.ConsumerLaws.{iteration_at, values_in};
 ghost use Rattle.lowering_expressions.specs.Sizing.{AreShort, IsShort};
 ghost use Rattle.loop_ir.specs.Counters.{Values};
 ghost use Rattle.loop_ir.specs.Expressions.{linear_value, sum_of};
@@ -19,7 +19,7 @@ use bounds_ranges::ranges::{LEAST, Range};
 use halide_pipeline::words;
 use loop_ir::expressions::{Counter, Linear, Term};
 use lowering_expressions::Corner;
-use schedule::{FuncPlan, Place, Standing};
+use schedule::{ComputeLevel, FuncPlacement, FuncPlan};
 use schedule_lines::{Loop, LoopId};
 use sqlite_items::Items;
 use std::alloc::{AllocError, Global};
@@ -31,9 +31,10 @@ pub(crate) fn word_at(end: u64) -> u32
     ((end.saturating_sub(LEAST) + (1 << 31)) % (1 << 32)) as u32
 }
 
-/// What stands at the turn of the loop at a place, if it isn't among so many loops that stand inside.
+/// What stands at the iteration of the loop at a place, if it isn't among so many loops that stand inside.
 fn counter_at(func: usize, loops: &[Loop], inner: usize, at: usize) -> Option<Counter>
-    ensures { (values : Values) → spec.counted_at values result ≡ turn_at inner (loops_of func values) loops.now at }
+    ensures { (values : Values) → spec.counted_at values result
+        ≡ iteration_at inner (loops_of func values) loops.now at }
 {
     if at < inner {
         return None;
@@ -44,7 +45,7 @@ fn counter_at(func: usize, loops: &[Loop], inner: usize, at: usize) -> Option<Co
     }
 }
 
-/// What stands at the turns of a loop of the Func at a place and of those outside of it.
+/// What stands at the iterations of a loop of the Func at a place and of those outside of it.
 fn counters_from(func: usize, plan: &FuncPlan, inside: LoopId) -> [Option<Counter>; 5]
     ensures { (values : Values) → spec.counted values result ≡ values_in plan.now inside (loops_of func values) }
 {
@@ -66,18 +67,18 @@ fn no_counters() -> [Option<Counter>; 5]
     [None, None, None, None, None]
 }
 
-/// What stands at the turns that the base of a Func's box counts.
-fn counters_of(plans: &[FuncPlan], place: Place) -> [Option<Counter>; 5]
-    ensures { (values : Values) → spec.counted values result ≡ spec.turns_for plans.now place values }
+/// What stands at the iterations that the base of a Func's box counts.
+fn counters_of(plans: &[FuncPlan], place: ComputeLevel) -> [Option<Counter>; 5]
+    ensures { (values : Values) → spec.counted values result ≡ spec.iterations_for plans.now place values }
 {
     match place {
-        Place::At(at) => match plans.get(at.func) {
+        ComputeLevel::At(at) => match plans.get(at.func) {
             None => no_counters(),
             Some(plan) => counters_from(at.func, plan, at.inside),
         },
-        Place::Root => no_counters(),
-        Place::Inlined => no_counters(),
-        Place::Nowhere => no_counters(),
+        ComputeLevel::Root => no_counters(),
+        ComputeLevel::Inlined => no_counters(),
+        ComputeLevel::Nowhere => no_counters(),
     }
 }
 
@@ -160,7 +161,7 @@ fn first_of(
 pub fn corner_of(
     alloc: Global,
     plans: &[FuncPlan],
-    place: Place,
+    place: ComputeLevel,
     own: &SourceBox,
 ) -> Result<Corner, AllocError>
     ensures short { IfOk result IsShort }
@@ -176,7 +177,7 @@ pub fn corner_of(
 fn corner_or_none(
     alloc: Global,
     plans: &[FuncPlan],
-    place: Place,
+    place: ComputeLevel,
     own: &Option<SourceBox>,
 ) -> Result<Corner, AllocError>
     ensures short { IfOk result IsShort }
@@ -204,7 +205,7 @@ pub fn corners_of(
     alloc: Global,
     plans: &[FuncPlan],
     boxes: &[Option<SourceBox>],
-    standings: &[Standing],
+    standings: &[FuncPlacement],
 ) -> Result<Vec<Corner>, AllocError>
     ensures short { IfOk result (λ corners. AreShort corners.items) }
     ensures are { IfOk result (λ corners. spec.AreCorners plans.now boxes.now standings.now corners.items) }

@@ -4,7 +4,7 @@ ghost use Rattle.lowering.specs.Lowered.{PhasesDoPixels, PhasesLeaveOutput};
 ghost use Rattle.lowering.specs.Order.{PhasesInOrder};
 ghost use Rattle.lowering.specs.Phases.{TasksInAnyOrder};
 ghost use Rattle.lowering.specs.Runs.{RunsAreListed};
-ghost use Rattle.lowering.specs.Using.{BuffersHaveBoxPoints, PicturesAnswerWords, RisingIsAnOrder, TurnsAreDone};
+ghost use Rattle.lowering.specs.Using.{BuffersHaveBoxPoints, PicturesAnswerWords, RisingIsAnOrder, IterationsAreDone};
 
 /// A phase whose tasks each leave the result at the points that they own leaves it at all points, in whatever order the
 /// tasks are done, and whatever private buffers hold before each.
@@ -35,8 +35,8 @@ pub fn rising_is_an_order()
 {}
 
 /// A loop over tasks does them in that order.
-pub fn turns_are_done()
-    ensures { TurnsAreDone }
+pub fn iterations_are_done()
+    ensures { IterationsAreDone }
 {}
 
 /// Buffers of the boxes' extents have the boxes' points.
@@ -49,7 +49,7 @@ pub fn pictures_answer_words()
     ensures { PicturesAnswerWords }
 {}
 
-/// The runs of a stage's vectorized loop are what the stage visits in all turns of its other loops.
+/// The runs of a stage's vectorized loop are what the stage visits in all iterations of its other loops.
 pub fn runs_are_listed()
     ensures { RunsAreListed }
 {}

@@ -2,7 +2,7 @@
 
 ghost use Rattle.std.specs.Prelude.{◌≡◌, ◌≤◌, IfOk, max, true, ◌+◌, ◌*◌};
 ghost use Rattle.halide_pipeline.specs.WellFormed.{IsWellFormed};
-ghost use Rattle.schedule.specs.declared.standings.Place.TheVariants as places;
+ghost use Rattle.schedule.specs.declared.placements.ComputeLevel.TheVariants as places;
 ghost use Rattle.bounds_weights.specs.Weight.{flags_of, nodes_in, stage_weight};
 ghost use Rattle.loop_ir.specs.Depths.{depth};
 ghost use Rattle.loop_ir.specs.Needs.{greatest_need};
@@ -11,8 +11,8 @@ ghost use Rattle.loop_ir.specs.Sizes.{whole_size};
 ghost use Rattle.lowering.specs.Consuming.{DoesNest, IsSoundNest, StoresInIt};
 ghost use Rattle.lowering.specs.PurePhases.{IsStoreOf};
 ghost use Rattle.bounds.specs.Stages.{IsComputedAt};
-ghost use Rattle.lowering.specs.Rounds.{MayAlwaysBeAtOnce};
-ghost use Rattle.lowering_nests.specs.Rounds.{IsLeaf};
+ghost use Rattle.lowering.specs.LoopLanes.{MayAlwaysBeAtOnce};
+ghost use Rattle.lowering_nests.specs.LoopLanes.{IsLeaf};
 ghost use Rattle.lowering.specs.Registers.{most_need, taken};
 ghost use Rattle.lowering.specs.Sizes.{counted};
 
@@ -24,14 +24,14 @@ use bounds::boxes::extents_of;
 use bounds_weights::weighing::inlined_flags;
 use loop_ir::statements::Stmt;
 use lowering_nests::nests::with_nest;
-use schedule::{LoopPlace, Place};
+use schedule::{ComputeLevel, LoopPlace};
 use std::alloc::{AllocError, Global};
 
 /// The store of the pure definition of a Func that is computed there.
 pub(crate) fn store_of(
     alloc: Global,
     plan: &Plan<'_>,
-    placed: Place,
+    placed: ComputeLevel,
     computed: &ComputedFunc<'_>,
 ) -> Result<Stmt, AllocError>
     ensures rules { IsWellFormed plan.now.pipeline }
@@ -92,7 +92,7 @@ pub fn pure_nest(
 {
     // What every plan keeps is known once its parts are read.
     let _schedule = plan.schedule();
-    let placed = Place::At(at);
+    let placed = ComputeLevel::At(at);
     let extents = extents_of(computed.own);
     let store = store_of(alloc, plan, placed, computed)?;
     let made = with_nest(

@@ -55,7 +55,7 @@ fn stage_phase(
     Ok(Some(phase))
 }
 
-/// Puts the phase of a stage of a Func that is computed at root behind those of the stages before it.
+/// Puts the phase of a stage of a Func that is computed at root after those of the stages before it.
 fn with_stage(
     alloc: Global,
     plan: &Plan<'_>,
@@ -81,7 +81,7 @@ fn with_stage(
     Ok(phases)
 }
 
-/// Puts the phases of the stages of a Func that is computed at root, up to the one with this number, behind others.
+/// Puts the phases of the stages of a Func that is computed at root, up to the one with this number, after others.
 fn with_stages(
     alloc: Global,
     plan: &Plan<'_>,
@@ -104,7 +104,7 @@ fn with_stages(
     Ok(phases)
 }
 
-/// Puts the phases of the Func at a place behind those of the Funcs before it.
+/// Puts the phases of the Func at a place after those of the Funcs before it.
 fn with_func(
     alloc: Global,
     plan: &Plan<'_>,

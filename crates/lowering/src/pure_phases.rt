@@ -13,7 +13,7 @@ ghost use Rattle.lowering.specs.PurePhases as spec;
 ghost use Rattle.bounds.specs.Stages as spec_stages;
 ghost use Rattle.lowering.specs.Registers.{most_need};
 ghost use Rattle.lowering.specs.Sizes.{IsLight};
-ghost use Rattle.lowering.specs.Rounds.{RoundsMayBeAtOnce};
+ghost use Rattle.lowering.specs.LoopLanes.{LanesMayBeAtOnce};
 ghost use Rattle.lowering.specs.Runs.{StoresInRuns};
 ghost use Rattle.lowering.specs.Stages.{DoesStage};
 ghost use Rattle.lowering.specs.Stored.{StoresItsOwn};
@@ -27,7 +27,7 @@ use bounds::boxes::extents_of;
 use halide_pipeline::Input;
 use loop_ir::expressions::Counter;
 use loop_ir::statements::Phase;
-use schedule::{Place, Standing};
+use schedule::{ComputeLevel, FuncPlacement};
 use schedule_lines::Stage;
 use schedule_loops::{Extents, LoopSizes};
 use sqlite_items::Items;
@@ -116,7 +116,7 @@ pub fn pure_phase(
     ensures light { IfOk result (IsLight plan.now.pipeline plan.now.schedule computed.now.place
         computed.now.func.now computed.now.plan.now 0) }
     ensures few_tasks { IfOk result (λ phase. phase.tasks ≤ 2 ^ 31) }
-    ensures rounds { IfOk result RoundsMayBeAtOnce }
+    ensures loop_lanes { IfOk result LanesMayBeAtOnce }
     ensures in_runs { IfOk result (StoresInRuns computed.now.place (views.extents_of computed.now.own.now)
         computed.now.plan.now.pure) }
     ensures stores { IfOk result (StoresItsOwn plan.now.boxes computed.now.place
@@ -125,7 +125,7 @@ pub fn pure_phase(
     let schedule = plan.schedule();
     let stage = &computed.plan.pure;
     let extents = extents_of(computed.own);
-    let root = Place::Root;
+    let root = ComputeLevel::Root;
     let store = store_of(alloc, plan, root, computed)?;
     let body = body_of(alloc, plan, computed.place, stage, extents, store)?;
     let tasks = task_count(alloc, stage, extents)?;
@@ -142,8 +142,8 @@ pub fn pure_phase(
 }
 
 /// Whether the output reaches a Func, and it is computed at root.
-pub(crate) fn is_at_root(own: &Standing) -> bool
+pub(crate) fn is_at_root(own: &FuncPlacement) -> bool
     ensures { result ≡ spec.is_at_root own.now }
 {
-    own.is_reached && matches!(own.place, Place::Root)
+    own.is_reached && matches!(own.place, ComputeLevel::Root)
 }

@@ -12,7 +12,7 @@ ghost use Rattle.loop_ir.specs.Runs.{is_about};
 ghost use Rattle.loop_ir.specs.Sizes.{whole_size};
 ghost use Rattle.lowering_expressions.specs.Lowering.{environment};
 ghost use Rattle.lowering_expressions.specs.Sizing.{AreShort, AreShortArguments, IsShort};
-ghost use Rattle.lowering_nests.specs.Rounds.{IsLeaf};
+ghost use Rattle.lowering_nests.specs.LoopLanes.{IsLeaf};
 ghost use Rattle.lowering.specs.PurePhases.{HitsPure, IsSoundPure, MissesPure, StoresPure, whole_at};
 ghost use Rattle.lowering.specs.Registers.{taken};
 ghost use Rattle.lowering.specs.Sizes.{counted};

@@ -18,7 +18,7 @@ ghost use Rattle.lowering_expressions.specs.Sizing.{AreShort, AreShortArguments,
 ghost use Rattle.lowering.specs.Registers.{second_taken, update_taken};
 ghost use Rattle.lowering.specs.Sizes.{IsGivenIndex, update_counted};
 ghost use Rattle.lowering.specs.Updates as spec;
-ghost use Rattle.lowering_nests.specs.Rounds.{IsLeaf};
+ghost use Rattle.lowering_nests.specs.LoopLanes.{IsLeaf};
 
 use crate::stores::{LoweredFunc, whole_of};
 use halide_pipeline::{Expr, Reduction, Update, Variable};

@@ -15,7 +15,7 @@ ghost use Rattle.loop_ir.specs.Runs.{is_about};
 ghost use Rattle.loop_ir.specs.Sizes.{whole_size};
 ghost use Rattle.lowering_expressions.specs.Sizing.{AreShort, IsShort};
 ghost use Rattle.lowering_nests.specs.Nests.{AreFew, Repeats};
-ghost use Rattle.lowering_nests.specs.Rounds.{IsLeaf, MayBeAtOnce, MayBeUnder};
+ghost use Rattle.lowering_nests.specs.LoopLanes.{IsLeaf, MayBeAtOnce, MayBeUnder};
 ghost use Rattle.lowering_nests.specs.Sizes.{nest_size};
 ghost use Rattle.schedule_lines.specs.declared.stages.Loop.{Loop};
 ghost use Rattle.lowering.specs.Consuming.{StoresInIt};
@@ -23,7 +23,7 @@ ghost use Rattle.lowering.specs.PurePhases as pure;
 ghost use Rattle.bounds.specs.Stages as pure_stages;
 ghost use Rattle.lowering.specs.Registers.{most_need, update_taken};
 ghost use Rattle.lowering.specs.Sizes.{update_counted};
-ghost use Rattle.lowering.specs.Rounds.{MayAlwaysBeAtOnce, RoundsMayBeAtOnce};
+ghost use Rattle.lowering.specs.LoopLanes.{MayAlwaysBeAtOnce, LanesMayBeAtOnce};
 ghost use Rattle.lowering.specs.Stages.{DoesStage};
 ghost use Rattle.lowering.specs.Stored.{StoresWhatItNames};
 ghost use Rattle.lowering.specs.Touching.{TouchesItsOwn};
@@ -43,7 +43,7 @@ use halide_pipeline::{Reduction, Update};
 use loop_ir::statements::{Phase, Stmt};
 use lowering_expressions::Corner;
 use lowering_nests::nests::with_nest;
-use schedule::Place;
+use schedule::ComputeLevel;
 use schedule_lines::Stage;
 use schedule_loops::Extents;
 use sqlite_items::Items;
@@ -138,7 +138,7 @@ fn root_store(alloc: Global, plan: &Plan<'_>, of: &UpdateOf<'_>) -> Result<Stmt,
     let plans = schedule.funcs.as_slice();
     let standings = schedule.standings.as_slice();
     let corners = corners_of(alloc, plans, plan.boxes().funcs.as_slice(), standings)?;
-    let corner = corner_of(alloc, plans, Place::Root, of.computed.own)?;
+    let corner = corner_of(alloc, plans, ComputeLevel::Root, of.computed.own)?;
     let made = store_at(alloc, plan, corners.as_slice(), &corner, of)?;
     Ok(made)
 }
@@ -153,7 +153,7 @@ fn body_of(
 ) -> Result<Stmt, AllocError>
     requires splits { AreSplits stage.now.splits }
     requires few { AreFew extents }
-    ensures rounds { IfOk result (λ made. (outside : List Loop) → IsLeaf store
+    ensures loop_lanes { IfOk result (λ made. (outside : List Loop) → IsLeaf store
         → MayBeUnder place extents stage.now.splits (pure.inside_of (iterations.parallel stage.now) stage.now.loops)
         outside store
         → MayBeAtOnce place (counts extents stage.now.splits) outside made) }
@@ -182,7 +182,7 @@ fn nest_of(
 ) -> Result<Stmt, AllocError>
     requires splits { AreSplits stage.now.splits }
     requires few { AreFew extents }
-    ensures rounds { IfOk result (λ made. (outside : List Loop) → IsLeaf store
+    ensures loop_lanes { IfOk result (λ made. (outside : List Loop) → IsLeaf store
         → MayBeUnder place extents stage.now.splits stage.now.loops outside store
         → MayBeAtOnce place (counts extents stage.now.splits) outside made) }
     ensures repeats { IfOk result (λ made. Repeats place made store (wholes extents stage.now.splits stage.now.loops)) }
@@ -235,7 +235,7 @@ pub fn update_phase(alloc: Global, plan: &Plan<'_>, of: &UpdateOf<'_>) -> Result
         (update_nodes (flags_of plan.now.schedule.standings) plan.now.pipeline.funcs of.now.update.now)
         of.now.stage.now) }
     ensures few_tasks { IfOk result (λ phase. phase.tasks ≤ 2 ^ 31) }
-    ensures rounds { IfOk result RoundsMayBeAtOnce }
+    ensures loop_lanes { IfOk result LanesMayBeAtOnce }
     ensures stores { IfOk result (StoresWhatItNames plan.now.pipeline plan.now.schedule
         plan.now.boxes of.now.computed.place of.now.computed.func.now of.now.at of.now.computed.own.now
         of.now.update.now of.now.stage.now) }

@@ -22,7 +22,7 @@ ghost use Rattle.lowering_expressions.specs.inner.Sizing.{AreGiven, IsGivenSecon
 ghost use Rattle.lowering_expressions.specs.inner.Taking.{AreTaken, IsSecond, call_need, term_need};
 
 use crate::calls::{Corner, load};
-use crate::parts::{Pair, binary, copy, divide, number, remainder, select, two_sums};
+use crate::parts::{ExprPair, binary, copy, divide, number, remainder, select, two_sums};
 use bounds_inlining::inlined_func;
 use halide_pipeline::{Expr, Func, Source, Variable};
 use loop_ir::expressions as terms;
@@ -54,7 +54,7 @@ impl Drop for Arguments {
     }
 }
 
-/// What stands for the variables of a definition, behind calls of inlined Funcs.
+/// What stands for the variables of a definition, inside calls of inlined Funcs.
 #[derive(Clone, Copy)]
 struct Terms<'a> {
     first_argument: &'a terms::Expr,
@@ -230,15 +230,15 @@ fn called(
 
 /// The sums that stand for the variables, as expressions that are made, lent and let go as one: side by side in one
 /// function they make its check long.
-struct Sums {
-    arguments: Pair,
-    reductions: Pair,
+struct VariableSums {
+    arguments: ExprPair,
+    reductions: ExprPair,
 }
 
 /// Written out, so that a check sees a call wherever one is dropped, and not the drops of its parts.
-impl Drop for Sums {
+impl Drop for VariableSums {
     fn drop(self) {
-        let Sums {
+        let VariableSums {
             arguments,
             reductions,
         } = self;
@@ -248,7 +248,7 @@ impl Drop for Sums {
 }
 
 /// Copies the sums.
-fn sums_of(alloc: Global, variables: &Arguments) -> Result<Sums, AllocError>
+fn sums_of(alloc: Global, variables: &Arguments) -> Result<VariableSums, AllocError>
     ensures first_argument { IfOk result (λ sums. sums.arguments.first
         ≡ sum.Linear variables.now.first_argument) }
     ensures second_argument { IfOk result (λ sums. sums.arguments.second
@@ -264,14 +264,14 @@ fn sums_of(alloc: Global, variables: &Arguments) -> Result<Sums, AllocError>
         &variables.first_reduction,
         &variables.second_reduction,
     )?;
-    Ok(Sums {
+    Ok(VariableSums {
         arguments,
         reductions,
     })
 }
 
 /// The sums, lent.
-fn terms_of<'a>(sums: &'a Sums) -> Terms<'a>
+fn terms_of<'a>(sums: &'a VariableSums) -> Terms<'a>
     ensures first_argument { result.first_argument.now ≡ sums.now.arguments.first }
     ensures second_argument { result.second_argument.now ≡ sums.now.arguments.second }
     ensures first_reduction { result.first_reduction.now ≡ sums.now.reductions.first }

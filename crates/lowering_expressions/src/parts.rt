@@ -18,28 +18,32 @@ use sqlite_items::Boxed;
 use std::alloc::{AllocError, Global};
 
 /// Two expressions.
-pub(crate) struct Pair {
+pub(crate) struct ExprPair {
     pub first: Expr,
     pub second: Expr,
 }
 
 /// Written out, so that a check sees a call wherever one is dropped, and not the drops of its parts.
-impl Drop for Pair {
+impl Drop for ExprPair {
     fn drop(self) {
-        let Pair { first, second } = self;
+        let ExprPair { first, second } = self;
         drop(first);
         drop(second);
     }
 }
 
 /// Two sums.
-pub(crate) fn two_sums(alloc: Global, first: &Linear, second: &Linear) -> Result<Pair, AllocError>
+pub(crate) fn two_sums(
+    alloc: Global,
+    first: &Linear,
+    second: &Linear,
+) -> Result<ExprPair, AllocError>
     ensures first { IfOk result (λ made. made.first ≡ Expr.Linear first.now) }
     ensures second { IfOk result (λ made. made.second ≡ Expr.Linear second.now) }
 {
     let first = first.copy(alloc)?;
     let second = second.copy(alloc)?;
-    Ok(Pair {
+    Ok(ExprPair {
         first: Expr::Linear(first),
         second: Expr::Linear(second),
     })

@@ -1,4 +1,4 @@
--- Loops have few turns; splits taken from the last one.
+-- Loops have few iterations; splits taken from the last one.
 use Rattle.std.proofs.Common.{◌≡◌, ℕ, suc, ◌+◌, ◌-◌, ◌*◌, ◌^◌, ◌<◌, ◌≤◌, Bool, true, false, cond, List, [], ◌∷◌, ◌++◌, length, get_or, take, sym, ap, subst}
 use Rattle.std.proofs.Common.{◌∙◌, arith, length-append}
 use Rattle.std.specs.List.{AllByRecursion}
@@ -9,14 +9,14 @@ use Rattle.schedule_lines.specs.declared.stages.LoopId.TheVariants as ids
 use Rattle.schedule_lines.specs.declared.stages.Split.{Split}
 use Rattle.schedule_lines.specs.Directives.{same_id}
 use Rattle.schedule_loops.specs.declared.extents.Extents.{Extents}
-use Rattle.schedule_loops.specs.Visits.{Values, rounds, whole_counts, more_counts, counts_from, counts, IsFactor, AreSplits, split_body, split_bodies}
+use Rattle.schedule_loops.specs.Visits.{Values, outer_extent, whole_counts, more_counts, counts_from, counts, IsFactor, AreSplits, split_body, split_bodies}
 use Rattle.schedule_loops.specs.Visits.{over_loops}
 use Rattle.lowering_nests.specs.Nests.{AreFew}
 
--- ---- rounds
+-- ---- lanes
 
-rounds_few : (most extent factor : ℕ) → extent ≤ most → factor ≤ 64 → rounds extent factor ≤ most + 63
-rounds_few most extent factor few small = let d = div-le_self (extent + (factor - 1)) factor in omega (arith, d, few, small)
+outer_extent_few : (most extent factor : ℕ) → extent ≤ most → factor ≤ 64 → outer_extent extent factor ≤ most + 63
+outer_extent_few most extent factor few small = let d = div-le_self (extent + (factor - 1)) factor in omega (arith, d, few, small)
 
 abbrev AreAtMost : ℕ → Values → Type 0
 AreAtMost most counts = (id : LoopId) → counts id ≤ most
@@ -24,12 +24,12 @@ AreAtMost most counts = (id : LoopId) → counts id ≤ most
 more_few : (counts : Values) (place most : ℕ) (split : Split) → AreAtMost most counts → split.factor ≤ 64
     → AreAtMost (most + 64) (more_counts counts place split)
 more_few counts place most split few small id =
-    let r = rounds_few most (counts split.of) split.factor (few split.of) small in
+    let r = outer_extent_few most (counts split.of) split.factor (few split.of) small in
     let o = few id in
     by_tests (same_id id (ids.Inner place)) (same_id id (ids.Outer place)) r o
   where
-    by_tests : (a b : Bool) → rounds (counts split.of) split.factor ≤ most + 63 → counts id ≤ most
-        → cond a split.factor (cond b (rounds (counts split.of) split.factor) (counts id)) ≤ most + 64
+    by_tests : (a b : Bool) → outer_extent (counts split.of) split.factor ≤ most + 63 → counts id ≤ most
+        → cond a split.factor (cond b (outer_extent (counts split.of) split.factor) (counts id)) ≤ most + 64
     by_tests true b r o = omega (arith, small)
     by_tests false true r o = omega (arith, r)
     by_tests false false r o = omega (arith, o)
@@ -46,9 +46,9 @@ whole_few extents few (ids.Whole v) = few v
 whole_few extents few (ids.Outer at) = omega arith
 whole_few extents few (ids.Inner at) = omega arith
 
--- so each loop has few turns
-pub few_turns : (extents : Extents) (splits : List Split) → AreFew extents → AreSplits splits → (id : LoopId) → counts extents splits id < 2 ^ 25
-few_turns extents splits few are id =
+-- so each loop has few iterations
+pub iterations_few : (extents : Extents) (splits : List Split) → AreFew extents → AreSplits splits → (id : LoopId) → counts extents splits id < 2 ^ 25
+iterations_few extents splits few are id =
     let r = all_few splits (whole_counts extents) 0 (2 ^ 20) (whole_few extents few) are.factors id in
     omega (arith, r, are.few)
 

@@ -2,7 +2,7 @@ pub mod Repeating
 pub mod Few
 pub mod Wholes
 pub mod Nesting
-pub mod Rounds
+pub mod LoopLanes
 pub mod Runs
 pub mod Sizing
 pub mod Tests

@@ -19,14 +19,14 @@ module _ (func : ℕ) (extents : Extents) where
   Wraps made body wrapped = (leaf : Stmt) (list : loops.Values → List loops.Values) → Repeats func body leaf list → Repeats func made leaf (wrapped list)
 
   pub nested_repeats : (splits : List Split) (all : List Loop) (own : Loop) (made inner body : Stmt) → 1 ≤ length all → own ≡ get_or all 0 own
-      → Wraps inner body (λ list outer. upto (loops.counts extents splits own.id) (λ turn. list (loops.with own.id turn outer)))
+      → Wraps inner body (λ list outer. upto (loops.counts extents splits own.id) (λ iteration. list (loops.with own.id iteration outer)))
       → Wraps made inner (nest (loops.counts extents splits) (take (length all - 1) (drop 1 all)))
       → Wraps made body (nest (loops.counts extents splits) all)
   nested_repeats splits all own made inner body some is once others leaf list repeats =
       let front : own ∷ take (length all - 1) (drop 1 all) ≡ all =
       ap (λ (o : Loop). o ∷ take (length all - 1) (drop 1 all)) is ∙ sym (first_of_rest all own some) in
       subst (λ (ls : List Loop). Repeats func made leaf (nest (loops.counts extents splits) ls list)) front
-      (others leaf (λ (outer : loops.Values). upto (loops.counts extents splits own.id) (λ (turn : ℕ). list (loops.with own.id turn outer)))
+      (others leaf (λ (outer : loops.Values). upto (loops.counts extents splits own.id) (λ (iteration : ℕ). list (loops.with own.id iteration outer)))
       (once leaf list repeats))
 
   pub last_repeats : (splits : List Split) (other : Split) (made inner body : Stmt) (extent : ℕ) (some : 1 ≤ length splits) (are : loops.AreSplits splits)
@@ -39,9 +39,9 @@ module _ (func : ℕ) (extents : Extents) where
   last_repeats splits other made inner body extent some are sizes sizes_are is others once leaf list repeats =
       let rest = take (length splits - 1) splits in
       let last = get_or splits (length splits - 1) other in
-      let turns : loops.counts extents rest last.of ≡ extent = sym (is ∙ ap (λ (s : SizedLoops). loops.counts s.extents s.splits last.of) sizes_are) in
+      let iterations : loops.counts extents rest last.of ≡ extent = sym (is ∙ ap (λ (s : SizedLoops). loops.counts s.extents s.splits last.of) sizes_are) in
       subst (Repeats func made leaf) (over_last splits other some are extents list)
-      (once (loops.counts extents rest) turns leaf (over_loops extents rest list) (others leaf list repeats))
+      (once (loops.counts extents rest) iterations leaf (over_loops extents rest list) (others leaf list repeats))
 
   pub whole_nest : (splits : List Split) (inside : List Loop) (made inner body : Stmt) (sizes : SizedLoops)
       → sizes ≡ record { extents = extents; splits = splits }

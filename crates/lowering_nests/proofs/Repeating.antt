@@ -18,7 +18,7 @@ use Rattle.loop_ir.specs.declared.statements.Stmt.{Stmt}
 use Rattle.loop_ir.specs.declared.statements.Whole.{Whole}
 use Rattle.loop_ir.specs.Buffers.{Points}
 use Rattle.loop_ir.specs.Counters.{Values, with}
-use Rattle.loop_ir.specs.Running.{run, turns, whole_value}
+use Rattle.loop_ir.specs.Running.{run, iterated, whole_value}
 use Rattle.loop_ir.specs.Soundness.{every, is_sound}
 use Rattle.loop_ir.specs.Stores.{Trace, trace}
 use Rattle.lowering_nests.specs.Nests.{loops_of, put_loops, all, AreSmall, Repeats}
@@ -29,19 +29,19 @@ pub all-append : {A B : Type 0} (step : A → B → B) (xs ys : List A) (start :
 all-append step [] ys start = refl
 all-append step (x ∷ xs) ys start = all-append step xs ys (step x start)
 
--- turns of a step that goes over a list
-turns_upto : {A B : Type 0} (n most : ℕ) → n ≤ most → (f : ℕ → B → B) (step : A → B → B) (lists : ℕ → List A)
-    → ((turn : ℕ) (start : B) → turn < most → f turn start ≡ all step (lists turn) start)
-    → (start : B) → turns n f start ≡ all step (upto n lists) start
-unfolding turns upto
-turns_upto zero most few f step lists each start = refl
-turns_upto (suc n) most few f step lists each start =
-    each n (turns n f start) (omega (arith, few))
-    ∙ ap (all step (lists n)) (turns_upto n most (omega (arith, few)) f step lists each start)
+-- iterations of a step that goes over a list
+iterations_upto : {A B : Type 0} (n most : ℕ) → n ≤ most → (f : ℕ → B → B) (step : A → B → B) (lists : ℕ → List A)
+    → ((iteration : ℕ) (start : B) → iteration < most → f iteration start ≡ all step (lists iteration) start)
+    → (start : B) → iterated n f start ≡ all step (upto n lists) start
+unfolding iterated upto
+iterations_upto zero most few f step lists each start = refl
+iterations_upto (suc n) most few f step lists each start =
+    each n (iterated n f start) (omega (arith, few))
+    ∙ ap (all step (lists n)) (iterations_upto n most (omega (arith, few)) f step lists each start)
     ∙ sym (all-append step (upto n lists) (lists n) start)
 
 every_upto : {A : Type 0} (n most : ℕ) → n ≤ most → (f : ℕ → Bool) (test : A → Bool) (lists : ℕ → List A)
-    → ((turn : ℕ) → turn < most → f turn ≡ list_all test (lists turn)) → every n f ≡ list_all test (upto n lists)
+    → ((iteration : ℕ) → iteration < most → f iteration ≡ list_all test (lists iteration)) → every n f ≡ list_all test (upto n lists)
 unfolding every upto
 every_upto zero most few f test lists each = refl
 every_upto (suc n) most few f test lists each =
@@ -137,29 +137,29 @@ module _ (func : ℕ) where
 
   pub loop_repeats : (made body : Stmt) (id : LoopId) (count : ℕ) → count < 2 ^ 25
       → ((points : Points) (inputs : Planes) (values : Values) (funcs : Planes)
-      → run points inputs made values funcs ≡ turns count (λ turn. run points inputs body (with (counter id) turn values)) funcs)
+      → run points inputs made values funcs ≡ iterated count (λ iteration. run points inputs body (with (counter id) iteration values)) funcs)
       → ((points : Points) (inputs : Planes) (place x y : ℕ) (values : Values) (so_far : Trace)
-      → trace points inputs place x y made values so_far ≡ turns count (λ turn. trace points inputs place x y body (with (counter id) turn values)) so_far)
+      → trace points inputs place x y made values so_far ≡ iterated count (λ iteration. trace points inputs place x y body (with (counter id) iteration values)) so_far)
       → ((reads : Reads) (written : Points) (loaded : Point → Bool) (values : Values) → is_sound reads written loaded made values
-      ≡ every count (λ turn. is_sound reads written loaded body (with (counter id) turn values)))
+      ≡ every count (λ iteration. is_sound reads written loaded body (with (counter id) iteration values)))
       → (leaf : Stmt) (list : loops.Values → List loops.Values) → Repeats func body leaf list
-      → Repeats func made leaf (λ outer. upto count (λ turn. list (loops.with id turn outer)))
+      → Repeats func made leaf (λ outer. upto count (λ iteration. list (loops.with id iteration outer)))
   loop_repeats made body id count few runs_is traces_is sound_is leaf list repeats = record {
     runs = λ points inputs values funcs are.
         runs_is points inputs values funcs
-        ∙ turns_upto count count (omega arith) (λ (turn : ℕ). run points inputs body (with (counter id) turn values)) (λ (inner : loops.Values). run points
-        inputs leaf (put_loops func inner values)) (λ (turn : ℕ). list (loops.with id turn (loops_of func values)))
-        (λ turn b below. runs_with leaf body list repeats id turn (omega (arith, few, below)) values are points inputs b) funcs;
+        ∙ iterations_upto count count (omega arith) (λ (iteration : ℕ). run points inputs body (with (counter id) iteration values)) (λ (inner : loops.Values). run points
+        inputs leaf (put_loops func inner values)) (λ (iteration : ℕ). list (loops.with id iteration (loops_of func values)))
+        (λ iteration b below. runs_with leaf body list repeats id iteration (omega (arith, few, below)) values are points inputs b) funcs;
     traces = λ points inputs place x y values so_far are.
         traces_is points inputs place x y values so_far
-        ∙ turns_upto count count (omega arith) (λ (turn : ℕ). trace points inputs place x y body (with (counter id) turn values)) (λ (inner : loops.Values).
-        trace points inputs place x y leaf (put_loops func inner values)) (λ (turn : ℕ). list (loops.with id turn (loops_of func values)))
-        (λ turn b below. traces_with leaf body list repeats id turn (omega (arith, few, below)) values are points inputs place x y b) so_far;
+        ∙ iterations_upto count count (omega arith) (λ (iteration : ℕ). trace points inputs place x y body (with (counter id) iteration values)) (λ (inner : loops.Values).
+        trace points inputs place x y leaf (put_loops func inner values)) (λ (iteration : ℕ). list (loops.with id iteration (loops_of func values)))
+        (λ iteration b below. traces_with leaf body list repeats id iteration (omega (arith, few, below)) values are points inputs place x y b) so_far;
     sound = λ reads written loaded values are.
         sound_is reads written loaded values
-        ∙ every_upto count count (omega arith) (λ (turn : ℕ). is_sound reads written loaded body (with (counter id) turn values)) (λ (inner : loops.Values).
-        is_sound reads written loaded leaf (put_loops func inner values)) (λ (turn : ℕ). list (loops.with id turn (loops_of func values)))
-        (λ turn below. sound_with leaf body list repeats id turn (omega (arith, few, below)) values are reads written loaded);
+        ∙ every_upto count count (omega arith) (λ (iteration : ℕ). is_sound reads written loaded body (with (counter id) iteration values)) (λ (inner : loops.Values).
+        is_sound reads written loaded leaf (put_loops func inner values)) (λ (iteration : ℕ). list (loops.with id iteration (loops_of func values)))
+        (λ iteration below. sound_with leaf body list repeats id iteration (omega (arith, few, below)) values are reads written loaded);
   }
 
   -- ---- a split

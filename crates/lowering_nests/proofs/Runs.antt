@@ -11,7 +11,7 @@ use Rattle.loop_ir.specs.declared.statements.LoopKind.{LoopKind}
 use Rattle.loop_ir.specs.declared.statements.Stmt.{Stmt}
 use Rattle.loop_ir.specs.declared.statements.Stmt.TheOpen as layer
 use Rattle.loop_ir.specs.Counters.{Values, with}
-use Rattle.loop_ir.specs.Rounds.{is_vectorized, all_but, all_points}
+use Rattle.loop_ir.specs.LoopLanes.{is_vectorized, all_but, all_points}
 use Rattle.loop_ir.specs.Runs.{Runs, is_about, is_about_at, runs, runs_at, are_same, point_of, stores_in_runs}
 use Rattle.loop_ir.specs.Soundness.{every, is_sound}
 use Rattle.loop_ir.proofs.Runs.{misses_are}
@@ -24,7 +24,7 @@ module _ (func : ℕ) (counts : loops.Values) (own : Loop) (body made : Stmt) (k
   counter = record { func = func; id = own.id }
 
   abbrev at : Values → ℕ → Values
-  at values turn = with counter turn values
+  at values iteration = with counter iteration values
 
   pub loop_about : ((place : ℕ) → is_about place made ≡ is_about_at place (layer.For counter count kind (is_about place body)))
       → is_about func made ≡ is_about func body
@@ -38,8 +38,8 @@ module _ (func : ℕ) (counts : loops.Values) (own : Loop) (body made : Stmt) (k
 
     abbrev by_kind : Bool → Bool → ℕ → Bool
     by_kind vectorized same n =
-        cond (vectorized && same) (are_same (every n (λ round. inner.misses (at values round))) (not (expected values)))
-        (every n (λ turn. inner.are_runs (at values turn)))
+        cond (vectorized && same) (are_same (every n (λ lane. inner.misses (at values lane))) (not (expected values)))
+        (every n (λ iteration. inner.are_runs (at values iteration)))
 
     told : (b : Bool) → is_vectorized_loop own ≡ b → stores_in_runs reads func x y expected made values ≡ by_kind b true (counts own.id)
     told b e =
@@ -48,9 +48,9 @@ module _ (func : ℕ) (counts : loops.Values) (own : Loop) (body made : Stmt) (k
         ∙ ap (λ (v : Bool). by_kind b v count) (eq-eqb func func refl)
         ∙ ap (λ (n : ℕ). by_kind b true n) count_is
 
-    missed : every (counts own.id) (λ round. inner.misses (at values round)) ≡ every (counts own.id) (λ round. is_sound reads (all_but (point_of func x y))
-        all_points body (at values round))
-    missed = ap (every (counts own.id)) (fun_ext (λ (round : ℕ). ap (λ (test : Values → Bool). test (at values round)) (misses_are reads func x y expected
+    missed : every (counts own.id) (λ lane. inner.misses (at values lane)) ≡ every (counts own.id) (λ lane. is_sound reads (all_but (point_of func x y))
+        all_points body (at values lane))
+    missed = ap (every (counts own.id)) (fun_ext (λ (lane : ℕ). ap (λ (test : Values → Bool). test (at values lane)) (misses_are reads func x y expected
         body)))
 
   pub loop_runs : ((reads : Reads) (place x y : ℕ) (expected : Values → Bool) → runs reads place x y expected made ≡ runs_at reads place x y expected

@@ -19,8 +19,8 @@ use Rattle.loop_ir.specs.Buffers.{Points}
 use Rattle.loop_ir.specs.Counters.{Values, same_counter, with}
 use Rattle.loop_ir.specs.Depths.{depth}
 use Rattle.loop_ir.specs.Needs.{greatest_need}
-use Rattle.loop_ir.specs.Rounds.{Rounds, rounds, may_be_at_once, all_but, all_points}
-use Rattle.loop_ir.specs.Running.{run, turns, at_most, whole_value}
+use Rattle.loop_ir.specs.LoopLanes.{LoopLanes, loop_lanes, may_be_at_once, all_but, all_points}
+use Rattle.loop_ir.specs.Running.{run, iterated, at_most, whole_value}
 use Rattle.loop_ir.specs.Runs.{Runs, is_about, point_of, runs, runs_at}
 use Rattle.loop_ir.specs.Sizes.{is_laid_out, loop_room, whole_size}
 use Rattle.loop_ir.specs.Soundness.{every, is_sound}
@@ -28,7 +28,7 @@ use Rattle.loop_ir.specs.Stores.{Trace, trace}
 use Rattle.halide_pipeline.specs.Words as word
 use Rattle.loop_ir.proofs.Depths.{depth_for, depth_bind}
 use Rattle.loop_ir.proofs.Needs.{greatest_for, greatest_bind}
-use Rattle.loop_ir.proofs.Rounds.{rounds_for, rounds_bind}
+use Rattle.loop_ir.proofs.LoopLanes.{lanes_of_loop, lanes_bind}
 use Rattle.loop_ir.proofs.Runs.{about_for, about_bind, runs_for, runs_bind}
 use Rattle.loop_ir.proofs.Sizes.{whole_for, whole_bind}
 use Rattle.loop_ir.proofs.Sound.{sound_for, sound_bind}
@@ -46,7 +46,7 @@ loop_around counter count kind body = record {
   depth = depth_for counter count kind body;
   needs = greatest_for counter count kind body;
   sizes = whole_for counter count kind body;
-  at_once = λ reads values. ap (λ (r : Rounds). r.may_be_at_once values) (rounds_for reads counter count kind body);
+  at_once = λ reads values. ap (λ (r : LoopLanes). r.may_be_at_once values) (lanes_of_loop reads counter count kind body);
   about = λ place. about_for place counter count kind body;
   in_runs = λ reads place x y expected. runs_for reads place x y expected counter count kind body;
 }
@@ -94,12 +94,12 @@ whole_stays counter n whole values outer inner =
 
 -- ---- iterations that do nothing
 
-turns_stay : {A : Type 0} (n : ℕ) (start : A) → turns n (λ turn now. now) start ≡ start
-unfolding turns
-turns_stay zero start = refl
-turns_stay (suc n) start = turns_stay n start
+iterations_stay : {A : Type 0} (n : ℕ) (start : A) → iterated n (λ iteration now. now) start ≡ start
+unfolding iterated
+iterations_stay zero start = refl
+iterations_stay (suc n) start = iterations_stay n start
 
-every_true : (n : ℕ) → every n (λ turn. true) ≡ true
+every_true : (n : ℕ) → every n (λ iteration. true) ≡ true
 unfolding every
 every_true zero = refl
 every_true (suc n) = ap (λ (b : Bool). b && true) (every_true n)
@@ -136,28 +136,28 @@ module _ (counter own : Counter) (whole : Whole) (extent : ℕ) (steady : is_ste
         ∙ ap (λ (at : Values). cond (passes values) (does at) none) inside_swaps
 
   -- what goes on with what there is so far
-  turns_tested : {A : Type 0} (does : Values → A → A) (count : ℕ) (values : Values) (start : A)
-      → cond (passes values) (turns count (λ turn. does (with counter turn (inside values))) start) start
-      ≡ turns count (λ turn now. cond (passes (with counter turn values)) (does (inside (with counter turn values)) now) now) start
-  turns_tested {A} does count values start =
+  iterations_tested : {A : Type 0} (does : Values → A → A) (count : ℕ) (values : Values) (start : A)
+      → cond (passes values) (iterated count (λ iteration. does (with counter iteration (inside values))) start) start
+      ≡ iterated count (λ iteration now. cond (passes (with counter iteration values)) (does (inside (with counter iteration values)) now) now) start
+  iterations_tested {A} does count values start =
       by_test (passes values)
-      ∙ ap (λ (one : ℕ → A → A). turns count one start) (fun_ext (λ (turn : ℕ). fun_ext (λ (now : A). sym (each values turn (λ (at : Values). does at now) now))))
+      ∙ ap (λ (one : ℕ → A → A). iterated count one start) (fun_ext (λ (iteration : ℕ). fun_ext (λ (now : A). sym (each values iteration (λ (at : Values). does at now) now))))
     where
-      by_test : (b : Bool) → cond b (turns count (λ turn. does (with counter turn (inside values))) start) start
-          ≡ turns count (λ turn now. cond b (does (with counter turn (inside values)) now) now) start
+      by_test : (b : Bool) → cond b (iterated count (λ iteration. does (with counter iteration (inside values))) start) start
+          ≡ iterated count (λ iteration now. cond b (does (with counter iteration (inside values)) now) now) start
       by_test true = refl
-      by_test false = sym (turns_stay count start)
+      by_test false = sym (iterations_stay count start)
 
   -- what is asked of each iteration
   every_tested : (does : Values → Bool) (count : ℕ) (values : Values)
-      → cond (passes values) (every count (λ turn. does (with counter turn (inside values)))) true
-      ≡ every count (λ turn. cond (passes (with counter turn values)) (does (inside (with counter turn values))) true)
+      → cond (passes values) (every count (λ iteration. does (with counter iteration (inside values)))) true
+      ≡ every count (λ iteration. cond (passes (with counter iteration values)) (does (inside (with counter iteration values))) true)
   every_tested does count values =
       by_test (passes values)
-      ∙ ap (λ (test : ℕ → Bool). every count test) (fun_ext (λ (turn : ℕ). sym (each values turn does true)))
+      ∙ ap (λ (test : ℕ → Bool). every count test) (fun_ext (λ (iteration : ℕ). sym (each values iteration does true)))
     where
-      by_test : (b : Bool) → cond b (every count (λ turn. does (with counter turn (inside values)))) true
-          ≡ every count (λ turn. cond b (does (with counter turn (inside values))) true)
+      by_test : (b : Bool) → cond b (every count (λ iteration. does (with counter iteration (inside values)))) true
+          ≡ every count (λ iteration. cond b (does (with counter iteration (inside values))) true)
       by_test true = refl
       by_test false = sym (every_true count)
 
@@ -171,40 +171,40 @@ module _ (counter own : Counter) (whole : Whole) (extent : ℕ) (steady : is_ste
     front = stmts.Bind own whole extent made
 
     runs_in_front : (points : Points) (inputs : Planes) (values : Values) (funcs : Planes)
-        → run points inputs front values funcs ≡ turns count (λ turn. run points inputs tested (with counter turn values)) funcs
+        → run points inputs front values funcs ≡ iterated count (λ iteration. run points inputs tested (with counter iteration values)) funcs
     runs_in_front points inputs values funcs =
         run_bind points inputs own whole extent made values funcs
         ∙ ap (λ (after : Planes). cond (passes values) after funcs) (is.runs points inputs (inside values) funcs)
-        ∙ turns_tested (run points inputs body) count values funcs
-        ∙ ap (λ (one : ℕ → Planes → Planes). turns count one funcs)
-        (fun_ext (λ (turn : ℕ). fun_ext (λ (now : Planes). sym (run_bind points inputs own whole extent body (with counter turn values) now))))
+        ∙ iterations_tested (run points inputs body) count values funcs
+        ∙ ap (λ (one : ℕ → Planes → Planes). iterated count one funcs)
+        (fun_ext (λ (iteration : ℕ). fun_ext (λ (now : Planes). sym (run_bind points inputs own whole extent body (with counter iteration values) now))))
 
     traces_in_front : (points : Points) (inputs : Planes) (place x y : ℕ) (values : Values) (so_far : Trace)
-        → trace points inputs place x y front values so_far ≡ turns count (λ turn. trace points inputs place x y tested (with counter turn values)) so_far
+        → trace points inputs place x y front values so_far ≡ iterated count (λ iteration. trace points inputs place x y tested (with counter iteration values)) so_far
     traces_in_front points inputs place x y values so_far =
         trace_bind points inputs place x y own whole extent made values so_far
         ∙ ap (λ (after : Trace). cond (passes values) after so_far) (is.traces points inputs place x y (inside values) so_far)
-        ∙ turns_tested (trace points inputs place x y body) count values so_far
-        ∙ ap (λ (one : ℕ → Trace → Trace). turns count one so_far)
-        (fun_ext (λ (turn : ℕ). fun_ext (λ (now : Trace). sym (trace_bind points inputs place x y own whole extent body (with counter turn values) now))))
+        ∙ iterations_tested (trace points inputs place x y body) count values so_far
+        ∙ ap (λ (one : ℕ → Trace → Trace). iterated count one so_far)
+        (fun_ext (λ (iteration : ℕ). fun_ext (λ (now : Trace). sym (trace_bind points inputs place x y own whole extent body (with counter iteration values) now))))
 
     sound_in_front : (reads : Reads) (written : Points) (loaded : Point → Bool) (values : Values)
-        → is_sound reads written loaded front values ≡ every count (λ turn. is_sound reads written loaded tested (with counter turn values))
+        → is_sound reads written loaded front values ≡ every count (λ iteration. is_sound reads written loaded tested (with counter iteration values))
     sound_in_front reads written loaded values =
         sound_bind reads written loaded own whole extent made values
         ∙ ap (λ (test : Bool). cond (passes values) test true) (is.sound reads written loaded (inside values))
         ∙ every_tested (is_sound reads written loaded body) count values
         ∙ ap (λ (test : ℕ → Bool). every count test)
-        (fun_ext (λ (turn : ℕ). sym (sound_bind reads written loaded own whole extent body (with counter turn values))))
+        (fun_ext (λ (iteration : ℕ). sym (sound_bind reads written loaded own whole extent body (with counter iteration values))))
 
     at_once_in_front : (reads : Reads) (values : Values)
-        → may_be_at_once reads front values ≡ every count (λ turn. may_be_at_once reads tested (with counter turn values))
+        → may_be_at_once reads front values ≡ every count (λ iteration. may_be_at_once reads tested (with counter iteration values))
     at_once_in_front reads values =
-        ap (λ (r : Rounds). r.may_be_at_once values) (rounds_bind reads own whole extent made)
+        ap (λ (r : LoopLanes). r.may_be_at_once values) (lanes_bind reads own whole extent made)
         ∙ ap (λ (test : Bool). cond (passes values) test true) (is.at_once reads (inside values))
         ∙ every_tested (may_be_at_once reads body) count values
         ∙ ap (λ (test : ℕ → Bool). every count test)
-        (fun_ext (λ (turn : ℕ). sym (ap (λ (r : Rounds). r.may_be_at_once (with counter turn values)) (rounds_bind reads own whole extent body))))
+        (fun_ext (λ (iteration : ℕ). sym (ap (λ (r : LoopLanes). r.may_be_at_once (with counter iteration values)) (lanes_bind reads own whole extent body))))
 
     runs_are : (one other : Runs) → one.misses ≡ other.misses → one.are_runs ≡ other.are_runs → one ≡ other
     runs_are one other misses are =

@@ -1,5 +1,5 @@
 pub mod Loops
 pub mod Nests
-pub mod Rounds
+pub mod LoopLanes
 pub mod Runs
 pub mod Sizes

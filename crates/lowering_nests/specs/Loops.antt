@@ -12,31 +12,31 @@ use Rattle.loop_ir.specs.Buffers.{Points}
 use Rattle.loop_ir.specs.Counters.{Values, same_counter, with}
 use Rattle.loop_ir.specs.Depths.{depth}
 use Rattle.loop_ir.specs.Needs.{greatest_need}
-use Rattle.loop_ir.specs.Rounds.{at_once_at, may_be_at_once, rounds}
-use Rattle.loop_ir.specs.Running.{run, turns}
+use Rattle.loop_ir.specs.LoopLanes.{at_once_at, may_be_at_once, loop_lanes}
+use Rattle.loop_ir.specs.Running.{run, iterated}
 use Rattle.loop_ir.specs.Runs.{is_about, is_about_at}
 use Rattle.loop_ir.specs.Runs as stored
 use Rattle.loop_ir.specs.Sizes.{is_laid_out, loop_room, whole_size}
 use Rattle.loop_ir.specs.Soundness.{every, is_sound}
 use Rattle.loop_ir.specs.Stores.{Trace, trace}
 
--- The value that a split loop's variable is given hangs on no iteration of a loop, and the loop's variable isn't given it.
+-- The value that a split loop's variable is given doesn't depend on a loop's iteration, and the loop's variable isn't given it.
 abbrev pub is_steady : Counter → Counter → Whole → Bool
 is_steady counter own whole = not (same_counter whole.outer counter) && (not (same_counter whole.inner counter) && not (same_counter own counter))
 
 -- It does what a loop of so many iterations around the body does, stores where that does, and asks for as much.
 pub record Loops (counter : Counter) (count : ℕ) (kind : LoopKind) (body made : Stmt) : Type 0 where
   pub runs : (points : Points) (inputs : Planes) (values : Values) (funcs : Planes)
-      → run points inputs made values funcs ≡ turns count (λ turn. run points inputs body (with counter turn values)) funcs
+      → run points inputs made values funcs ≡ iterated count (λ iteration. run points inputs body (with counter iteration values)) funcs
   pub traces : (points : Points) (inputs : Planes) (place x y : ℕ) (values : Values) (so_far : Trace)
-      → trace points inputs place x y made values so_far ≡ turns count (λ turn. trace points inputs place x y body (with counter turn values)) so_far
+      → trace points inputs place x y made values so_far ≡ iterated count (λ iteration. trace points inputs place x y body (with counter iteration values)) so_far
   pub sound : (reads : Reads) (written : Points) (loaded : Point → Bool) (values : Values)
-      → is_sound reads written loaded made values ≡ every count (λ turn. is_sound reads written loaded body (with counter turn values))
+      → is_sound reads written loaded made values ≡ every count (λ iteration. is_sound reads written loaded body (with counter iteration values))
   pub depth : depth made ≡ suc (depth body)
   pub needs : greatest_need made ≡ greatest_need body
   pub sizes : whole_size made ≡ loop_room (is_laid_out kind) count (whole_size body)
   pub at_once : (reads : Reads) (values : Values)
-      → may_be_at_once reads made values ≡ at_once_at (layer.For counter count kind (rounds reads body)) values
+      → may_be_at_once reads made values ≡ at_once_at (layer.For counter count kind (loop_lanes reads body)) values
   pub about : (place : ℕ) → is_about place made ≡ is_about_at place (layer.For counter count kind (is_about place body))
   pub in_runs : (reads : Reads) (place x y : ℕ) (expected : Values → Bool) → stored.runs reads place x y expected made
       ≡ stored.runs_at reads place x y expected (layer.For counter count kind (stored.runs reads place x y expected body))

@@ -6,18 +6,18 @@ use Rattle.schedule_lines.specs.declared.stages.Loop.{Loop}
 use Rattle.schedule_loops.specs.Visits as loops
 use Rattle.loop_ir.specs.declared.statements.Stmt.{Stmt}
 use Rattle.loop_ir.specs.Counters.{Values, with}
-use Rattle.loop_ir.specs.Rounds.{all_but, all_points}
+use Rattle.loop_ir.specs.LoopLanes.{all_but, all_points}
 use Rattle.loop_ir.specs.Runs.{are_same, point_of, stores_in_runs}
 use Rattle.loop_ir.specs.Soundness.{every, is_sound}
 use Rattle.schedule_loops.specs.Runs.{is_vectorized_loop}
 
--- A loop of the Func around a body: where it isn't vectorized, the body stores in runs in each of its turns; else a point is stored by the run
--- exactly if some round stores there.
+-- A loop of the Func around a body: where it isn't vectorized, the body stores in runs in each of its iterations; else a point is stored by the run
+-- exactly if some lane stores there.
 pub record RunsAround (func : ℕ) (counts : loops.Values) (own : Loop) (body made : Stmt) : Type 0 where
   pub plain : is_vectorized_loop own ≡ false → (reads : Reads) (x y : ℕ) (expected : Values → Bool) (values : Values)
-      → stores_in_runs reads func x y expected made values ≡ every (counts own.id) (λ turn. stores_in_runs reads func x y expected body
-      (with (record { func = func; id = own.id }) turn values))
+      → stores_in_runs reads func x y expected made values ≡ every (counts own.id) (λ iteration. stores_in_runs reads func x y expected body
+      (with (record { func = func; id = own.id }) iteration values))
   pub vector : is_vectorized_loop own ≡ true → (reads : Reads) (x y : ℕ) (expected : Values → Bool) (values : Values)
       → stores_in_runs reads func x y expected made values
-      ≡ are_same (every (counts own.id) (λ round. is_sound reads (all_but (point_of func x y)) all_points body (with (record { func = func; id = own.id }) round
+      ≡ are_same (every (counts own.id) (λ lane. is_sound reads (all_but (point_of func x y)) all_points body (with (record { func = func; id = own.id }) lane
       values))) (not (expected values))

@@ -3,7 +3,7 @@
 //! for.
 //!
 //! - [`nests`]: **a body under each of the values that a stage's loops visit, in order** (`specs/Nests.antt`). Whether
-//!   the rounds of a vectorized loop may be done at once: `specs/Rounds.antt`.
+//!   the lanes of a vectorized loop may be done at once: `specs/LoopLanes.antt`.
 //! - [`splits`]: the values of loops that are split.
 //! - [`loops`]: loops around a body.
 //! - [`laws`]: a statement repeats itself.

@@ -8,8 +8,8 @@ ghost use Rattle.loop_ir.specs.Counters.{Values, with};
 ghost use Rattle.loop_ir.specs.Depths.{depth};
 ghost use Rattle.loop_ir.specs.Needs.{greatest_need};
 ghost use Rattle.loop_ir.specs.Sizes.{is_laid_out, loop_room, whole_size};
-ghost use Rattle.loop_ir.specs.Rounds.{is_vectorized};
-ghost use Rattle.loop_ir.specs.Running.{run, turns};
+ghost use Rattle.loop_ir.specs.LoopLanes.{is_vectorized};
+ghost use Rattle.loop_ir.specs.Running.{run, iterated};
 ghost use Rattle.loop_ir.specs.Runs.{is_about};
 ghost use Rattle.loop_ir.specs.Soundness.{every, is_sound};
 ghost use Rattle.loop_ir.specs.Stores.{Trace, trace};
@@ -17,7 +17,7 @@ ghost use Rattle.loop_ir.specs.declared.statements.LoopKind.TheVariants as kinds
 ghost use Rattle.loop_ir.specs.declared.statements.Stmt.{Stmt};
 ghost use Rattle.lowering_nests.specs.Loops.{Loops, is_steady};
 ghost use Rattle.lowering_nests.specs.Nests.{AreFew, Repeats};
-ghost use Rattle.lowering_nests.specs.Rounds.{GoesAround, MayBeAround, MayBeAtOnce};
+ghost use Rattle.lowering_nests.specs.LoopLanes.{GoesAround, MayBeAround, MayBeAtOnce};
 ghost use Rattle.schedule_loops.specs.Runs.{is_vectorized_loop};
 ghost use Rattle.lowering_nests.specs.Runs.{RunsAround};
 ghost use Rattle.lowering_nests.specs.Sizes.{nest_size};
@@ -36,8 +36,8 @@ use schedule_loops::LoopSizes;
 use sqlite_items::Boxed;
 use std::alloc::{AllocError, Global};
 
-/// How the rounds of a loop are to be made. Those of the parallel loop are tasks of their own where it is not among
-/// the loops of a nest.
+/// How the iterations of a loop are to be made. Those of the parallel loop are tasks of their own where it is not
+/// among the loops of a nest.
 fn kind_of(own: &Loop) -> LoopKind
     ensures vectorized { is_vectorized result ≡ is_vectorized_loop own.now }
     ensures unrolled { is_laid_out result ≡ is_marked marks.Unrolled own.now }
@@ -74,15 +74,15 @@ fn around(
     Ok(Stmt::For(counter, count, kind, body))
 }
 
-/// A loop in turn around a body, behind those tests at the body's front that it doesn't change: they are made once, and
+/// A serial loop around a body, after those tests at the body's front that it doesn't change: they are made once, and
 /// not in each iteration.
-fn in_turn(alloc: Global, counter: Counter, count: u32, body: Stmt) -> Result<Stmt, AllocError>
+fn in_order(alloc: Global, counter: Counter, count: u32, body: Stmt) -> Result<Stmt, AllocError>
     ensures { IfOk result (Loops counter count kinds.Serial body) }
 {
     match body.into_parts() {
         StmtParts::Bind(own, whole, extent, inside) => {
             if is_steady(counter, own, whole) {
-                let made = in_turn(alloc, counter, count, inside.into_inner())?;
+                let made = in_order(alloc, counter, count, inside.into_inner())?;
                 let made = Boxed::new(alloc, made)?;
                 return Ok(Stmt::Bind(own, whole, extent, made));
             }
@@ -120,7 +120,7 @@ fn looped(
 {
     match kind {
         LoopKind::Serial => {
-            let made = in_turn(alloc, counter, count, body)?;
+            let made = in_order(alloc, counter, count, body)?;
             Ok(made)
         }
         LoopKind::Unrolled | LoopKind::Vectorized => {
@@ -130,7 +130,7 @@ fn looped(
     }
 }
 
-/// A loop of the Func at a place around a body, in as many turns as its sizes say.
+/// A loop of the Func at a place around a body, in as many iterations as its sizes say.
 ///
 /// # Errors
 ///
@@ -146,26 +146,28 @@ pub fn loop_once(
     requires few { AreFew sizes.now.extents }
     ensures runs { IfOk result (λ made. (points : Points) (inputs : Planes) (values : Values) (funcs : Planes)
         → run points inputs made values funcs
-        ≡ turns (counts.counts sizes.now.extents sizes.now.splits own.now.id)
-        (λ turn. run points inputs body (with (record { func = func; id = own.now.id }) turn values)) funcs) }
+        ≡ iterated (counts.counts sizes.now.extents sizes.now.splits own.now.id)
+        (λ iteration. run points inputs body (with (record { func = func; id = own.now.id }) iteration values)) funcs) }
     ensures traces { IfOk result (λ made. (points : Points) (inputs : Planes) (place x y : ℕ) (values : Values)
         (so_far : Trace) → trace points inputs place x y made values so_far
-        ≡ turns (counts.counts sizes.now.extents sizes.now.splits own.now.id) (λ turn. trace points inputs place x y
-        body (with (record { func = func; id = own.now.id }) turn values)) so_far) }
+        ≡ iterated (counts.counts sizes.now.extents sizes.now.splits own.now.id)
+        (λ iteration. trace points inputs place x y body
+        (with (record { func = func; id = own.now.id }) iteration values)) so_far) }
     ensures sound { IfOk result (λ made. (reads : Reads) (written : Points) (loaded : Point → Bool) (values : Values)
         → is_sound reads written loaded made values
-        ≡ every (counts.counts sizes.now.extents sizes.now.splits own.now.id) (λ turn. is_sound reads written loaded
-        body (with (record { func = func; id = own.now.id }) turn values))) }
+        ≡ every (counts.counts sizes.now.extents sizes.now.splits own.now.id)
+        (λ iteration. is_sound reads written loaded body
+        (with (record { func = func; id = own.now.id }) iteration values))) }
     ensures repeats { IfOk result (λ made. (leaf : Stmt) (list : counts.Values → List counts.Values)
         → Repeats func body leaf list
         → Repeats func made leaf (λ outer. upto (counts.counts sizes.now.extents sizes.now.splits own.now.id)
-        (λ turn. list (counts.with own.now.id turn outer)))) }
+        (λ iteration. list (counts.with own.now.id iteration outer)))) }
     ensures depth { IfOk result (λ made. depth made ≡ suc (depth body)) }
     ensures needs { IfOk result (λ made. greatest_need made ≡ greatest_need body) }
     ensures sizes { IfOk result (λ made. whole_size made
         ≡ loop_room (is_marked marks.Unrolled own.now) (counts.counts sizes.now.extents sizes.now.splits own.now.id)
         (whole_size body)) }
-    ensures rounds { IfOk result (GoesAround func (counts.counts sizes.now.extents sizes.now.splits) own.now body) }
+    ensures loop_lanes { IfOk result (GoesAround func (counts.counts sizes.now.extents sizes.now.splits) own.now body) }
     ensures about { IfOk result (λ made. is_about func made ≡ is_about func body) }
     ensures in_runs { IfOk result (RunsAround func (counts.counts sizes.now.extents sizes.now.splits) own.now body) }
 {
@@ -176,7 +178,7 @@ pub fn loop_once(
     Ok(made)
 }
 
-/// Loops of the Func at a place around a body, the innermost first, in as many turns as their sizes say.
+/// Loops of the Func at a place around a body, the innermost first, in as many iterations as their sizes say.
 ///
 /// # Errors
 ///
@@ -197,7 +199,7 @@ pub fn with_loops(
     ensures needs { IfOk result (λ made. greatest_need made ≡ greatest_need body) }
     ensures sizes { IfOk result (λ made. whole_size made ≡ nest_size (counts.counts sizes.now.extents sizes.now.splits)
         loops.now (whole_size body)) }
-    ensures rounds { IfOk result (λ made. (outside : List Loop)
+    ensures loop_lanes { IfOk result (λ made. (outside : List Loop)
         → MayBeAtOnce func (counts.counts sizes.now.extents sizes.now.splits) (loops.now ++ outside) body
         → MayBeAround func (counts.counts sizes.now.extents sizes.now.splits) loops.now outside body
         → MayBeAtOnce func (counts.counts sizes.now.extents sizes.now.splits) outside made) }

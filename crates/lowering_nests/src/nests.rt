@@ -6,7 +6,7 @@ ghost use Rattle.loop_ir.specs.Needs.{greatest_need};
 ghost use Rattle.loop_ir.specs.Runs.{is_about};
 ghost use Rattle.loop_ir.specs.Sizes.{whole_size};
 ghost use Rattle.lowering_nests.specs.Nests.{AreFew, Repeats};
-ghost use Rattle.lowering_nests.specs.Rounds.{IsLeaf, MayBeAtOnce, MayBeUnder};
+ghost use Rattle.lowering_nests.specs.LoopLanes.{IsLeaf, MayBeAtOnce, MayBeUnder};
 ghost use Rattle.lowering_nests.specs.Sizes.{nest_size};
 ghost use Rattle.schedule_lines.specs.declared.stages.Loop.{Loop};
 ghost use Rattle.schedule_loops.specs.Visits as counts;
@@ -40,7 +40,7 @@ pub fn with_nest(
     ensures needs { IfOk result (λ made. greatest_need made ≡ greatest_need body) }
     ensures sizes { IfOk result (λ made. whole_size made ≡ nest_size (counts.counts extents splits.now) loops.now
         (25 * length splits.now + whole_size body)) }
-    ensures rounds { IfOk result (λ made. (outside : List Loop) → IsLeaf body
+    ensures loop_lanes { IfOk result (λ made. (outside : List Loop) → IsLeaf body
         → MayBeUnder func extents splits.now loops.now outside body
         → MayBeAtOnce func (counts.counts extents splits.now) outside made) }
     ensures about { IfOk result (λ made. is_about func made ≡ is_about func body) }

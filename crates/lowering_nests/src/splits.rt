@@ -9,7 +9,7 @@ ghost use Rattle.loop_ir.specs.Counters.{Values, with};
 ghost use Rattle.loop_ir.specs.Depths.{depth};
 ghost use Rattle.loop_ir.specs.Needs.{greatest_need};
 ghost use Rattle.loop_ir.specs.Sizes.{whole_size};
-ghost use Rattle.loop_ir.specs.Rounds.{rounds, rounds_at};
+ghost use Rattle.loop_ir.specs.LoopLanes.{loop_lanes, lanes_at};
 ghost use Rattle.loop_ir.specs.Running.{run, whole_value};
 ghost use Rattle.loop_ir.specs.Runs.{is_about};
 ghost use Rattle.loop_ir.specs.Soundness.{is_sound};
@@ -17,7 +17,7 @@ ghost use Rattle.loop_ir.specs.Stores.{Trace, trace};
 ghost use Rattle.loop_ir.specs.declared.statements.Stmt.TheOpen as layer;
 ghost use Rattle.loop_ir.specs.declared.statements.Stmt.{Stmt};
 ghost use Rattle.lowering_nests.specs.Nests.{AreFew, AreSmall, Repeats, loops_of};
-ghost use Rattle.lowering_nests.specs.Rounds.{IsLeaf};
+ghost use Rattle.lowering_nests.specs.LoopLanes.{IsLeaf};
 ghost use Rattle.schedule_loops.specs.Visits as counts;
 ghost use Rattle.schedule_loops.specs.Visits.{begin_of, over_loops, split_body};
 
@@ -77,8 +77,8 @@ fn bound(
     ensures depth { IfOk result (λ made. depth made ≡ suc (depth body)) }
     ensures needs { IfOk result (λ made. greatest_need made ≡ greatest_need body) }
     ensures sizes { IfOk result (λ made. whole_size made ≡ whole_size body + 25) }
-    ensures rounds { IfOk result (λ made. (reads : Reads) → rounds reads made
-        ≡ rounds_at reads (layer.Bind counter whole extent (rounds reads body))) }
+    ensures loop_lanes { IfOk result (λ made. (reads : Reads) → loop_lanes reads made
+        ≡ lanes_at reads (layer.Bind counter whole extent (loop_lanes reads body))) }
     ensures about { IfOk result (λ made. (of : ℕ) → is_about of made ≡ is_about of body) }
 {
     let body = Boxed::new(alloc, body)?;
@@ -111,7 +111,7 @@ fn split_once(
     Ok(made)
 }
 
-/// How many turns a loop has, under few splits of few values.
+/// How many iterations a loop has, under few splits of few values.
 pub(crate) fn extent_of(sizes: &LoopSizes, id: LoopId) -> u32
     requires splits { counts.AreSplits sizes.now.splits }
     requires few { AreFew sizes.now.extents }

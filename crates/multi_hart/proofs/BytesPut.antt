@@ -1,4 +1,4 @@
--- Bytes that are put one behind the other.
+-- Bytes that are put one after the other.
 use Rattle.std.proofs.Common.{◌≡◌, ℕ, ◌+◌, ◌<◌, ◌≤◌, List, length, get_or, set, Bool, true, false, refl, ap, sym, ◌∙◌, arith, length-set, get_or-set_other}
 use Rattle.std.proofs.Common.{inl, inr}
 use Rattle.std.specs.Prelude.{◌≢◌, cond, slice_index}

@@ -151,7 +151,7 @@ halts-after state hart below runs ended =
     (λ (off : (outcome state hart ≢ Stepped) × ((hart_at (turn state hart) hart).status ≢ Running)). off.1)
     (turn-went state hart below runs)
 
--- behind a turn that doesn't step the hart doesn't run
+-- after a turn that doesn't step the hart doesn't run
 halted-after : (state : State) (hart : ℕ) → hart < length state.harts → outcome state hart ≢ Stepped → (status : Status) → (hart_at state hart).status ≡ status
     → (hart_at (turn state hart) hart).status ≢ Running
 halted-after state hart below ended Running is = halts-after state hart below is ended
@@ -165,7 +165,7 @@ halted-after state hart below ended (HasTrapped trap) is =
 pub stopped-after : (state : State) (hart : ℕ) → hart < length state.harts → outcome state hart ≢ Stepped → (hart_at (turn state hart) hart).status ≢ Running
 stopped-after state hart below ended = halted-after state hart below ended (hart_at state hart).status refl
 
--- behind turns of which the last doesn't step, all further ones change nothing
+-- after turns of which the last doesn't step, all further ones change nothing
 module _ (state : State) (hart made turns : ℕ) (below : hart < length state.harts) (some : 1 ≤ made) (fewer : made < turns)
     (ended : outcome (run state (replicate (made - 1) hart)) hart ≢ Stepped) where
   one : made - 1 + 1 ≡ made

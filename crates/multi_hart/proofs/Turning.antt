@@ -18,7 +18,7 @@ turned-two n fits =
 
 -- ---- the place of a word of text
 
--- an offset that lies before text, or at no multiple of 4, is turned to a place behind every text
+-- an offset that lies before text, or at no multiple of 4, is turned to a place after every text
 before : (pc offset : ℕ) → (pc < text_start → 4 * most_words ≤ offset) → pc < text_start → most_words ≤ offset % 4 * 2 ^ 30 + offset / 4
 before pc offset far below = omega (arith, far below)
 

@@ -1,5 +1,5 @@
 pub mod Parts
 pub mod Run
 pub mod Snapshots
-pub mod Stretches
+pub mod TurnsInARow
 pub mod inner

@@ -15,5 +15,5 @@ mod parts;
 mod snapshots;
 
 pub use crate::laws::{commute, frame, frame_within, turns_put_back};
-pub use crate::machines::{Machine, Stretch, UnknownHart};
+pub use crate::machines::{Machine, TurnsMade, UnknownHart};
 pub use crate::snapshots::Snapshot;

@@ -9,7 +9,7 @@ ghost use Rattle.hart_core.specs.Meanings.{insn_of, word_meaning};
 ghost use Rattle.multi_hart.specs.Run.{all_finished};
 ghost use Rattle.multi_hart.specs.inner.Alone.{alone};
 ghost use Rattle.multi_hart.specs.Run.{opened, turn, outcome, run, KeepsShape, hart_at, word_in};
-ghost use Rattle.multi_hart.specs.Stretches.{IsStretch};
+ghost use Rattle.multi_hart.specs.TurnsInARow.{AreTurnsMade};
 
 use hart_core::{Hart, Meaning, Status};
 use memory::{Bytes, Memory, TEXT_START, read_u32};
@@ -27,7 +27,7 @@ pub struct UnknownHart {
 
 /// Turns of one hart, one after the other.
 #[derive(Clone, Copy, Debug, PartialEq, Eq)]
-pub struct Stretch {
+pub struct TurnsMade {
     /// How many they are, at least one.
     pub made: u64,
     /// What the last of them came to.
@@ -137,15 +137,15 @@ impl Machine {
     }
 
     /// Turns of one hart, one after the other, until one doesn't step or so many are made. Takes no memory.
-    pub fn step_on(&mut self, hart: usize, most: u64) -> Stretch
+    pub fn step_on(&mut self, hart: usize, most: u64) -> TurnsMade
         requires there { hart < length self.old.harts }
         requires some { 1 ≤ most }
         ensures state { self.new ≡ run self.old (replicate result.made hart) }
-        ensures stretch { IsStretch self.old hart most result.made result.last }
+        ensures stretch { AreTurnsMade self.old hart most result.made result.last }
         ensures shape { KeepsShape self.old self.new }
     {
         let Status::Running = self.status(hart) else {
-            return Stretch {
+            return TurnsMade {
                 made: 1,
                 last: Outcome::Idle,
             };
@@ -268,17 +268,17 @@ impl Machine {
 /// Turns of a hart that runs, over a memory whose words mean this, until one doesn't step or so many are made: it runs
 /// on exactly where a turn steps, so that its status is never read. Hart, memory and meanings are found once for all
 /// turns, and the program counter is held beside the hart.
-fn run_alone(hart: &mut Hart, memory: &mut Memory, meanings: &[Meaning], most: u64) -> Stretch
+fn run_alone(hart: &mut Hart, memory: &mut Memory, meanings: &[Meaning], most: u64) -> TurnsMade
     requires runs { hart.old.status ≡ Status.Running }
     requires meant { meanings.now ≡ map word_meaning memory.old.text }
     requires few { length meanings.now ≤ most_words }
     requires some { 1 ≤ most }
     ensures state { alone memory.new hart.new ≡ run (alone memory.old hart.old) (replicate result.made 0) }
     ensures text { memory.new.text ≡ memory.old.text }
-    ensures stretch { IsStretch (alone memory.old hart.old) 0 most result.made result.last }
+    ensures stretch { AreTurnsMade (alone memory.old hart.old) 0 most result.made result.last }
 {
     let (left, last) = run_down(hart, memory, meanings, most);
-    Stretch {
+    TurnsMade {
         made: most - (left - 1),
         last,
     }
@@ -296,7 +296,7 @@ fn run_down(hart: &mut Hart, memory: &mut Memory, meanings: &[Meaning], most: u6
     ensures state { alone memory.new hart.new
         ≡ run (alone memory.old hart.old) (replicate (most - (result.0 - 1)) 0) }
     ensures text { memory.new.text ≡ memory.old.text }
-    ensures stretch { IsStretch (alone memory.old hart.old) 0 most (most - (result.0 - 1)) result.1 }
+    ensures stretch { AreTurnsMade (alone memory.old hart.old) 0 most (most - (result.0 - 1)) result.1 }
 {
     let mut left = most;
     let mut pc = hart.pc();
@@ -351,7 +351,7 @@ fn meaning_at(meanings: &[Meaning], pc: u32) -> Option<&Meaning>
     meanings.get(place_at(offset_in_text(pc)) as usize)
 }
 
-/// The place of the word at an offset, and a place behind every text where the offset is no multiple of 4: turned to
+/// The place of the word at an offset, and a place past every text where the offset is no multiple of 4: rotated to
 /// the right, its low bits are the highest.
 fn place_at(offset: u32) -> u32
     ensures { result ≡ offset % 4 * 2 ^ 30 + offset / 4 }
@@ -359,7 +359,7 @@ fn place_at(offset: u32) -> u32
     offset.rotate_right(2)
 }
 
-/// How far an address lies behind the start of text, and a number beyond every text where it lies before.
+/// How far an address lies after the start of text, and a number beyond every text where it lies before.
 fn offset_in_text(pc: u32) -> u32
     ensures behind { text_start ≤ pc → result ≡ pc - text_start }
     ensures before { pc < text_start → 4 * most_words ≤ result }

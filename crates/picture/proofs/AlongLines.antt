@@ -14,9 +14,9 @@ use Rattle.halide_pipeline.specs.declared.expressions.Variable.{Variable}
 use Rattle.halide_pipeline.specs.declared.environments.Environment.{Environment}
 use Rattle.halide_pipeline.specs.Pixel.{Plane, Reads, index_value, value, value_at, variable}
 use Rattle.halide_pipeline.proofs.Trees.{at_variable, at_binary, at_divide, at_remainder, at_select, at_call1, at_call2}
-use Rattle.picture.specs.declared.lines.Line.{Line}
+use Rattle.picture.specs.declared.lines.PointLine.{PointLine}
 use Rattle.picture.specs.declared.scenes.Scene.{Scene}
-use Rattle.picture.specs.declared.scenes.State.TheVariants as states
+use Rattle.picture.specs.declared.scenes.FuncState.TheVariants as states
 use Rattle.picture.specs.inner.Evaluation.{earlier_of, reads_in}
 use Rattle.picture.specs.inner.Lines.{Fits, line_point, reads_with, is_own, IsShared}
 use Rattle.picture_rows.specs.declared.rows.Row.{Row}
@@ -39,7 +39,7 @@ own-source scene own plane (sources.Input place) x y same = absurd cc
 own-source scene own plane (sources.Func place) x y same = rw same refl
 
 -- what reads answer along a line, where the own Func isn't read
-pub shared-other : (scene : Scene) (own : ℕ) (line : Line) (source : Source) (x y row : Row) (columns rows : Plane → ℕ → ℕ) → is_own own source ≡ false
+pub shared-other : (scene : Scene) (own : ℕ) (line : PointLine) (source : Source) (x y row : Row) (columns rows : Plane → ℕ → ℕ) → is_own own source ≡ false
     → IsShared line columns x → IsShared line rows y
     → are.IsRow line.width (λ at. reads_in scene own states.Earlier source (are.value_at x at) (are.value_at y at)) row
     → IsShared line (λ plane at. reads_with scene own plane source (columns plane at) (rows plane at)) row
@@ -51,7 +51,7 @@ shared-other scene own line source x y row columns rows other is_x is_y is = rec
 }
 
 -- and where it is
-pub shared-own : (scene : Scene) (own : ℕ) (line : Line) (source : Source) (x y : Row) (found : Option Row) (columns rows : Plane → ℕ → ℕ)
+pub shared-own : (scene : Scene) (own : ℕ) (line : PointLine) (source : Source) (x y : Row) (found : Option Row) (columns rows : Plane → ℕ → ℕ)
     → is_own own source ≡ true
     → IsShared line columns x → IsShared line rows y → IfSome found (IsShared line (λ plane at. plane (are.value_at x at) (are.value_at y at)))
     → IfSome found (IsShared line (λ plane at. reads_with scene own plane source (columns plane at) (rows plane at)))
@@ -66,24 +66,24 @@ shared-own scene own line source x y (Some row) columns rows same is_x is_y is =
 -- ---- expressions
 
 -- what is known along a line is what another one says that is the same
-pub says-same : (line : Line) (one other : Plane → ℕ → ℕ) (found : Option Row) → ((plane : Plane) (at : ℕ) → one plane at ≡ other plane at)
+pub says-same : (line : PointLine) (one other : Plane → ℕ → ℕ) (found : Option Row) → ((plane : Plane) (at : ℕ) → one plane at ≡ other plane at)
     → IfSome found (IsShared line one) → IfSome found (IsShared line other)
 says-same line one other None same is = is
 says-same line one other (Some row) same is = record { len = is.len; each = λ plane fits at less. is.each plane fits at less ∙ same plane at }
 
-pub answer-same : (line : Line) (one other : Plane → ℕ → ℕ) (answer : Result (Option Row) AllocError) → ((plane : Plane) (at : ℕ)
+pub answer-same : (line : PointLine) (one other : Plane → ℕ → ℕ) (answer : Result (Option Row) AllocError) → ((plane : Plane) (at : ℕ)
     → one plane at ≡ other plane at)
     → IfOk answer (λ found. IfSome found (IsShared line one)) → IfOk answer (λ found. IfSome found (IsShared line other))
 answer-same line one other (Ok found) same is = says-same line one other found same is
 answer-same line one other (Err e) same is = tt
 
-pub answer-long : (line : Line) (says : Plane → ℕ → ℕ) (answer : Result (Option Row) AllocError) → IfOk answer (λ found. IfSome found (IsShared line says))
+pub answer-long : (line : PointLine) (says : Plane → ℕ → ℕ) (answer : Result (Option Row) AllocError) → IfOk answer (λ found. IfSome found (IsShared line says))
     → IfOk answer (λ found. IfSome found (are.HasLength line.width))
 answer-long line says (Ok None) is = tt
 answer-long line says (Ok (Some row)) is = is.len
 answer-long line says (Err e) is = tt
 
-pub of-row : (line : Line) (says : Plane → ℕ → ℕ) (alone : ℕ → ℕ) (row : Row) → are.IsRow line.width alone row → ((plane : Plane) (at : ℕ)
+pub of-row : (line : PointLine) (says : Plane → ℕ → ℕ) (alone : ℕ → ℕ) (row : Row) → are.IsRow line.width alone row → ((plane : Plane) (at : ℕ)
     → alone at ≡ says plane at) → IsShared line says row
 of-row line says alone row is same = record { len = is.len; each = λ plane fits at less. is.each at less ∙ same plane at }
 
@@ -131,7 +131,7 @@ module _ (reads : Reads) (env : Environment) (e : Expr) where
       ap (λ (n : ℕ). reads source n (value reads env q)) (ap (value reads env) p_is) ∙ ap (reads source (value reads env a)) (ap (value reads env) q_is)
       ∙ sym (ap (value reads env) is ∙ at_call2 ℕ (value_at reads env) source a b)
 
-pub index-some : (scene : Scene) (own : ℕ) (line : Line) (index : Option Expr) (e : Expr) (found : Option Row) → index ≡ Some e
+pub index-some : (scene : Scene) (own : ℕ) (line : PointLine) (index : Option Expr) (e : Expr) (found : Option Row) → index ≡ Some e
     → IfSome found (IsShared line (λ plane at. value (reads_with scene own plane) (line_point line.along line.start at) e))
     → IfSome found (IsShared line (λ plane at. index_value (reads_with scene own plane) (line_point line.along line.start at) index))
 index-some scene own line index e found is shared =
@@ -189,7 +189,7 @@ pub long-of : (width : ℕ) (says : ℕ → ℕ) (found : Option Row) → IfSome
 long-of width says None is = tt
 long-of width says (Some row) is = is.len
 
-pub shared-known : (line : Line) (says : Plane → ℕ → ℕ) (found : Option Row) → IfSome found (are.HasLength line.width)
+pub shared-known : (line : PointLine) (says : Plane → ℕ → ℕ) (found : Option Row) → IfSome found (are.HasLength line.width)
     → ((plane : Plane) → Fits line plane → IfSome found (are.IsRow line.width (says plane))) → IfSome found (IsShared line says)
 shared-known line says None long is = tt
 shared-known line says (Some row) long is = record { len = long; each = λ plane fits at less. (is plane fits).each at less }

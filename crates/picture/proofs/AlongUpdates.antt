@@ -15,11 +15,11 @@ use Rattle.halide_pipeline.proofs.Trees.{at_call1, at_call2}
 use Rattle.picture.specs.Slices.{is_forward}
 use Rattle.picture.specs.declared.scenes.Scene.{Scene}
 use Rattle.picture.specs.declared.scenes.Slice.{Slice}
-use Rattle.picture.specs.declared.scenes.State.TheVariants as states
+use Rattle.picture.specs.declared.scenes.FuncState.TheVariants as states
 use Rattle.picture.specs.declared.update_rows.Indices.{Indices}
 use Rattle.picture.specs.declared.update_rows.Right.TheVariants as rights
 use Rattle.picture.specs.declared.update_rows.UpdateRow.{UpdateRow}
-use Rattle.picture.specs.declared.update_runs.Store.{Store}
+use Rattle.picture.specs.declared.update_runs.UpdateStore.{UpdateStore}
 use Rattle.picture.specs.inner.Evaluation.{inputs_of, earlier_of, after_of, reads_in, IsForward}
 use Rattle.picture.specs.inner.Lines.{reads_with, reduction_line, row_point, is_own, IsShared}
 use Rattle.picture.proofs.AlongLines.{own-source, reads-earlier}
@@ -97,7 +97,7 @@ reduction-row update row at x y less =
 
 -- ---- stores
 
-pub store-of-row : (scene : Scene) (own updates number : ℕ) (update : Update) (start : Environment) (row : UpdateRow) (at : ℕ) (slice : Slice) (store : Store)
+pub store-of-row : (scene : Scene) (own updates number : ℕ) (update : Update) (start : Environment) (row : UpdateRow) (at : ℕ) (slice : Slice) (store : UpdateStore)
     → IsUpdateRow scene own update.first.extent start update row → at < update.first.extent → at_reduction update number slice.x slice.y ≡ row_point start at
     → store.x ≡ are.value_at row.left_x at → store.y ≡ are.value_at row.left_y at
     → store.value ≡ right_says row.right (after_of own (slice_get scene.funcs.now own) (inputs_of scene) (earlier_of scene own) updates number) at
@@ -113,7 +113,7 @@ store-of-row scene own updates number update start row at slice store is less po
       ∙ ap (λ (env : Environment). value (reads_in scene own (states.After updates number)) env update.right) (sym point);
 }
 
-pub one-store-more : (scene : Scene) (own : ℕ) (func : Func) (update : Update) (updates number : ℕ) (slice next : Slice) (store : Store)
+pub one-store-more : (scene : Scene) (own : ℕ) (func : Func) (update : Update) (updates number : ℕ) (slice next : Slice) (store : UpdateStore)
     → slice_get scene.funcs.now own ≡ Some func → slice_get func.updates updates ≡ Some update
     → is_forward update ≡ true → IsOfUpdate update slice → IsStore scene own updates number update slice store → Puts slice next store
     → IsForward scene own updates number slice → IsForward scene own updates (number + 1) next

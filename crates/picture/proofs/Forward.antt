@@ -13,7 +13,7 @@ use Rattle.halide_pipeline.specs.Expressions.{uses}
 use Rattle.halide_pipeline.specs.declared.environments.Environment.{Environment}
 use Rattle.picture.specs.declared.scenes.Scene.{Scene}
 use Rattle.picture.specs.declared.scenes.Slice.{Slice}
-use Rattle.picture.specs.declared.scenes.State.TheVariants as states
+use Rattle.picture.specs.declared.scenes.FuncState.TheVariants as states
 use Rattle.halide_pipeline.specs.Pixel.{Plane, Planes, Reads, value, variable, index_value, reads_of, with_plane, at_reduction, is_hit, after, after_all, stage}
 use Rattle.halide_pipeline.specs.Pixel.{points}
 use Rattle.picture.specs.Slices.{is_on, is_forward, mentions, index_uses}

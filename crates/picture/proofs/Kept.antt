@@ -8,7 +8,7 @@ use Rattle.halide_pipeline.specs.declared.environments.Environment.{Environment}
 use Rattle.halide_pipeline.specs.Pixel.{at_point, func_plane, stage, value}
 use Rattle.picture.specs.declared.memos.Memo.{Memo}
 use Rattle.picture.specs.declared.scenes.Scene.{Scene}
-use Rattle.picture.specs.declared.scenes.State.TheVariants as states
+use Rattle.picture.specs.declared.scenes.FuncState.TheVariants as states
 use Rattle.picture.specs.inner.Evaluation.{IsMemo, earlier_of, inputs_of, plane_in, plane_of, reads_in}
 use Rattle.picture.specs.inner.Memos.{remembered, Remembers, KnowsNothing}
 

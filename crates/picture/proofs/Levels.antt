@@ -6,7 +6,7 @@ use Rattle.std.proofs.lemmas.Bool.Decides.{nat_tests}
 use Rattle.halide_pipeline.specs.declared.definitions.Update.{Update}
 use Rattle.halide_pipeline.specs.declared.definitions.Func.{Func}
 use Rattle.picture.specs.declared.scenes.Scene.{Scene}
-use Rattle.picture.specs.declared.scenes.State.TheVariants as states
+use Rattle.picture.specs.declared.scenes.FuncState.TheVariants as states
 use Rattle.halide_pipeline.specs.Pixel.{Plane, Planes, value, reads_of, with_plane, at_reduction, is_hit, after, stage, func_plane, pixels}
 use Rattle.picture.specs.inner.Evaluation.{inputs_of, earlier_of, after_some, after_of, reads_in}
 

@@ -11,8 +11,8 @@ use Rattle.halide_pipeline.specs.declared.definitions.Update.{Update}
 use Rattle.halide_pipeline.specs.declared.definitions.Func.{Func}
 use Rattle.halide_pipeline.specs.Expressions.{nodes, nodes_at}
 use Rattle.picture.specs.declared.scenes.Scene.{Scene}
-use Rattle.picture.specs.declared.scenes.State.{State}
-use Rattle.picture.specs.declared.scenes.State.TheVariants as states
+use Rattle.picture.specs.declared.scenes.FuncState.{FuncState}
+use Rattle.picture.specs.declared.scenes.FuncState.TheVariants as states
 use Rattle.picture.specs.inner.Evaluation.{all_nodes, all_updates, update_nodes, updates_nodes}
 
 -- past all updates of a Func
@@ -25,7 +25,7 @@ level scene own updates number = (own * (all_updates scene.funcs.now + 2) + upda
 unfoldable pub measure : Scene → ℕ → ℕ → ℕ → ℕ → ℕ
 measure scene own updates number size = level scene own updates number * (all_nodes scene.funcs.now + 8) + size
 
-abbrev pub state_measure : Scene → ℕ → State → ℕ → ℕ
+abbrev pub state_measure : Scene → ℕ → FuncState → ℕ → ℕ
 state_measure scene own states.Earlier size = measure scene own 0 0 size
 state_measure scene own (states.After updates number) size = measure scene own (updates + 1) number size
 state_measure scene own (states.Forward updates number slice) size = measure scene own (updates + 1) number size
@@ -99,7 +99,7 @@ length-updates (first ∷ funcs) zero func e = let same : first ≡ func = cc in
     ap (λ (f : Func). length f.updates) same in omega (arith, n)
 length-updates (first ∷ funcs) (suc own) func e = omega (arith, length-updates funcs own func e)
 
-pub less_in_state : (scene : Scene) (own : ℕ) (state : State) (small big : ℕ) → small < big
+pub less_in_state : (scene : Scene) (own : ℕ) (state : FuncState) (small big : ℕ) → small < big
     → state_measure scene own state small < state_measure scene own state big
 less_in_state scene own states.Earlier small big less = less_size scene own 0 0 small big less
 less_in_state scene own (states.After updates number) small big less = less_size scene own (updates + 1) number small big less

@@ -11,7 +11,7 @@ use Rattle.halide_pipeline.specs.declared.definitions.Update.{Update}
 use Rattle.halide_pipeline.specs.declared.environments.Environment.{Environment}
 use Rattle.halide_pipeline.specs.Pixel.{Plane, Planes, Reads, after, at_reduction, index_value, points, reads_of, stage, value, value_at, variable}
 use Rattle.halide_pipeline.proofs.Trees.{at_variable}
-use Rattle.picture.specs.declared.in_place.Stretch.{Stretch}
+use Rattle.picture.specs.declared.in_place.PixelSpan.{PixelSpan}
 use Rattle.picture.specs.declared.scenes.Scene.{Scene}
 use Rattle.picture.specs.inner.Evaluation.{inputs_of, earlier_of}
 use Rattle.picture.specs.inner.PixelRows.{one_more, IsRowOf, StoresEverywhere}
@@ -31,13 +31,13 @@ everywhere update y first second = record {
       ap (λ (b : Bool). b && index_value reads point update.left_y == y) column ∙ row;
 }
 
-pub not-begun : (scene : Scene) (own : ℕ) (update : Update) (plane : Plane) (stretch : Stretch) (before pixels : List ℕ) → pixels ≡ before
+pub not-begun : (scene : Scene) (own : ℕ) (update : Update) (plane : Plane) (stretch : PixelSpan) (before pixels : List ℕ) → pixels ≡ before
     → IsRowOf plane stretch before
     → IsRowOf (after own update (inputs_of scene) (earlier_of scene own) plane 0) stretch pixels
 unfolding after
 not-begun scene own update plane stretch before pixels same is = rw same (record { len = is.len; each = λ at less. is.each at less })
 
-pub one-point-more : (scene : Scene) (own : ℕ) (update : Update) (plane : Plane) (stretch : Stretch) (number : ℕ) (pixels : List ℕ)
+pub one-point-more : (scene : Scene) (own : ℕ) (update : Update) (plane : Plane) (stretch : PixelSpan) (number : ℕ) (pixels : List ℕ)
     → StoresEverywhere update stretch.y
     → IsRowOf (one_more scene own update number (after own update (inputs_of scene) (earlier_of scene own) plane number)) stretch pixels
     → IsRowOf (after own update (inputs_of scene) (earlier_of scene own) plane (number + 1)) stretch pixels
@@ -52,8 +52,8 @@ one-point-more scene own update plane stretch number pixels stores is = record {
       ∙ ap (λ (b : Bool). cond b (one_more scene own update number now x stretch.y) (now x stretch.y)) (stores.each (reads_of inputs earlier) number x));
 }
 
--- behind all points of an update
-pub staged : (own : ℕ) (func : Func) (update : Update) (inputs earlier : Planes) (updates : ℕ) (stretch : Stretch) (pixels : List ℕ) → 0 < updates
+-- after all points of an update
+pub staged : (own : ℕ) (func : Func) (update : Update) (inputs earlier : Planes) (updates : ℕ) (stretch : PixelSpan) (pixels : List ℕ) → 0 < updates
     → slice_get func.updates (updates - 1) ≡ Some update
     → IsRowOf (after own update inputs earlier (stage own func inputs earlier (updates - 1)) (points update)) stretch pixels
     → IsRowOf (stage own func inputs earlier updates) stretch pixels

@@ -9,7 +9,7 @@ use Rattle.halide_pipeline.specs.contracts.definitions.Func as Func
 use Rattle.halide_pipeline.specs.contracts.definitions.Update as Update
 use Rattle.picture.proofs.memos.Memo.TheSendSync as memo
 use Rattle.picture.proofs.pictures.Picture.TheSendSync as picture
-use Rattle.picture.proofs.scenes.Known.TheSendSync as known
+use Rattle.picture.proofs.scenes.UpdatedPixels.TheSendSync as known
 use Rattle.picture.proofs.scenes.Table.TheSendSync as table
 use Rattle.picture.specs.contracts.scenes.Pass as Pass
 use Rattle.picture.specs.contracts.scenes.Scene as Scene

@@ -20,12 +20,12 @@ use Rattle.picture.specs.declared.scenes.Table.{Table}
 use Rattle.picture.specs.declared.together.StoreRow.{StoreRow}
 use Rattle.picture.specs.declared.lines.Along.{Along}
 use Rattle.picture.specs.declared.lines.Along.TheVariants as alongs
-use Rattle.picture.specs.declared.lines.Line.{Line}
-use Rattle.picture.specs.declared.scenes.State.TheVariants as states
+use Rattle.picture.specs.declared.lines.PointLine.{PointLine}
+use Rattle.picture.specs.declared.scenes.FuncState.TheVariants as states
 use Rattle.picture.specs.inner.Evaluation.{inputs_of, earlier_of, numbered_pixel, reads_in, stage_in, stage_some, AreNumbered, IsAt, IsNumberedRow, IsPass}
 use Rattle.picture.specs.inner.Evaluation.{IsTable}
 use Rattle.picture.specs.inner.Lines.{line_point, lower_point, pixel_point, reads_with, Fits}
-use Rattle.picture.specs.declared.in_place.Stretch.{Stretch}
+use Rattle.picture.specs.declared.in_place.PixelSpan.{PixelSpan}
 use Rattle.picture.specs.inner.PixelRows.{IsRowOf}
 use Rattle.picture.specs.inner.Together.{after_points, side_length, with_stores, IsSide, IsStoreRow}
 use Rattle.picture.proofs.AlongLines.{reads-earlier}
@@ -64,7 +64,7 @@ swap i a = elim (cases_eq i a) [
   | inr other ↦ ne_eqb i a other ∙ sym (ne_eqb a i (λ e. other (sym e)))
 ]
 
--- what stands at a point behind one more point of the reduction box, by what that stores at another one of the same slice
+-- what stands at a point after one more point of the reduction box, by what that stores at another one of the same slice
 pub one-more-point : (scene : Scene) (pass : Pass) (number i j x y left_x left_y right : ℕ) → is_forward pass.update.now ≡ true
     → (is_first_in_place pass.update.now ≡ true → i ≡ x) → (is_second_in_place pass.update.now ≡ true → j ≡ y)
     → left_x ≡ value (reads_of (inputs_of scene) (earlier_of scene pass.own)) (at_reduction pass.update.now number x y) pass.update.now.left_x
@@ -208,7 +208,7 @@ whole-rows scene pass number i j left top at height row second first forward sto
 
 -- ---- a row of stores
 
-pub stores-of : (scene : Scene) (pass : Pass) (line : Line) (number x y k : ℕ) (row : StoreRow) → IsStoreRow scene pass line row
+pub stores-of : (scene : Scene) (pass : Pass) (line : PointLine) (number x y k : ℕ) (row : StoreRow) → IsStoreRow scene pass line row
     → Fits line (after_points scene pass number)
     → k < line.width → line_point line.along line.start k ≡ at_reduction pass.update.now number x y → Stores scene pass number x y row k
 stores-of scene pass line number x y k row is fits less point = record {
@@ -224,7 +224,7 @@ stores-of scene pass line number x y k row is fits less point = record {
 
 -- ---- one point of the reduction box on all slices
 
-pub one-point-on : (scene : Scene) (pass : Pass) (along : Along) (line : Line) (number : ℕ) (old new : Table) (row : StoreRow) → IsSide pass.update.now along
+pub one-point-on : (scene : Scene) (pass : Pass) (along : Along) (line : PointLine) (number : ℕ) (old new : Table) (row : StoreRow) → IsSide pass.update.now along
     → line.along ≡ along → line.width ≡ side_length along old
     → line.start ≡ at_reduction pass.update.now number old.left old.top → line.width ≤ 2 ^ 32 → IsStoreRow scene pass line row
     → Fits line (after_points scene pass number)
@@ -353,7 +353,7 @@ put-pixel plane old new x y pixel column row at is narrow low fits_x fits_y fits
           | inr differ ↦ first-false x y (word.add old.left (k % old.width)) (word.add old.top (k / old.width)) differ
         ]
 
--- ---- before the first point, and behind the last one
+-- ---- before the first point, and after the last one
 
 pub begins : (scene : Scene) (pass : Pass) (left top width number y : ℕ) (pixels : List ℕ) → y ≡ word.add top number
     → AreValues width (λ at. stage pass.own pass.func.now (inputs_of scene) (earlier_of scene pass.own) pass.updates (word.add left at) y) pixels
@@ -415,7 +415,7 @@ store-more row at x y pixel plane table x_is y_is pixel_is is =
 -- ---- pixels of a box
 
 -- pixels of the pure definition
-pub pure-stretch : (scene : Scene) (own : ℕ) (func : Func) (stretch : Stretch) (start : Environment) (row : Row) (pixels : List ℕ)
+pub pure-stretch : (scene : Scene) (own : ℕ) (func : Func) (stretch : PixelSpan) (start : Environment) (row : Row) (pixels : List ℕ)
     → start ≡ at_point stretch.left stretch.y
     → ((plane : Plane) (at : ℕ) → at < stretch.width → value_at row at ≡ value (reads_with scene own plane) (pixel_point start at) func.pure)
     → AreValues stretch.width (value_at row) pixels → IsRowOf (stage own func (inputs_of scene) (earlier_of scene own) 0) stretch pixels

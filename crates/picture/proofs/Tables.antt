@@ -4,7 +4,7 @@ use Rattle.std.proofs.Common.{ap, ◌∙◌, arith}
 use Rattle.std.proofs.lemmas.Nat.{div-mul-add, div-add-mod'}
 use Rattle.std.proofs.Math.Nat.{mul-le-mul_right}
 use Rattle.halide_pipeline.specs.Words as word
-use Rattle.picture.specs.declared.scenes.Known.{Known}
+use Rattle.picture.specs.declared.scenes.UpdatedPixels.{UpdatedPixels}
 use Rattle.picture.specs.declared.scenes.Table.{Table}
 use Rattle.halide_pipeline.specs.Pixel.{Plane}
 use Rattle.picture.specs.inner.Evaluation.{IsTable, AreTablesOf, AreKnownOf, IsKnown, plane_in, numbered_pixel}
@@ -41,7 +41,7 @@ pixel_at_place table plane x y column row at is fits_x fits_y fits_left fits_top
 
 -- ---- tables, one after the other
 
--- an item behind others
+-- an item after others
 got : {X : Type 0} (tables : List X) (table : X) (place : ℕ) (other : X) → slice_get (tables ++ table ∷ []) place ≡ Some other
     → (slice_get tables place ≡ Some other) ⊎ ((place ≡ length tables) × (table ≡ other))
 got [] table zero other at = inr (refl, cc)
@@ -75,19 +75,19 @@ item-is (first ∷ items) (suc at) item is less = item-is items at item is (omeg
 
 -- ---- what updates come to, one after the other
 
-pub known-at : (funcs : List Func) (pictures : List PictureContents) (known : List Known) (at : ℕ) (one : Known) (own updates : ℕ)
+pub known-at : (funcs : List Func) (pictures : List PictureContents) (known : List UpdatedPixels) (at : ℕ) (one : UpdatedPixels) (own updates : ℕ)
     → AreKnownOf funcs pictures known
     → one ≡ get_or known at one → at < length known → one.own ≡ own → one.updates ≡ updates → IsKnown funcs pictures own updates one
 known-at funcs pictures known at one own updates are is less own_is updates_is =
     subst (λ (n : ℕ). IsKnown funcs pictures n updates one) own_is
     (subst (λ (n : ℕ). IsKnown funcs pictures one.own n one) updates_is (are.each at one (item-is known at one is less)))
 
-pub one_more_known : (funcs : List Func) (pictures : List PictureContents) (known next : List Known) (one : Known) → AreKnownOf funcs pictures known
+pub one_more_known : (funcs : List Func) (pictures : List PictureContents) (known next : List UpdatedPixels) (one : UpdatedPixels) → AreKnownOf funcs pictures known
     → IsKnown funcs pictures one.own one.updates one → next ≡ known ++ one ∷ [] → AreKnownOf funcs pictures next
 one_more_known funcs pictures known next one are is e =
-    subst (λ (all : List Known). AreKnownOf funcs pictures all) (sym e) (record { each = λ at other there. by_place at other (got known one at other there) })
+    subst (λ (all : List UpdatedPixels). AreKnownOf funcs pictures all) (sym e) (record { each = λ at other there. by_place at other (got known one at other there) })
   where
-    by_place : (at : ℕ) (other : Known) → (slice_get known at ≡ Some other) ⊎ ((at ≡ length known) × (one ≡ other))
+    by_place : (at : ℕ) (other : UpdatedPixels) → (slice_get known at ≡ Some other) ⊎ ((at ≡ length known) × (one ≡ other))
         → IsKnown funcs pictures other.own other.updates other
     by_place at other (inl before) = are.each at other before
-    by_place at other (inr last) = subst (λ (k : Known). IsKnown funcs pictures k.own k.updates k) last.1 is
+    by_place at other (inr last) = subst (λ (k : UpdatedPixels). IsKnown funcs pictures k.own k.updates k) last.1 is

@@ -1,6 +1,6 @@
 -- What a text of a picture is read as, or its first fault. The text is judged from the front, and the
 -- first place that is faulty decides. A number is judged as a whole, where it begins: its digits are
--- all that stand there, and they are judged before the byte behind them.
+-- all that stand there, and they are judged before the byte after them.
 -- The format is this project's own.
 use Rattle.std.specs.Prelude.{◌≡◌, ℕ, zero, suc, ◌-◌, ◌*◌, ◌%◌, ◌^◌, ◌==◌, ◌&&◌, not, Bool, true, false, nat_eq, nat_lt, nat_le, if◌then◌else◌, List, [], ◌∷◌}
 use Rattle.std.specs.Prelude.{length, take, drop, codes, Result, Ok, Err, ◌++◌, map}
@@ -21,11 +21,11 @@ number_of Number = 3
 
 -- ---- parts of a text
 
--- a value and what stands behind it, or a fault
+-- a value and what stands after it, or a fault
 abbrev pub Read : Type 0 → Type 0
 Read A = Result (A × List ℕ) PictureFault
 
--- what stands behind this word
+-- what stands after this word
 unfoldable pub behind : List ℕ → List ℕ → Result (List ℕ) PictureFault
 behind word text = if starts_with nat_eq text word then Ok (drop (length word) text) else Err Syntax
 
@@ -34,7 +34,7 @@ pub record Numeral : Type 0 where
   pub negative : Bool
   pub digits : List ℕ
 
--- digits behind a sign or none: no leading zero, and no `-0`
+-- digits after a sign or none: no leading zero, and no `-0`
 abbrev pub is_plain : Bool → List ℕ → Bool
 is_plain negative [] = false
 is_plain negative (first ∷ []) = not (negative && first == 48)
@@ -83,7 +83,7 @@ pixel_of numeral =
     then (if nat_le (decimal_number numeral.digits) (2 ^ 31) then Ok ((2 ^ 32 - decimal_number numeral.digits) % 2 ^ 32) else Err Number)
     else (if nat_lt (decimal_number numeral.digits) (2 ^ 31) then Ok (decimal_number numeral.digits) else Err Number)
 
--- a pixel, and this word behind it
+-- a pixel, and this word after it
 unfoldable pub pixel_then : List ℕ → List ℕ → Read ℕ
 pixel_then word text =
     numeral_at text >>= λ numeral.
@@ -91,7 +91,7 @@ pixel_then word text =
     behind word numeral.1 >>= λ rest.
     Ok (pixel, rest)
 
--- what stands behind a pixel that so many follow: a line feed behind the last of a row
+-- what stands after a pixel that so many follow: a line feed after the last of a row
 abbrev pub separator : ℕ → ℕ → List ℕ
 separator width left = if left % width == 0 then codes "\n" else codes " "
 
@@ -112,7 +112,7 @@ picture_at text =
     pixels_at heading.0.0 (heading.0.0 * heading.0.1) heading.1 >>= λ pixels.
     Ok (record { width = heading.0.0; height = heading.0.1; pixels = pixels.0 }, pixels.1)
 
--- nothing stands behind the picture
+-- nothing stands after the picture
 unfoldable pub ended : PictureContents → List ℕ → Result PictureContents PictureFault
 ended picture [] = Ok picture
 ended picture (byte ∷ text) = Err Syntax
@@ -132,7 +132,7 @@ Shows view (Err fault) wanted = wanted ≡ Err fault
 -- spelling.
 -- The format is this project's own.
 
--- the signed number of a pixel in decimal digits, behind a `-` where it is below 0
+-- the signed number of a pixel in decimal digits, after a `-` where it is below 0
 unfoldable pub number_text : ℕ → List ℕ
 number_text pixel = if nat_lt pixel (2 ^ 31) then decimal pixel else codes "-" ++ decimal (2 ^ 32 - pixel)
 

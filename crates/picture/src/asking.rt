@@ -5,21 +5,21 @@ ghost use Rattle.std.specs.Prelude.{◌≡◌, ℕ, [], Some, IfOk, IfSome, OnOk
 ghost use Rattle.halide_pipeline.specs.Pixel as spec;
 ghost use Rattle.halide_pipeline.specs.Words as word;
 ghost use Rattle.picture.specs.inner.Evaluation.{plane_of, reads_in, AreTables, AreTablesOf, AreKnownOf, IsMemo};
-ghost use Rattle.picture.specs.declared.scenes.State.TheVariants as states;
+ghost use Rattle.picture.specs.declared.scenes.FuncState.TheVariants as states;
 
-use crate::boxes::{Bounds, Slices};
+use crate::boxes::{Slices, TableBounds};
 use crate::keeping::{is_kept, needs_kept};
 use crate::lookups::{func_at, has_run, known_pixel};
 use crate::memos::Memo;
 use crate::plain::{pixel, read};
 use crate::points::{at_point, at_reduction, points, variable};
-use crate::scenes::{Scene, State};
+use crate::scenes::{FuncState, Scene};
 use halide_pipeline::{Environment, Expr, Func, Operation, Source, Update, words};
 use std::alloc::AllocError;
 
 /// A pixel that is asked for.
 #[derive(Clone, Copy)]
-struct Asked {
+struct AskedPixel {
     place: usize,
     x: u32,
     y: u32,
@@ -42,7 +42,7 @@ fn ask(
     source: Source,
     x: u32,
     y: u32,
-    asked: &mut Vec<Asked>,
+    asked: &mut Vec<AskedPixel>,
 ) -> Result<Option<u32>, AllocError>
     requires tables { AreTables scene.now }
     ensures { IfOk result (λ found. IfSome found (λ pixel. pixel ≡ reads_in scene.now own states.Earlier source x y)) }
@@ -52,11 +52,11 @@ fn ask(
             return Ok(None);
         }
         if is_missing(scene, place, x, y) {
-            asked.push(Asked { place, x, y })?;
+            asked.push(AskedPixel { place, x, y })?;
             return Ok(None);
         }
     }
-    let pixel = read(scene, own, State::Earlier, source, x, y)?;
+    let pixel = read(scene, own, FuncState::Earlier, source, x, y)?;
     Ok(Some(pixel))
 }
 
@@ -67,7 +67,7 @@ fn ask_at(
     source: Source,
     x: Option<u32>,
     y: Option<u32>,
-    asked: &mut Vec<Asked>,
+    asked: &mut Vec<AskedPixel>,
 ) -> Result<Option<u32>, AllocError>
     requires tables { AreTables scene.now }
     ensures { (column row : ℕ) → IfSome x (λ v. v ≡ column) → IfSome y (λ v. v ≡ row)
@@ -126,7 +126,7 @@ fn attempt(
     own: usize,
     environment: &Environment,
     expr: &Expr,
-    asked: &mut Vec<Asked>,
+    asked: &mut Vec<AskedPixel>,
 ) -> Result<Option<u32>, AllocError>
     requires tables { AreTables scene.now }
     ensures { IfOk result (λ found. IfSome found (λ v. v ≡ spec.value (reads_in scene.now own states.Earlier)
@@ -177,7 +177,7 @@ fn ask_point(
     own: usize,
     update: &Update,
     point: &Environment,
-    asked: &mut Vec<Asked>,
+    asked: &mut Vec<AskedPixel>,
 ) -> Result<(), AllocError>
     requires tables { AreTables scene.now }
 {
@@ -194,8 +194,8 @@ fn ask_update(
     scene: &Scene,
     updates: usize,
     update: &Update,
-    top: Asked,
-    asked: &mut Vec<Asked>,
+    top: AskedPixel,
+    asked: &mut Vec<AskedPixel>,
 ) -> Result<(), AllocError>
     requires tables { AreTables scene.now }
 {
@@ -213,8 +213,8 @@ fn ask_update(
 fn ask_updates(
     scene: &Scene,
     func: &Func,
-    top: Asked,
-    asked: &mut Vec<Asked>,
+    top: AskedPixel,
+    asked: &mut Vec<AskedPixel>,
 ) -> Result<(), AllocError>
     requires tables { AreTables scene.now }
 {
@@ -224,8 +224,13 @@ fn ask_updates(
     Ok(())
 }
 
-/// Asks for all that a pixel of a Func hangs on.
-fn ask_all(scene: &Scene, func: &Func, top: Asked, asked: &mut Vec<Asked>) -> Result<(), AllocError>
+/// Asks for all that a pixel of a Func depends on.
+fn ask_all(
+    scene: &Scene,
+    func: &Func,
+    top: AskedPixel,
+    asked: &mut Vec<AskedPixel>,
+) -> Result<(), AllocError>
     requires tables { AreTables scene.now }
 {
     let point = at_point(top.x, top.y);
@@ -239,8 +244,8 @@ fn ask_all(scene: &Scene, func: &Func, top: Asked, asked: &mut Vec<Asked>) -> Re
 fn attempt_pixel(
     scene: &Scene,
     func: &Func,
-    top: Asked,
-    asked: &mut Vec<Asked>,
+    top: AskedPixel,
+    asked: &mut Vec<AskedPixel>,
 ) -> Result<Option<u32>, AllocError>
     requires tables { AreTables scene.now }
     requires is { slice_get scene.now.funcs.now top.place ≡ Some func.now }
@@ -252,8 +257,12 @@ fn attempt_pixel(
     Ok(pixel)
 }
 
-/// A pixel that is asked for; none where it hangs on what isn't known, which is asked for.
-fn computed(scene: &Scene, top: Asked, asked: &mut Vec<Asked>) -> Result<Option<u32>, AllocError>
+/// A pixel that is asked for; none where it depends on what isn't known, which is asked for.
+fn computed(
+    scene: &Scene,
+    top: AskedPixel,
+    asked: &mut Vec<AskedPixel>,
+) -> Result<Option<u32>, AllocError>
     requires tables { AreTables scene.now }
     ensures { IfOk result (λ found. IfSome found (λ v. v ≡ plane_of scene.now top.place top.x top.y)) }
 {
@@ -273,12 +282,12 @@ fn computed(scene: &Scene, top: Asked, asked: &mut Vec<Asked>) -> Result<Option<
     Ok(Some(pixel))
 }
 
-/// Goes on with the pixel that was asked for last: it is kept, or what it hangs on is asked for.
+/// Goes on with the pixel that was asked for last: it is kept, or what it depends on is asked for.
 #[tactic(auto, using(crate::proofs::Kept::one_more_kept))]
 fn settle_one(
     scene: &Scene,
-    top: Asked,
-    asked: &mut Vec<Asked>,
+    top: AskedPixel,
+    asked: &mut Vec<AskedPixel>,
     memo: &mut Memo,
 ) -> Result<(), AllocError>
     requires tables { AreTablesOf scene.now.funcs.now scene.now.pictures.now scene.now.tables.now }
@@ -308,7 +317,7 @@ fn settle_one(
 }
 
 /// Keeps all pixels that are asked for, as far as they can be kept.
-fn settle(scene: &Scene, asked: &mut Vec<Asked>, memo: &mut Memo) -> Result<(), AllocError>
+fn settle(scene: &Scene, asked: &mut Vec<AskedPixel>, memo: &mut Memo) -> Result<(), AllocError>
     requires tables { AreTablesOf scene.now.funcs.now scene.now.pictures.now scene.now.tables.now }
     requires known { AreKnownOf scene.now.funcs.now scene.now.pictures.now scene.now.known.now }
     requires memo { IsMemo scene.now.funcs.now scene.now.pictures.now memo.old }
@@ -326,8 +335,13 @@ fn settle(scene: &Scene, asked: &mut Vec<Asked>, memo: &mut Memo) -> Result<(), 
     Ok(())
 }
 
-/// Keeps what a pixel of a Func hangs on. Reads that stand in indices of others are asked for one after the other.
-fn prepare_point(scene: &Scene, func: &Func, top: Asked, memo: &mut Memo) -> Result<(), AllocError>
+/// Keeps what a pixel of a Func depends on. Reads that stand in indices of others are asked for one after the other.
+fn prepare_point(
+    scene: &Scene,
+    func: &Func,
+    top: AskedPixel,
+    memo: &mut Memo,
+) -> Result<(), AllocError>
     requires tables { AreTablesOf scene.now.funcs.now scene.now.pictures.now scene.now.tables.now }
     requires known { AreKnownOf scene.now.funcs.now scene.now.pictures.now scene.now.known.now }
     requires memo { IsMemo scene.now.funcs.now scene.now.pictures.now memo.old }
@@ -345,11 +359,11 @@ fn prepare_point(scene: &Scene, func: &Func, top: Asked, memo: &mut Memo) -> Res
     Ok(())
 }
 
-/// Keeps what the pixels of a Func in a row hang on.
+/// Keeps what the pixels of a Func in a row depend on.
 fn prepare_row(
     scene: &Scene,
     func: &Func,
-    first: Asked,
+    first: AskedPixel,
     width: u32,
     memo: &mut Memo,
 ) -> Result<(), AllocError>
@@ -360,17 +374,17 @@ fn prepare_row(
 {
     for at in 0..width {
         let x = words::add(first.x, at);
-        let top = Asked { x, ..first };
+        let top = AskedPixel { x, ..first };
         prepare_point(scene, func, top, memo)?;
     }
     Ok(())
 }
 
-/// Keeps what the pixels of the Func at a place in a box hang on.
+/// Keeps what the pixels of the Func at a place in a box depend on.
 pub(crate) fn prepare_box(
     scene: &Scene,
     place: usize,
-    bounds: Bounds,
+    bounds: TableBounds,
     memo: &mut Memo,
 ) -> Result<(), AllocError>
     requires tables { AreTablesOf scene.now.funcs.now scene.now.pictures.now scene.now.tables.now }
@@ -386,7 +400,7 @@ pub(crate) fn prepare_box(
     }
     for row in 0..bounds.height {
         let y = words::add(bounds.top, row);
-        let first = Asked {
+        let first = AskedPixel {
             place,
             x: bounds.left,
             y,
@@ -413,7 +427,7 @@ pub(crate) fn prepare_slices(
         return Ok(());
     }
     for number in 0..wanted.count {
-        let top = Asked {
+        let top = AskedPixel {
             place,
             x: words::add(wanted.left, number),
             y: words::add(wanted.top, number),

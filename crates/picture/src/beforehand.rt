@@ -7,13 +7,13 @@ ghost use Rattle.picture.specs.inner.Evaluation.{IsKnown, IsMemo, IsPass, IsSlic
 ghost use Rattle.picture.specs.inner.Together.{IsSide};
 
 use crate::asking::prepare_slices;
-use crate::boxes::{Bounds, NO_BOUNDS, NO_SLICES, Slices, Wanted, box_of, slices_of};
+use crate::boxes::{NO_BOUNDS, NO_SLICES, Slices, TableBounds, WantedPoints, box_of, slices_of};
 use crate::keeping::needs_kept;
 use crate::lines::Along;
 use crate::lookups::func_at;
 use crate::memos::Memo;
 use crate::points::is_forward;
-use crate::scenes::{Known, Pass, Scene, Slice, Table};
+use crate::scenes::{Pass, Scene, Slice, Table, UpdatedPixels};
 use crate::together::{run_box, side_of};
 use crate::update_runs::run_rows;
 use halide_pipeline::{Func, words};
@@ -72,7 +72,7 @@ fn numbered_box(
     scene: &Scene,
     pass: Pass,
     along: Along,
-    area: Bounds,
+    area: TableBounds,
     number: usize,
 ) -> Result<Table, AllocError>
     requires tables { AreTables scene.now }
@@ -86,13 +86,13 @@ fn numbered_box(
     Ok(table)
 }
 
-/// What an update comes to in the parts of a box, each one behind the one before it.
+/// What an update comes to in the parts of a box, each one after the one before it.
 fn run_boxes(
     rt: &(impl Threads + Sync),
     scene: &Scene,
     pass: Pass,
     along: Along,
-    area: Bounds,
+    area: TableBounds,
 ) -> Result<Vec<Table>, AllocError>
     requires tables { AreTables scene.now }
     requires pass { IsPass scene.now pass }
@@ -119,7 +119,7 @@ fn boxes_of(
     rt: &(impl Threads + Sync),
     scene: &Scene,
     pass: Pass,
-    area: Bounds,
+    area: TableBounds,
 ) -> Result<Vec<Table>, AllocError>
     requires tables { AreTables scene.now }
     requires pass { IsPass scene.now pass }
@@ -145,9 +145,9 @@ fn known_pass(
     rt: &(impl Threads + Sync),
     scene: &Scene,
     pass: Pass,
-    area: Bounds,
+    area: TableBounds,
     wanted: Slices,
-) -> Result<Known, AllocError>
+) -> Result<UpdatedPixels, AllocError>
     requires tables { AreTables scene.now }
     requires pass { IsPass scene.now pass }
     requires forward { is_forward pass.update.now ≡ true }
@@ -156,7 +156,7 @@ fn known_pass(
     let boxes = boxes_of(rt, scene, pass, area)?;
     let left = if are_whole(&boxes) { NO_SLICES } else { wanted };
     let slices = run_slices(rt, scene, pass, left)?;
-    Ok(Known {
+    Ok(UpdatedPixels {
         own: pass.own,
         updates: pass.updates,
         slices,
@@ -169,8 +169,8 @@ fn know_update(
     rt: &(impl Threads + Sync),
     scene: &Scene,
     pass: Pass,
-    wanted: Wanted,
-    known: &mut Vec<Known>,
+    wanted: WantedPoints,
+    known: &mut Vec<UpdatedPixels>,
     memo: &mut Memo,
 ) -> Result<(), AllocError>
     requires tables { AreTablesOf scene.now.funcs.now scene.now.pictures.now scene.now.tables.now }
@@ -207,8 +207,8 @@ pub(crate) fn know_wanted(
     rt: &(impl Threads + Sync),
     scene: &Scene,
     own: usize,
-    wanted: Wanted,
-    known: &mut Vec<Known>,
+    wanted: WantedPoints,
+    known: &mut Vec<UpdatedPixels>,
     memo: &mut Memo,
 ) -> Result<(), AllocError>
     requires tables { AreTablesOf scene.now.funcs.now scene.now.pictures.now scene.now.tables.now }

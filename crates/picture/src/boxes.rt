@@ -5,7 +5,9 @@ ghost use Rattle.std.specs.Prelude.{◌<◌};
 
 use crate::lines::Along;
 use crate::pictures::Picture;
-use crate::ranges::{ALL, Range, Setting, Values, ZERO, pure_setting, signed, update_setting};
+use crate::ranges::{
+    ALL, RangeSetting, SignedRange, Values, ZERO, pure_setting, signed, update_setting,
+};
 use halide_pipeline::{Expr, Func, Output, Reduction, Source, Update};
 use std::alloc::{AllocError, Global};
 
@@ -20,21 +22,21 @@ const MOST_UPDATES: usize = 4;
 
 /// Columns and rows at which pixels are wanted, and how many reads there are at most.
 #[derive(Clone, Copy)]
-struct Area {
-    columns: Range,
-    rows: Range,
+struct WantedArea {
+    columns: SignedRange,
+    rows: SignedRange,
     reads: u64,
 }
 
-impl Area {
+impl WantedArea {
     /// How many pixels there are.
     fn points(self) -> u64 {
         self.columns.count().saturating_mul(self.rows.count())
     }
 
     /// The least area with both.
-    fn hull(self, other: Area) -> Area {
-        Area {
+    fn hull(self, other: WantedArea) -> WantedArea {
+        WantedArea {
             columns: self.columns.hull(other.columns),
             rows: self.rows.hull(other.rows),
             reads: self.reads.saturating_add(other.reads),
@@ -60,32 +62,32 @@ impl Area {
 /// Where a Func is wanted, if it is: after all its updates, and after each of them, where the later
 /// ones read it too.
 #[derive(Clone, Copy)]
-pub(crate) struct Wanted {
-    last: Option<Area>,
-    stages: [Stage; MOST_UPDATES],
+pub(crate) struct WantedPoints {
+    last: Option<WantedArea>,
+    stages: [WantedStage; MOST_UPDATES],
 }
 
-/// Where a Func is wanted behind an update, and where too when the update's own reads of it are counted.
+/// Where a Func is wanted after an update, and where too when the update's own reads of it are counted.
 #[derive(Clone, Copy)]
-struct Stage {
-    behind: Option<Area>,
-    whole: Option<Area>,
+struct WantedStage {
+    behind: Option<WantedArea>,
+    whole: Option<WantedArea>,
 }
 
 /// Where nothing is wanted.
-const NOWHERE: Stage = Stage {
+const NOWHERE: WantedStage = WantedStage {
     behind: None,
     whole: None,
 };
 
-impl Wanted {
+impl WantedPoints {
     /// Whether the Func is wanted anywhere.
     pub fn is_wanted(&self) -> bool {
         self.last.is_some()
     }
 
-    /// Where it is wanted behind an update.
-    fn behind(&self, updates: usize) -> Option<Area> {
+    /// Where it is wanted after an update.
+    fn behind(&self, updates: usize) -> Option<WantedArea> {
         match self.stages.get(updates) {
             None => None,
             Some(stage) => stage.behind,
@@ -93,7 +95,7 @@ impl Wanted {
     }
 
     /// The same and where the update reads it.
-    fn whole(&self, updates: usize) -> Option<Area> {
+    fn whole(&self, updates: usize) -> Option<WantedArea> {
         match self.stages.get(updates) {
             None => None,
             Some(stage) => stage.whole,
@@ -111,7 +113,7 @@ pub(crate) struct Slices {
 
 /// Where a table stands: columns `left` on, rows `top` on.
 #[derive(Clone, Copy)]
-pub(crate) struct Bounds {
+pub(crate) struct TableBounds {
     pub left: u32,
     pub top: u32,
     pub width: u32,
@@ -119,8 +121,14 @@ pub(crate) struct Bounds {
 }
 
 /// Asks for pixels of a source in these columns and rows, so often, where it is a Func.
-fn ask(wanted: &mut Vec<Wanted>, source: Source, columns: Range, rows: Range, reads: u64) {
-    let area = Area {
+fn ask(
+    wanted: &mut Vec<WantedPoints>,
+    source: Source,
+    columns: SignedRange,
+    rows: SignedRange,
+    reads: u64,
+) {
+    let area = WantedArea {
         columns,
         rows,
         reads,
@@ -136,11 +144,11 @@ fn ask(wanted: &mut Vec<Wanted>, source: Source, columns: Range, rows: Range, re
 }
 
 /// What an expression ranges over; the pixels that it reads are asked for.
-fn range_of(expr: &Expr, setting: &Setting, wanted: &mut Vec<Wanted>) -> Range {
+fn range_of(expr: &Expr, setting: &RangeSetting, wanted: &mut Vec<WantedPoints>) -> SignedRange {
     match expr {
         Expr::Number(number) => {
             let number = signed(*number);
-            Range::or_all(number, number)
+            SignedRange::or_all(number, number)
         }
         Expr::Variable(variable) => setting.range(*variable),
         Expr::Binary(operation, a, b) => {
@@ -151,11 +159,11 @@ fn range_of(expr: &Expr, setting: &Setting, wanted: &mut Vec<Wanted>) -> Range {
         Expr::Divide(a, divisor) => {
             let a = range_of(a.get(), setting, wanted);
             let divisor = i64::from(*divisor).max(1);
-            Range::or_all(a.low.div_euclid(divisor), a.high.div_euclid(divisor))
+            SignedRange::or_all(a.low.div_euclid(divisor), a.high.div_euclid(divisor))
         }
         Expr::Remainder(a, divisor) => {
             range_of(a.get(), setting, wanted);
-            Range::or_all(0, i64::from(*divisor).max(1).saturating_sub(1))
+            SignedRange::or_all(0, i64::from(*divisor).max(1).saturating_sub(1))
         }
         Expr::Select(condition, a, b) => {
             range_of(condition.get(), setting, wanted);
@@ -187,7 +195,7 @@ pub(crate) fn box_points(update: &Update) -> u64 {
 }
 
 /// Asks for what an update reads, its own Func's pixels too, where so much is wanted after it.
-fn ask_update(update: &Update, area: Area, values: Values, wanted: &mut Vec<Wanted>) {
+fn ask_update(update: &Update, area: WantedArea, values: Values, wanted: &mut Vec<WantedPoints>) {
     let runs = area.slices(update).min(area.reads);
     let times = runs.saturating_mul(box_points(update));
     let setting = update_setting(update, area.columns, area.rows, times, values);
@@ -199,7 +207,7 @@ fn ask_update(update: &Update, area: Area, values: Values, wanted: &mut Vec<Want
 }
 
 /// Where the Func at a place is wanted so far.
-fn area_of(wanted: &Vec<Wanted>, place: usize) -> Option<Area> {
+fn area_of(wanted: &Vec<WantedPoints>, place: usize) -> Option<WantedArea> {
     match wanted.get(place) {
         None => None,
         Some(own) => own.last,
@@ -208,7 +216,7 @@ fn area_of(wanted: &Vec<Wanted>, place: usize) -> Option<Area> {
 
 /// Asks for what the Func at a place reads for its own wanted pixels: the last update first, since it
 /// reads what stands after those before it.
-fn ask_func(func: &Func, place: usize, values: Values, wanted: &mut Vec<Wanted>) {
+fn ask_func(func: &Func, place: usize, values: Values, wanted: &mut Vec<WantedPoints>) {
     let last = area_of(wanted, place);
     let mut stages = [NOWHERE; MOST_UPDATES];
     for (updates, update) in func.updates.as_slice().iter().enumerate().rev() {
@@ -218,7 +226,7 @@ fn ask_func(func: &Func, place: usize, values: Values, wanted: &mut Vec<Wanted>)
         }
         let whole = area_of(wanted, place);
         if let Some(stage) = stages.get_mut(updates) {
-            *stage = Stage { behind, whole };
+            *stage = WantedStage { behind, whole };
         }
     }
     if let Some(area) = area_of(wanted, place) {
@@ -227,7 +235,7 @@ fn ask_func(func: &Func, place: usize, values: Values, wanted: &mut Vec<Wanted>)
         range_of(&func.pure, &setting, wanted);
     }
     if let Some(own) = wanted.get_mut(place) {
-        *own = Wanted { last, stages };
+        *own = WantedPoints { last, stages };
     }
 }
 
@@ -239,16 +247,16 @@ pub(crate) const NO_SLICES: Slices = Slices {
 };
 
 /// No bounds.
-pub(crate) const NO_BOUNDS: Bounds = Bounds {
+pub(crate) const NO_BOUNDS: TableBounds = TableBounds {
     left: 0,
     top: 0,
     width: 1,
     height: 0,
 };
 
-impl Area {
+impl WantedArea {
     /// The area's bounds; none where it has more pixels than these, or more than are read.
-    fn bounds(self, most: u64) -> Bounds
+    fn bounds(self, most: u64) -> TableBounds
         ensures { 0 < result.width }
     {
         let (width, height) = (self.columns.count(), self.rows.count());
@@ -258,7 +266,7 @@ impl Area {
         if self.points() > most || self.points() > self.reads {
             return NO_BOUNDS;
         }
-        Bounds {
+        TableBounds {
             left: self.columns.corner(),
             top: self.rows.corner(),
             width: width as u32,
@@ -269,7 +277,7 @@ impl Area {
 
 /// The bounds of a table of the wanted pixels; none are in it where there would be too many, or more
 /// than are read.
-pub(crate) fn bounds_of(wanted: Wanted) -> Bounds
+pub(crate) fn bounds_of(wanted: WantedPoints) -> TableBounds
     ensures { 0 < result.width }
 {
     match wanted.last {
@@ -279,7 +287,7 @@ pub(crate) fn bounds_of(wanted: Wanted) -> Bounds
 }
 
 /// Whether an update is made for each pixel on its own: both arguments are in place, or the only one and no update
-/// comes behind it, which could read what it comes to at other pixels.
+/// comes after it, which could read what it comes to at other pixels.
 fn is_each_pixel(func: &Func, updates: usize, update: &Update) -> bool {
     let is_last = updates.saturating_add(1) == func.updates.len();
     update.is_first_in_place()
@@ -288,7 +296,12 @@ fn is_each_pixel(func: &Func, updates: usize, update: &Update) -> bool {
 
 /// The slices on which an update is run beforehand, all that are wanted. There are none where runs as
 /// the need comes are fewer, and where it is made for each pixel: the table has each once.
-pub(crate) fn slices_of(wanted: Wanted, func: &Func, updates: usize, update: &Update) -> Slices {
+pub(crate) fn slices_of(
+    wanted: WantedPoints,
+    func: &Func,
+    updates: usize,
+    update: &Update,
+) -> Slices {
     let Some(area) = wanted.behind(updates) else {
         return NO_SLICES;
     };
@@ -305,7 +318,12 @@ pub(crate) fn slices_of(wanted: Wanted, func: &Func, updates: usize, update: &Up
 
 /// The box in which an update is run beforehand on all slices together, where those hold for one argument's values;
 /// none where there would be too many pixels, or more than are read.
-pub(crate) fn box_of(wanted: Wanted, func: &Func, updates: usize, update: &Update) -> Bounds {
+pub(crate) fn box_of(
+    wanted: WantedPoints,
+    func: &Func,
+    updates: usize,
+    update: &Update,
+) -> TableBounds {
     let Some(area) = wanted.whole(updates) else {
         return NO_BOUNDS;
     };
@@ -321,7 +339,7 @@ const PART_COLUMNS: u32 = 4096;
 
 const PART_ROWS: u32 = 256;
 
-impl Bounds {
+impl TableBounds {
     /// How many parts there are.
     pub fn parts(self, along: Along) -> u32 {
         let (length, part) = match along {
@@ -332,11 +350,11 @@ impl Bounds {
     }
 
     /// The part with this number.
-    pub fn part(self, along: Along, number: u32) -> Bounds {
+    pub fn part(self, along: Along, number: u32) -> TableBounds {
         match along {
             Along::Rows => {
                 let from = number.saturating_mul(PART_ROWS);
-                Bounds {
+                TableBounds {
                     top: self.top.wrapping_add(from),
                     height: self.height.saturating_sub(from).min(PART_ROWS),
                     ..self
@@ -344,7 +362,7 @@ impl Bounds {
             }
             _ => {
                 let from = number.saturating_mul(PART_COLUMNS);
-                Bounds {
+                TableBounds {
                     left: self.left.wrapping_add(from),
                     width: self.width.saturating_sub(from).min(PART_COLUMNS),
                     ..self
@@ -355,17 +373,17 @@ impl Bounds {
 }
 
 /// What the pixels of a picture range over, with the 0 around it.
-fn picture_range(picture: &Picture) -> Range {
+fn picture_range(picture: &Picture) -> SignedRange {
     let mut range = ZERO;
     for pixel in picture.pixels() {
         let number = signed(*pixel);
-        range = range.hull(Range::or_all(number, number));
+        range = range.hull(SignedRange::or_all(number, number));
     }
     range
 }
 
 /// What the pixels of a Func range over, from those of the inputs and Funcs before it.
-fn func_range(func: &Func, values: Values, nowhere: &mut Vec<Wanted>) -> Range {
+fn func_range(func: &Func, values: Values, nowhere: &mut Vec<WantedPoints>) -> SignedRange {
     let mut range = range_of(&func.pure, &pure_setting(ALL, ALL, 0, values), nowhere);
     for update in func.updates.as_slice() {
         let setting = update_setting(update, ALL, ALL, 0, values);
@@ -375,7 +393,11 @@ fn func_range(func: &Func, values: Values, nowhere: &mut Vec<Wanted>) -> Range {
 }
 
 /// What the pixels of each Func range over.
-fn func_ranges(alloc: Global, funcs: &[Func], inputs: &[Range]) -> Result<Vec<Range>, AllocError> {
+fn func_ranges(
+    alloc: Global,
+    funcs: &[Func],
+    inputs: &[SignedRange],
+) -> Result<Vec<SignedRange>, AllocError> {
     let mut ranges = Vec::new(alloc);
     for func in funcs {
         let values = Values {
@@ -394,7 +416,7 @@ pub(crate) fn find(
     funcs: &[Func],
     pictures: &[Picture],
     output: Output,
-) -> Result<Vec<Wanted>, AllocError> {
+) -> Result<Vec<WantedPoints>, AllocError> {
     let mut inputs = Vec::new(alloc);
     for picture in pictures {
         inputs.push(picture_range(picture))?;
@@ -404,13 +426,13 @@ pub(crate) fn find(
         inputs: &inputs,
         funcs: &ranges,
     };
-    let nowhere = Wanted {
+    let nowhere = WantedPoints {
         last: None,
         stages: [NOWHERE; MOST_UPDATES],
     };
     let mut wanted = vec![in alloc; nowhere; funcs.len()]?;
-    let columns = Range::or_all(0, i64::from(output.width).saturating_sub(1));
-    let rows = Range::or_all(0, i64::from(output.height).saturating_sub(1));
+    let columns = SignedRange::or_all(0, i64::from(output.width).saturating_sub(1));
+    let rows = SignedRange::or_all(0, i64::from(output.height).saturating_sub(1));
     let reads = u64::from(output.width).saturating_mul(u64::from(output.height));
     ask(&mut wanted, Source::Func(output.func), columns, rows, reads);
     for (place, func) in funcs.iter().enumerate().rev() {

@@ -12,13 +12,13 @@ ghost use Rattle.picture.specs.inner.Evaluation.{IsAt};
 
 use crate::asking::prepare_box;
 use crate::beforehand::know_wanted;
-use crate::boxes::{Bounds, Wanted, bounds_of, find};
+use crate::boxes::{TableBounds, WantedPoints, bounds_of, find};
 use crate::faults::EvalError;
 use crate::keeping::costs_of;
 use crate::memos::Memo;
 use crate::pictures::Picture;
 use crate::row_values::pixel_row;
-use crate::scenes::{Known, Scene, Table};
+use crate::scenes::{Scene, Table, UpdatedPixels};
 use halide_pipeline::{Func, Input, Pipeline, words};
 use rayon::prelude::*;
 use std::alloc::{AllocError, Global};
@@ -93,7 +93,7 @@ pub fn judge(inputs: &[Input], pictures: &[Picture]) -> Option<EvalError>
 fn numbered_row(
     scene: &Scene,
     place: usize,
-    bounds: Bounds,
+    bounds: TableBounds,
     number: usize,
 ) -> Result<Vec<u32>, AllocError>
     requires tables { AreTables scene.now }
@@ -110,7 +110,7 @@ fn fill(
     rt: &(impl Threads + Sync),
     scene: &Scene,
     place: usize,
-    bounds: Bounds,
+    bounds: TableBounds,
 ) -> Result<Vec<Vec<u32>>, AllocError>
     requires tables { AreTables scene.now }
     ensures { IfOk result (λ rows. AllZip (λ number row. IsNumberedRow (plane_of scene.now place) bounds.left bounds.top
@@ -130,7 +130,7 @@ fn fill(
     rows
 }
 
-/// Rows one behind the other.
+/// Rows one after the other.
 fn joined(alloc: Global, rows: &[Vec<u32>]) -> Result<Vec<u32>, AllocError>
     ensures { (plane : Plane) (left top width : ℕ) → AreNumberedRows plane left top width rows.now
         → IfOk result (λ pixels. AreNumbered plane left top width (length rows.now) pixels.items) }
@@ -147,7 +147,7 @@ fn tabulate(
     rt: &(impl Threads + Sync),
     scene: &Scene,
     place: usize,
-    bounds: Bounds,
+    bounds: TableBounds,
 ) -> Result<Table, AllocError>
     requires tables { AreTables scene.now }
     requires wide { 0 < bounds.width }
@@ -170,8 +170,8 @@ fn tabulate_next(
     rt: &(impl Threads + Sync),
     scene: &Scene,
     own: usize,
-    wanted: Wanted,
-    known: &mut Vec<Known>,
+    wanted: WantedPoints,
+    known: &mut Vec<UpdatedPixels>,
     memo: &mut Memo,
 ) -> Result<Table, AllocError>
     requires tables { AreTablesOf scene.now.funcs.now scene.now.pictures.now scene.now.tables.now }
@@ -198,16 +198,16 @@ fn tabulate_next(
 }
 
 /// What was made of the Funcs before the output is drawn.
-struct Made {
+struct MadeFuncs {
     tables: Vec<Table>,
-    known: Vec<Known>,
+    known: Vec<UpdatedPixels>,
     memo: Memo,
 }
 
 /// Written out, so that a check sees a call wherever one is dropped, and not the drops of its parts.
-impl Drop for Made {
+impl Drop for MadeFuncs {
     fn drop(self) {
-        let Made {
+        let MadeFuncs {
             tables,
             known,
             memo,
@@ -225,8 +225,8 @@ fn tabulate_all(
     alloc: Global,
     funcs: &[Func],
     pictures: &[Picture],
-    wanted: &[Wanted],
-) -> Result<Made, AllocError>
+    wanted: &[WantedPoints],
+) -> Result<MadeFuncs, AllocError>
     ensures tables { IfOk result (λ made. AreTablesOf funcs.now pictures.now made.tables.items) }
     ensures known { IfOk result (λ made. AreKnownOf funcs.now pictures.now made.known.items) }
     ensures memo { IfOk result (λ made. IsMemo funcs.now pictures.now made.memo) }
@@ -250,7 +250,7 @@ fn tabulate_all(
         let table = tabulate_next(rt, &scene, place, *own, &mut known, &mut memo)?;
         tables.push(table)?;
     }
-    Ok(Made {
+    Ok(MadeFuncs {
         tables,
         known,
         memo,
@@ -285,7 +285,7 @@ pub fn evaluate(
         memo: &made.memo,
         costs: &[],
     };
-    let bounds = Bounds {
+    let bounds = TableBounds {
         left: 0,
         top: 0,
         width: output.width,

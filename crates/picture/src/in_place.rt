@@ -8,7 +8,7 @@ ghost use Rattle.picture.specs.inner.Evaluation.{inputs_of, earlier_of, stage_in
 ghost use Rattle.picture.specs.inner.PixelRows.{one_more, IsRowOf, StoresEverywhere};
 
 use crate::line_values::shared_row;
-use crate::lines::{Along, Line, Own};
+use crate::lines::{Along, Own, PointLine};
 use crate::lookups::{has_boxes, known_box};
 use crate::plain::stage;
 use crate::points::{at_point, at_reduction, points};
@@ -55,7 +55,7 @@ fn has_table(tables: &[Table], own: usize, source: Source) -> bool {
 
 /// Pixels one beside the other, from this one on.
 #[derive(Clone, Copy)]
-pub(crate) struct Stretch {
+pub(crate) struct PixelSpan {
     pub left: u32,
     pub y: u32,
     pub width: usize,
@@ -128,7 +128,7 @@ fn is_quick(tables: &[Table], own: usize, update: &Update, y: u32) -> bool
     reads_tables(tables, own, &update.right) && stores_everywhere(update, y)
 }
 
-/// Whether the last update of a Func is run along rows of pixels, or is known of boxes. That is done once: behind it a
+/// Whether the last update of a Func is run along rows of pixels, or is known of boxes. That is done once: after it a
 /// table has the pixels.
 fn is_last_quick(scene: &Scene, own: usize, func: &Func, y: u32) -> bool {
     match func.updates.as_slice().last() {
@@ -141,14 +141,14 @@ fn is_last_quick(scene: &Scene, own: usize, func: &Func, y: u32) -> bool {
     }
 }
 
-/// What stands at pixels behind one more point of an update's reduction box; none where it reads the own Func
+/// What stands at pixels after one more point of an update's reduction box; none where it reads the own Func
 /// elsewhere.
 fn next_row(
     scene: &Scene,
     own: usize,
     update: &Update,
     number: u64,
-    stretch: Stretch,
+    stretch: PixelSpan,
     before: &[u32],
 ) -> Result<Option<Vec<u32>>, AllocError>
     requires tables { AreTables scene.now }
@@ -159,7 +159,7 @@ fn next_row(
         → IfOk result (λ found. IfSome found (λ pixels. IsRowOf (one_more scene.now own update.now number plane) stretch
         pixels.items)) }
 {
-    let line = Line {
+    let line = PointLine {
         start: at_reduction(update, number, stretch.left, stretch.y),
         along: Along::Columns,
         width: stretch.width,
@@ -172,12 +172,12 @@ fn next_row(
     Ok(Some(pixels))
 }
 
-/// What stands at pixels behind an update, from what stood there before; none where it reads the own Func elsewhere.
+/// What stands at pixels after an update, from what stood there before; none where it reads the own Func elsewhere.
 fn over_pixels(
     scene: &Scene,
     own: usize,
     update: &Update,
-    stretch: Stretch,
+    stretch: PixelSpan,
     before: Vec<u32>,
 ) -> Result<Option<Vec<u32>>, AllocError>
     requires tables { AreTables scene.now }
@@ -205,7 +205,7 @@ fn stages_one_by_one(
     own: usize,
     func: &Func,
     updates: usize,
-    stretch: Stretch,
+    stretch: PixelSpan,
 ) -> Result<Vec<u32>, AllocError>
     requires tables { AreTables scene.now }
     requires is { slice_get scene.now.funcs.now own ≡ Some func.now }
@@ -213,7 +213,7 @@ fn stages_one_by_one(
     ensures { IfOk result (λ pixels. IsRowOf (spec.stage own func.now (inputs_of scene.now) (earlier_of scene.now own)
         updates) stretch pixels.items) }
 {
-    let Stretch { left, y, width } = stretch;
+    let PixelSpan { left, y, width } = stretch;
     let mut pixels = vec![in scene.alloc; 0; width]?;
     for at in 0..width {
         let x = words::add(left, at as u32);
@@ -228,14 +228,14 @@ fn pure_pixels(
     scene: &Scene,
     own: usize,
     func: &Func,
-    stretch: Stretch,
+    stretch: PixelSpan,
 ) -> Result<Option<Vec<u32>>, AllocError>
     requires tables { AreTables scene.now }
     requires narrow { stretch.width < 2 ^ 32 }
     ensures { IfOk result (λ found. IfSome found (λ pixels. IsRowOf (spec.stage own func.now (inputs_of scene.now)
         (earlier_of scene.now own) 0) stretch pixels.items)) }
 {
-    let line = Line {
+    let line = PointLine {
         start: at_point(stretch.left, stretch.y),
         along: Along::Columns,
         width: stretch.width,
@@ -248,19 +248,19 @@ fn pure_pixels(
     Ok(Some(pixels))
 }
 
-/// Pixels of a Func behind an update, where that has run in a box with all of them.
+/// Pixels of a Func after an update, where that has run in a box with all of them.
 fn boxed_pixels(
     scene: &Scene,
     own: usize,
     updates: usize,
-    stretch: Stretch,
+    stretch: PixelSpan,
 ) -> Result<Option<Vec<u32>>, AllocError>
     requires tables { AreTables scene.now }
     requires narrow { stretch.width < 2 ^ 32 }
     ensures { IfOk result (λ found. IfSome found (λ pixels. IsRowOf (stage_in scene.now.funcs.now
         scene.now.pictures.now own (updates + 1)) stretch pixels.items)) }
 {
-    let Stretch { left, y, width } = stretch;
+    let PixelSpan { left, y, width } = stretch;
     let Some(own_box) = known_box(scene.known, own, updates, left, y) else {
         return Ok(None);
     };
@@ -277,7 +277,7 @@ pub(crate) fn stage_pixels(
     own: usize,
     func: &Func,
     updates: usize,
-    stretch: Stretch,
+    stretch: PixelSpan,
 ) -> Result<Vec<u32>, AllocError>
     requires tables { AreTables scene.now }
     requires is { slice_get scene.now.funcs.now own ≡ Some func.now }
@@ -314,7 +314,7 @@ pub(crate) fn pixels_at_once(
     scene: &Scene,
     own: usize,
     func: &Func,
-    stretch: Stretch,
+    stretch: PixelSpan,
 ) -> Result<Option<Vec<u32>>, AllocError>
     requires tables { AreTables scene.now }
     requires is { slice_get scene.now.funcs.now own ≡ Some func.now }

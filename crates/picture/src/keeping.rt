@@ -1,7 +1,7 @@
 //! Which Funcs' pixels are kept one by one. Nothing is proved of it but that it ends: whatever it answers, pixels are
 //! right.
 
-use crate::boxes::{Wanted, bounds_of, box_of, box_points, slices_of};
+use crate::boxes::{WantedPoints, bounds_of, box_of, box_points, slices_of};
 use halide_pipeline::{Expr, Func, Source, Update};
 use std::alloc::{AllocError, Global};
 
@@ -94,7 +94,7 @@ fn cost_of(costs: &[Cost], expr: &Expr) -> Cost {
 /// What an update adds to the cost of a pixel; it is little where the update is run beforehand.
 fn update_cost(
     costs: &[Cost],
-    wanted: Wanted,
+    wanted: WantedPoints,
     func: &Func,
     updates: usize,
     update: &Update,
@@ -116,7 +116,7 @@ fn update_cost(
 }
 
 /// What it costs to read the next Func.
-fn next_cost(costs: &[Cost], wanted: Wanted, func: &Func) -> Cost {
+fn next_cost(costs: &[Cost], wanted: WantedPoints, func: &Func) -> Cost {
     let mut own = cost_of(costs, &func.pure);
     for (updates, update) in func.updates.as_slice().iter().enumerate() {
         own = own.plus(update_cost(costs, wanted, func, updates, update));
@@ -134,7 +134,7 @@ fn next_cost(costs: &[Cost], wanted: Wanted, func: &Func) -> Cost {
 pub(crate) fn costs_of(
     alloc: Global,
     funcs: &[Func],
-    wanted: &[Wanted],
+    wanted: &[WantedPoints],
 ) -> Result<Vec<Cost>, AllocError> {
     let mut costs = Vec::new(alloc);
     for (place, func) in funcs.iter().enumerate() {

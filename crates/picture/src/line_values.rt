@@ -9,7 +9,7 @@ ghost use Rattle.picture.specs.inner.Lines.{line_point, reads_with, value_along,
 ghost use Rattle.picture_rows.specs.Rows.{HasLength};
 
 use crate::lines::{
-    Line, shared_both, shared_choice, shared_quotients, shared_read, shared_remainders,
+    PointLine, shared_both, shared_choice, shared_quotients, shared_read, shared_remainders,
     variable_along,
 };
 use crate::scenes::Scene;
@@ -23,7 +23,7 @@ use std::alloc::AllocError;
 pub(crate) fn shared_row(
     scene: &Scene,
     own: usize,
-    line: Line,
+    line: PointLine,
     expr: &Expr,
 ) -> Result<Option<Row>, AllocError>
     requires tables { AreTables scene.now }
@@ -68,7 +68,7 @@ pub(crate) fn shared_row(
 fn shared_binary(
     scene: &Scene,
     own: usize,
-    line: Line,
+    line: PointLine,
     operation: Operation,
     a: &Expr,
     b: &Expr,
@@ -91,7 +91,7 @@ fn shared_binary(
 fn shared_divide(
     scene: &Scene,
     own: usize,
-    line: Line,
+    line: PointLine,
     a: &Expr,
     divisor: u32,
 ) -> Result<Option<Row>, AllocError>
@@ -112,7 +112,7 @@ fn shared_divide(
 fn shared_remainder(
     scene: &Scene,
     own: usize,
-    line: Line,
+    line: PointLine,
     a: &Expr,
     divisor: u32,
 ) -> Result<Option<Row>, AllocError>
@@ -133,7 +133,7 @@ fn shared_remainder(
 fn shared_select(
     scene: &Scene,
     own: usize,
-    line: Line,
+    line: PointLine,
     condition: &Expr,
     a: &Expr,
     b: &Expr,
@@ -143,7 +143,8 @@ fn shared_select(
     requires narrow { line.width < 2 ^ 32 }
     ensures len { IfOk result (λ found. IfSome found (HasLength line.entry.width)) }
     ensures values { IfOk result (λ found. IfSome found (IsShared line.entry (λ plane at. cond
-        (value_along scene.now own line.entry condition.now plane at == 0) (value_along scene.now own line.entry b.now plane at)
+        (value_along scene.now own line.entry condition.now plane at == 0)
+        (value_along scene.now own line.entry b.now plane at)
         (value_along scene.now own line.entry a.now plane at)))) }
 {
     let condition = shared_row(scene, own, line, condition)?;
@@ -158,7 +159,7 @@ fn shared_select(
 fn shared_call1(
     scene: &Scene,
     own: usize,
-    line: Line,
+    line: PointLine,
     source: Source,
     x: &Expr,
 ) -> Result<Option<Row>, AllocError>
@@ -179,7 +180,7 @@ fn shared_call1(
 fn shared_call2(
     scene: &Scene,
     own: usize,
-    line: Line,
+    line: PointLine,
     source: Source,
     x: &Expr,
     y: &Expr,
@@ -189,7 +190,8 @@ fn shared_call2(
     requires narrow { line.width < 2 ^ 32 }
     ensures len { IfOk result (λ found. IfSome found (HasLength line.entry.width)) }
     ensures values { IfOk result (λ found. IfSome found (IsShared line.entry (λ plane at. reads_with scene.now own plane
-        source (value_along scene.now own line.entry x.now plane at) (value_along scene.now own line.entry y.now plane at)))) }
+        source (value_along scene.now own line.entry x.now plane at)
+        (value_along scene.now own line.entry y.now plane at)))) }
 {
     let x = shared_row(scene, own, line, x)?;
     let y = shared_row(scene, own, line, y)?;
@@ -200,7 +202,7 @@ fn shared_call2(
 pub(crate) fn index_row(
     scene: &Scene,
     own: usize,
-    line: Line,
+    line: PointLine,
     index: &Option<Expr>,
 ) -> Result<Option<Row>, AllocError>
     requires tables { AreTables scene.now }

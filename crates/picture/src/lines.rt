@@ -39,7 +39,7 @@ pub(crate) enum Own<'a> {
 
 /// Points one beside the other, from this one on.
 #[derive(Clone, Copy)]
-pub(crate) struct Line<'a> {
+pub(crate) struct PointLine<'a> {
     pub start: Environment,
     pub along: Along,
     pub width: usize,
@@ -158,7 +158,7 @@ fn box_pixels(
 }
 
 /// What the own Func has at points, where it is known there.
-fn own_read(alloc: Global, line: Line, x: &Row, y: &Row) -> Result<Option<Row>, AllocError>
+fn own_read(alloc: Global, line: PointLine, x: &Row, y: &Row) -> Result<Option<Row>, AllocError>
     requires columns { HasLength line.width x.now }
     requires rows { HasLength line.width y.now }
     requires line { IsLine line }
@@ -183,7 +183,7 @@ fn own_read(alloc: Global, line: Line, x: &Row, y: &Row) -> Result<Option<Row>, 
 pub(crate) fn shared_read(
     scene: &Scene,
     own: usize,
-    line: Line,
+    line: PointLine,
     source: Source,
     x: Option<Row>,
     y: Option<Row>,
@@ -214,7 +214,7 @@ pub(crate) fn shared_read(
 /// What an operation makes of two sides along a line, where both are known.
 pub(crate) fn shared_both(
     alloc: Global,
-    line: Line,
+    line: PointLine,
     operation: Operation,
     a: Option<Row>,
     b: Option<Row>,
@@ -239,7 +239,7 @@ pub(crate) fn shared_both(
 /// Quotients along a line, where the numbers are known.
 pub(crate) fn shared_quotients(
     alloc: Global,
-    line: Line,
+    line: PointLine,
     a: Option<Row>,
     divisor: u32,
 ) -> Result<Option<Row>, AllocError>
@@ -258,7 +258,7 @@ pub(crate) fn shared_quotients(
 /// Remainders along a line, where the numbers are known.
 pub(crate) fn shared_remainders(
     alloc: Global,
-    line: Line,
+    line: PointLine,
     a: Option<Row>,
     divisor: u32,
 ) -> Result<Option<Row>, AllocError>
@@ -277,7 +277,7 @@ pub(crate) fn shared_remainders(
 /// One of two sides at each point of a line, where both are known and what they are chosen by is.
 pub(crate) fn shared_choice(
     alloc: Global,
-    line: Line,
+    line: PointLine,
     condition: Option<Row>,
     a: Option<Row>,
     b: Option<Row>,

@@ -13,7 +13,7 @@ ghost use Rattle.halide_pipeline.specs.Contents.{PictureContents};
 use crate::memos::Memo;
 use crate::pictures::Picture;
 use crate::points::product;
-use crate::scenes::{Known, Scene, Slice, Table};
+use crate::scenes::{Scene, Slice, Table, UpdatedPixels};
 use halide_pipeline::{Func, words};
 
 /// An input's pixel, 0 outside its extents.
@@ -99,7 +99,7 @@ fn slice_at(slices: &[Slice], x: u32, y: u32) -> Option<&Slice>
 }
 
 /// What is known of an update of the Func at a place.
-fn known_of(known: &[Known], own: usize, updates: usize) -> Option<&Known>
+fn known_of(known: &[UpdatedPixels], own: usize, updates: usize) -> Option<&UpdatedPixels>
     ensures { (funcs : List Func) (pictures : List PictureContents) → AreKnownOf funcs pictures known.now
         → IfSome result (λ one. IsKnown funcs pictures own updates one.now) }
 {
@@ -113,7 +113,7 @@ fn known_of(known: &[Known], own: usize, updates: usize) -> Option<&Known>
 
 /// The slice with a point on which an update has run.
 pub(crate) fn known_slice(
-    known: &[Known],
+    known: &[UpdatedPixels],
     own: usize,
     updates: usize,
     x: u32,
@@ -128,7 +128,7 @@ pub(crate) fn known_slice(
     }
 }
 
-/// The box with a point, of boxes each one behind the one before it.
+/// The box with a point, of boxes each one after the one before it.
 pub(crate) fn box_at(boxes: &[Table], x: u32, y: u32) -> Option<&Table>
     ensures { (plane : spec.Plane) → AreBoxes plane boxes.now → IfSome result (λ own. IsTable plane own.now) }
 {
@@ -141,7 +141,7 @@ pub(crate) fn box_at(boxes: &[Table], x: u32, y: u32) -> Option<&Table>
 
 /// The box with a point in which an update has run.
 pub(crate) fn known_box(
-    known: &[Known],
+    known: &[UpdatedPixels],
     own: usize,
     updates: usize,
     x: u32,
@@ -156,9 +156,9 @@ pub(crate) fn known_box(
     }
 }
 
-/// A pixel of the Func at a place behind an update, where that has run in a box.
+/// A pixel of the Func at a place after an update, where that has run in a box.
 pub(crate) fn boxed_pixel(
-    known: &[Known],
+    known: &[UpdatedPixels],
     own: usize,
     updates: usize,
     x: u32,
@@ -174,13 +174,13 @@ pub(crate) fn boxed_pixel(
 }
 
 /// Whether an update has run at a point.
-pub(crate) fn has_run(known: &[Known], own: usize, updates: usize, x: u32, y: u32) -> bool {
+pub(crate) fn has_run(known: &[UpdatedPixels], own: usize, updates: usize, x: u32, y: u32) -> bool {
     known_slice(known, own, updates, x, y).is_some()
         || boxed_pixel(known, own, updates, x, y).is_some()
 }
 
 /// Whether the last of so many updates has run in boxes.
-pub(crate) fn has_boxes(known: &[Known], own: usize, updates: usize) -> bool {
+pub(crate) fn has_boxes(known: &[UpdatedPixels], own: usize, updates: usize) -> bool {
     match known_of(known, own, updates.saturating_sub(1)) {
         None => false,
         Some(one) => !one.boxes.is_empty(),

@@ -7,11 +7,11 @@ ghost use Rattle.picture.specs.inner.Evaluation.{after_of, all_nodes, earlier_of
 ghost use Rattle.picture.specs.inner.Evaluation.{reads_in, stage_in, stage_of, update_nodes};
 ghost use Rattle.picture.specs.inner.Evaluation.{AreTables, IsBegun, IsForward, IsPass, IsSliceOf, IsState};
 ghost use Rattle.picture.specs.Slices.{is_on, is_forward};
-ghost use Rattle.picture.specs.declared.scenes.State.TheVariants as states;
+ghost use Rattle.picture.specs.declared.scenes.FuncState.TheVariants as states;
 
 use crate::lookups::{boxed_pixel, func_at, input_pixel, known_pixel, known_slice};
 use crate::points::{at_point, at_reduction, is_forward, points, variable};
-use crate::scenes::{Pass, Progress, Scene, Slice, State};
+use crate::scenes::{FuncState, Pass, Progress, Scene, Slice};
 use halide_pipeline::{Environment, Expr, Func, Source, Update, words};
 use std::alloc::AllocError;
 
@@ -21,7 +21,7 @@ use std::alloc::AllocError;
 pub(crate) fn value(
     scene: &Scene,
     own: usize,
-    state: State,
+    state: FuncState,
     environment: &Environment,
     expr: &Expr,
 ) -> Result<u32, AllocError>
@@ -71,7 +71,7 @@ pub(crate) fn value(
 pub(crate) fn read(
     scene: &Scene,
     own: usize,
-    state: State,
+    state: FuncState,
     source: Source,
     x: u32,
     y: u32,
@@ -83,11 +83,11 @@ pub(crate) fn read(
     match source {
         Source::Input(place) => Ok(input_pixel(scene.pictures, place, x, y)),
         Source::Func(place) => match state {
-            State::Earlier => {
+            FuncState::Earlier => {
                 let pixel = earlier_pixel(scene, own, place, x, y)?;
                 Ok(pixel)
             }
-            State::After(updates, number) => {
+            FuncState::After(updates, number) => {
                 if place != own {
                     let pixel = earlier_pixel(scene, own, place, x, y)?;
                     return Ok(pixel);
@@ -95,7 +95,7 @@ pub(crate) fn read(
                 let pixel = after_of(scene, own, updates, number, x, y)?;
                 Ok(pixel)
             }
-            State::Forward(updates, number, slice) => {
+            FuncState::Forward(updates, number, slice) => {
                 if place != own {
                     let pixel = earlier_pixel(scene, own, place, x, y)?;
                     return Ok(pixel);
@@ -203,7 +203,7 @@ pub(crate) fn stage(
         y) }
 {
     if updates == 0 {
-        let pixel = value(scene, own, State::Earlier, &at_point(x, y), &func.pure)?;
+        let pixel = value(scene, own, FuncState::Earlier, &at_point(x, y), &func.pure)?;
         return Ok(pixel);
     }
     if let Some(pixel) = boxed_pixel(scene.known, own, updates - 1, x, y) {
@@ -300,9 +300,9 @@ fn run_forward(scene: &Scene, pass: Pass, x: u32, y: u32) -> Result<Slice, Alloc
     } = pass;
     for number in 0..points(update) {
         let point = at_reduction(update, number, x, y);
-        let left_x = value(scene, own, State::Earlier, &point, &update.left_x)?;
+        let left_x = value(scene, own, FuncState::Earlier, &point, &update.left_x)?;
         let left_y = index_value(scene, own, &point, &update.left_y)?;
-        let state = State::Forward(updates, number, &slice);
+        let state = FuncState::Forward(updates, number, &slice);
         let right = value(scene, own, state, &point, &update.right)?;
         slice.writes.set(left_x, left_y, right)?;
     }
@@ -324,7 +324,7 @@ pub(crate) fn index_value(
     match index {
         None => Ok(0),
         Some(index) => {
-            let index = value(scene, own, State::Earlier, point, index)?;
+            let index = value(scene, own, FuncState::Earlier, point, index)?;
             Ok(index)
         }
     }
@@ -381,7 +381,7 @@ fn after(scene: &Scene, pass: Pass, number: u64, x: u32, y: u32) -> Result<u32, 
     }
     let point = at_reduction(pass.update, number - 1, x, y);
     if is_hit(scene, pass.own, pass.update, &point)? {
-        let state = State::After(pass.updates, number - 1);
+        let state = FuncState::After(pass.updates, number - 1);
         let pixel = value(scene, pass.own, state, &point, &pass.update.right)?;
         return Ok(pixel);
     }
@@ -401,14 +401,14 @@ fn is_hit(
     requires short { update_nodes update.now ≤ all_nodes scene.now.funcs.now }
     ensures { IfOk result (λ hit. hit ≡ spec.is_hit (reads_in scene.now own states.Earlier) update.now point.now) }
 {
-    let left_x = value(scene, own, State::Earlier, point, &update.left_x)?;
+    let left_x = value(scene, own, FuncState::Earlier, point, &update.left_x)?;
     if left_x != point.first_argument {
         return Ok(false);
     }
     match &update.left_y {
         None => Ok(point.second_argument == 0),
         Some(left_y) => {
-            let left_y = value(scene, own, State::Earlier, point, left_y)?;
+            let left_y = value(scene, own, FuncState::Earlier, point, left_y)?;
             Ok(left_y == point.second_argument)
         }
     }

@@ -1,4 +1,4 @@
-//! Points at which definitions are computed, and which variables they hang on.
+//! Points at which definitions are computed, and which variables they depend on.
 
 ghost use Rattle.std.specs.Prelude.{◌≡◌, ◌<◌, ◌+◌, ◌-◌, ◌*◌, ◌/◌, ◌%◌, ◌^◌};
 ghost use Rattle.halide_pipeline.specs.Pixel as spec;

@@ -4,71 +4,71 @@ use halide_pipeline::{Operation, Reduction, Source, Update, Variable};
 
 /// The signed numbers from `low` to `high`.
 #[derive(Clone, Copy)]
-pub(crate) struct Range {
+pub(crate) struct SignedRange {
     pub low: i64,
     pub high: i64,
 }
 
 /// All signed numbers of 32 bits.
-pub(crate) const ALL: Range = Range {
+pub(crate) const ALL: SignedRange = SignedRange {
     low: -0x8000_0000,
     high: 0x7fff_ffff,
 };
 
 /// The one number 0.
-pub(crate) const ZERO: Range = Range { low: 0, high: 0 };
+pub(crate) const ZERO: SignedRange = SignedRange { low: 0, high: 0 };
 
-impl Range {
+impl SignedRange {
     /// The range, or all numbers where it leaves them.
-    pub fn or_all(low: i64, high: i64) -> Range {
+    pub fn or_all(low: i64, high: i64) -> SignedRange {
         if low < ALL.low || high > ALL.high || low > high {
             ALL
         } else {
-            Range { low, high }
+            SignedRange { low, high }
         }
     }
 
     /// The least range with both.
-    pub fn hull(self, other: Range) -> Range {
-        Range {
+    pub fn hull(self, other: SignedRange) -> SignedRange {
+        SignedRange {
             low: self.low.min(other.low),
             high: self.high.max(other.high),
         }
     }
 
     /// The products of both.
-    fn times(self, other: Range) -> Range {
+    fn times(self, other: SignedRange) -> SignedRange {
         let a = self.low.saturating_mul(other.low);
         let b = self.low.saturating_mul(other.high);
         let c = self.high.saturating_mul(other.low);
         let d = self.high.saturating_mul(other.high);
-        Range::or_all(a.min(b).min(c).min(d), a.max(b).max(c).max(d))
+        SignedRange::or_all(a.min(b).min(c).min(d), a.max(b).max(c).max(d))
     }
 
     /// What an operation makes of both.
-    pub fn apply(self, operation: Operation, other: Range) -> Range {
+    pub fn apply(self, operation: Operation, other: SignedRange) -> SignedRange {
         match operation {
-            Operation::Add => Range::or_all(
+            Operation::Add => SignedRange::or_all(
                 self.low.saturating_add(other.low),
                 self.high.saturating_add(other.high),
             ),
-            Operation::Subtract => Range::or_all(
+            Operation::Subtract => SignedRange::or_all(
                 self.low.saturating_sub(other.high),
                 self.high.saturating_sub(other.low),
             ),
             Operation::Multiply => self.times(other),
             Operation::Minimum => {
-                Range::or_all(self.low.min(other.low), self.high.min(other.high))
+                SignedRange::or_all(self.low.min(other.low), self.high.min(other.high))
             }
             Operation::Maximum => {
-                Range::or_all(self.low.max(other.low), self.high.max(other.high))
+                SignedRange::or_all(self.low.max(other.low), self.high.max(other.high))
             }
             Operation::Less
             | Operation::LessOrEqual
             | Operation::Greater
             | Operation::GreaterOrEqual
             | Operation::Equal
-            | Operation::NotEqual => Range { low: 0, high: 1 },
+            | Operation::NotEqual => SignedRange { low: 0, high: 1 },
         }
     }
 
@@ -95,12 +95,12 @@ pub(crate) fn signed(word: u32) -> i64 {
 /// What the pixels of inputs and Funcs range over.
 #[derive(Clone, Copy)]
 pub(crate) struct Values<'a> {
-    pub inputs: &'a [Range],
-    pub funcs: &'a [Range],
+    pub inputs: &'a [SignedRange],
+    pub funcs: &'a [SignedRange],
 }
 
 impl Values<'_> {
-    pub fn range(self, source: Source) -> Range {
+    pub fn range(self, source: Source) -> SignedRange {
         let known = match source {
             Source::Input(place) => self.inputs.get(place),
             Source::Func(place) => self.funcs.get(place),
@@ -111,17 +111,17 @@ impl Values<'_> {
 
 /// What the variables and the reads of an expression range over, and how often it is computed.
 #[derive(Clone, Copy)]
-pub(crate) struct Setting<'a> {
-    pub first_argument: Range,
-    pub second_argument: Range,
-    pub first_reduction: Range,
-    pub second_reduction: Range,
+pub(crate) struct RangeSetting<'a> {
+    pub first_argument: SignedRange,
+    pub second_argument: SignedRange,
+    pub first_reduction: SignedRange,
+    pub second_reduction: SignedRange,
     pub values: Values<'a>,
     pub times: u64,
 }
 
-impl Setting<'_> {
-    pub fn range(&self, variable: Variable) -> Range {
+impl RangeSetting<'_> {
+    pub fn range(&self, variable: Variable) -> SignedRange {
         match variable {
             Variable::FirstArgument => self.first_argument,
             Variable::SecondArgument => self.second_argument,
@@ -133,12 +133,12 @@ impl Setting<'_> {
 
 /// The setting of a pure definition.
 pub(crate) fn pure_setting<'a>(
-    columns: Range,
-    rows: Range,
+    columns: SignedRange,
+    rows: SignedRange,
     times: u64,
     values: Values<'a>,
-) -> Setting<'a> {
-    Setting {
+) -> RangeSetting<'a> {
+    RangeSetting {
         first_argument: columns,
         second_argument: rows,
         first_reduction: ZERO,
@@ -151,12 +151,12 @@ pub(crate) fn pure_setting<'a>(
 /// The setting of an update.
 pub(crate) fn update_setting<'a>(
     update: &Update,
-    columns: Range,
-    rows: Range,
+    columns: SignedRange,
+    rows: SignedRange,
     times: u64,
     values: Values<'a>,
-) -> Setting<'a> {
-    Setting {
+) -> RangeSetting<'a> {
+    RangeSetting {
         first_argument: columns,
         second_argument: rows,
         first_reduction: reduction_range(&update.first),
@@ -167,9 +167,9 @@ pub(crate) fn update_setting<'a>(
 }
 
 /// What a reduction variable ranges over.
-pub(crate) fn reduction_range(reduction: &Reduction) -> Range {
+pub(crate) fn reduction_range(reduction: &Reduction) -> SignedRange {
     let low = signed(reduction.minimum);
-    Range::or_all(
+    SignedRange::or_all(
         low,
         low.saturating_add(i64::from(reduction.extent))
             .saturating_sub(1),

@@ -5,7 +5,7 @@ ghost use Rattle.std.specs.Option.{option_copied};
 ghost use Rattle.halide_pipeline.specs.Pixel as spec;
 ghost use Rattle.halide_pipeline.specs.Words as word;
 ghost use Rattle.picture.specs.inner.Evaluation.{earlier_of, reads_in, AreTables, IsTable};
-ghost use Rattle.picture.specs.declared.scenes.State.TheVariants as states;
+ghost use Rattle.picture.specs.declared.scenes.FuncState.TheVariants as states;
 ghost use Rattle.halide_pipeline.specs.declared.expressions.Source.TheVariants as sources;
 ghost use Rattle.picture_rows.specs.Rows.{HasLength, IsRow, IsWindow, clamped, value_at};
 
@@ -13,7 +13,7 @@ use crate::lookups::input_pixel;
 use crate::pictures::Picture;
 use crate::plain::read;
 use crate::points::product;
-use crate::scenes::{Scene, State, Table};
+use crate::scenes::{FuncState, Scene, Table};
 use halide_pipeline::{Source, words};
 use picture_rows::windows::stretch;
 use picture_rows::{Clamp, Row, Window};
@@ -107,7 +107,7 @@ fn read_column(
     match window.get(x) {
         Some(pixel) => Ok(pixel),
         None => {
-            let pixel = read(scene, own, State::Earlier, source, x, y)?;
+            let pixel = read(scene, own, FuncState::Earlier, source, x, y)?;
             Ok(pixel)
         }
     }
@@ -250,7 +250,7 @@ fn read_points(
     for at in 0..width {
         let column = x.value_at(at, width);
         let row = y.value_at(at, width);
-        values[at] = read(scene, own, State::Earlier, source, column, row)?;
+        values[at] = read(scene, own, FuncState::Earlier, source, column, row)?;
     }
     Ok(Row::Each(values))
 }
@@ -273,7 +273,7 @@ pub(crate) fn read_row(
 {
     match (x, y) {
         (Row::Same(x), Row::Same(y)) => {
-            let pixel = read(scene, own, State::Earlier, source, x, y)?;
+            let pixel = read(scene, own, FuncState::Earlier, source, x, y)?;
             Ok(Row::Same(pixel))
         }
         (Row::Step(first), Row::Same(y)) => {

@@ -5,7 +5,7 @@ ghost use Rattle.halide_pipeline.specs.Words as word;
 ghost use Rattle.picture.specs.inner.Evaluation.{plane_of, AreTables};
 ghost use Rattle.picture_rows.specs.Rows.{AreValues};
 
-use crate::in_place::{Stretch, pixels_at_once};
+use crate::in_place::{PixelSpan, pixels_at_once};
 use crate::lookups::func_at;
 use crate::plain::pixel;
 use crate::row_reads::{table_at, table_window};
@@ -81,7 +81,7 @@ fn pixel_stretch(
     }
     if width >= FEW
         && let Some(func) = func_at(scene.funcs, place)
-        && let Some(pixels) = pixels_at_once(scene, place, func, Stretch { left, y, width })?
+        && let Some(pixels) = pixels_at_once(scene, place, func, PixelSpan { left, y, width })?
     {
         return Ok(pixels);
     }

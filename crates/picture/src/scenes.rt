@@ -100,7 +100,7 @@ impl Slice {
 
 /// Where an update of the Func at a place has run, all points of it: on slices, each next one of which is one further
 /// in the argument in place, and in boxes, where it has left these pixels.
-pub(crate) struct Known {
+pub(crate) struct UpdatedPixels {
     pub own: usize,
     pub updates: usize,
     pub slices: Vec<Slice>,
@@ -108,9 +108,9 @@ pub(crate) struct Known {
 }
 
 /// Written out, so that a check sees a call wherever one is dropped, and not the drops of its parts.
-impl Drop for Known {
+impl Drop for UpdatedPixels {
     fn drop(self) {
-        let Known {
+        let UpdatedPixels {
             slices,
             boxes,
             own: _,
@@ -129,12 +129,12 @@ pub(crate) struct Scene<'a> {
     pub funcs: &'a [Func],
     pub pictures: &'a [Picture],
     pub tables: &'a [Table],
-    pub known: &'a [Known],
+    pub known: &'a [UpdatedPixels],
     pub memo: &'a Memo,
     pub costs: &'a [Cost],
 }
 
-/// An update of the Func at a place, behind so many others.
+/// An update of the Func at a place, after so many others.
 #[derive(Clone, Copy)]
 pub(crate) struct Pass<'a> {
     pub own: usize,
@@ -152,7 +152,7 @@ pub(crate) struct Progress<'a> {
 
 /// What reads of its own Func find in a definition.
 #[derive(Clone, Copy)]
-pub(crate) enum State<'a> {
+pub(crate) enum FuncState<'a> {
     /// Nothing: there are none.
     Earlier,
     /// The Func after so many whole updates and so many points of the next one.

@@ -14,7 +14,7 @@ use std::alloc::AllocError;
 /// A heading has at most so many bytes.
 const MOST_HEADING: usize = 30;
 
-/// A pixel and what stands behind it have at most so many bytes.
+/// A pixel and what stands after it have at most so many bytes.
 const MOST_PIXEL: usize = 12;
 
 /// Appends bytes, where there is room for them.

@@ -9,10 +9,10 @@ ghost use Rattle.picture.specs.inner.Lines.{IsLine};
 ghost use Rattle.picture.specs.inner.Together.{after_points, side_length, with_stores, IsSide, IsStoreRow};
 ghost use Rattle.picture_rows.specs.Rows.{HasLength};
 
-use crate::boxes::Bounds;
-use crate::in_place::{Stretch, is_first, is_second, stage_pixels};
+use crate::boxes::TableBounds;
+use crate::in_place::{PixelSpan, is_first, is_second, stage_pixels};
 use crate::line_values::{index_row, shared_row};
-use crate::lines::{Along, Line, Own};
+use crate::lines::{Along, Own, PointLine};
 use crate::points::{at_reduction, is_forward, points};
 use crate::scenes::{Pass, Scene, Table};
 use halide_pipeline::{Expr, Update, words};
@@ -56,14 +56,14 @@ pub(crate) fn side_of(update: &Update) -> Option<Along>
 }
 
 /// What the points of a line store; none where they read the own Func outside its box.
-fn store_row(scene: &Scene, pass: Pass, line: Line) -> Result<Option<StoreRow>, AllocError>
+fn store_row(scene: &Scene, pass: Pass, line: PointLine) -> Result<Option<StoreRow>, AllocError>
     requires tables { AreTables scene.now }
     requires line { IsLine line }
     requires narrow { line.width < 2 ^ 32 }
     ensures { IfOk result (λ found. IfSome found (IsStoreRow scene.now pass.entry line.entry)) }
 {
     let Pass { own, update, .. } = pass;
-    let free = Line {
+    let free = PointLine {
         own: Own::Nothing,
         ..line
     };
@@ -123,7 +123,7 @@ fn run_point(
         → IsTable (after_points scene.now pass.entry (number + 1)) table.new) }
 {
     let width = side_length(along, table);
-    let line = Line {
+    let line = PointLine {
         start: at_reduction(pass.update, number, table.left, table.top),
         along,
         width: width as usize,
@@ -159,12 +159,12 @@ fn run_points(
 }
 
 /// The pixels of a Func in a box, when an update begins to run.
-fn box_before(scene: &Scene, pass: Pass, bounds: Bounds) -> Result<Table, AllocError>
+fn box_before(scene: &Scene, pass: Pass, bounds: TableBounds) -> Result<Table, AllocError>
     requires tables { AreTables scene.now }
     requires pass { IsPass scene.now pass }
     ensures { IfOk result (IsTable (after_points scene.now pass.entry 0)) }
 {
-    let Bounds {
+    let TableBounds {
         left,
         top,
         width,
@@ -172,7 +172,7 @@ fn box_before(scene: &Scene, pass: Pass, bounds: Bounds) -> Result<Table, AllocE
     } = bounds;
     let mut pixels = Vec::new(scene.alloc);
     for row in 0..height {
-        let stretch = Stretch {
+        let stretch = PixelSpan {
             left,
             y: words::add(top, row),
             width: width as usize,
@@ -207,7 +207,7 @@ pub(crate) fn run_box(
     scene: &Scene,
     pass: Pass,
     along: Along,
-    bounds: Bounds,
+    bounds: TableBounds,
 ) -> Result<Table, AllocError>
     requires tables { AreTables scene.now }
     requires pass { IsPass scene.now pass }

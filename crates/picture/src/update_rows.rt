@@ -10,7 +10,7 @@ ghost use Rattle.picture.specs.inner.UpdateRows.{AreIndices, IsRight, IsUpdateRo
 ghost use Rattle.picture_rows.specs.Rows.{HasLength, value_at};
 
 use crate::line_values::{index_row, shared_row};
-use crate::lines::{Along, Line, Own, is_own};
+use crate::lines::{Along, Own, PointLine, is_own};
 use crate::scenes::Scene;
 use halide_pipeline::{Environment, Expr, Operation, Update};
 use picture_rows::Row;
@@ -106,7 +106,7 @@ fn reduced_row(
     ensures { IfOk result (λ found. IfSome found (IsShared (reduction_line width start.now)
         (λ plane at. spec.value (reads_with scene.now own plane) (row_point start.now at) expr.now))) }
 {
-    let line = Line {
+    let line = PointLine {
         start: *start,
         along: Along::Reduction,
         width,
@@ -303,7 +303,7 @@ pub(crate) fn update_row(
     let Some(left_x) = reduced_row(scene, own, start, width, &update.left_x)? else {
         return Ok(None);
     };
-    let line = Line {
+    let line = PointLine {
         start: *start,
         along: Along::Reduction,
         width,

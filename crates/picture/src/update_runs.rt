@@ -11,14 +11,14 @@ ghost use Rattle.picture.specs.inner.UpdateRows.{Puts};
 
 use crate::plain::{begun, forward_pixel, index_value, value};
 use crate::points::{at_reduction, product};
-use crate::scenes::{Pass, Progress, Scene, Slice, State};
+use crate::scenes::{FuncState, Pass, Progress, Scene, Slice};
 use crate::update_rows::{Right, UpdateRow, update_row};
 use halide_pipeline::{Environment, Update};
 use std::alloc::AllocError;
 
 /// What a point of an update stores, and where.
 #[derive(Clone, Copy)]
-pub(crate) struct Store {
+pub(crate) struct UpdateStore {
     x: u32,
     y: u32,
     value: u32,
@@ -65,7 +65,7 @@ fn row_store(
     row: &UpdateRow,
     at: usize,
     progress: Progress,
-) -> Result<Store, AllocError>
+) -> Result<UpdateStore, AllocError>
     requires tables { AreTables scene.now }
     requires slice { IsForward scene.now pass.own pass.updates progress.points progress.slice.now }
     requires row { IsUpdateRow scene.now pass.own pass.update.now.first.extent start.now pass.update.now row.now }
@@ -77,7 +77,7 @@ fn row_store(
 {
     let width = pass.update.first.extent as usize;
     let value = right_value(scene, pass, progress, &row.right, at)?;
-    Ok(Store {
+    Ok(UpdateStore {
         x: row.left_x.value_at(at, width),
         y: row.left_y.value_at(at, width),
         value,
@@ -85,7 +85,7 @@ fn row_store(
 }
 
 /// What a point stores.
-fn point_store(scene: &Scene, pass: Pass, progress: Progress) -> Result<Store, AllocError>
+fn point_store(scene: &Scene, pass: Pass, progress: Progress) -> Result<UpdateStore, AllocError>
     requires tables { AreTables scene.now }
     requires pass { IsPass scene.now pass }
     requires slice { IsForward scene.now pass.own pass.updates progress.points progress.slice.now }
@@ -99,15 +99,15 @@ fn point_store(scene: &Scene, pass: Pass, progress: Progress) -> Result<Store, A
         ..
     } = pass;
     let point = at_reduction(update, progress.points, progress.slice.x, progress.slice.y);
-    let x = value(scene, own, State::Earlier, &point, &update.left_x)?;
+    let x = value(scene, own, FuncState::Earlier, &point, &update.left_x)?;
     let y = index_value(scene, own, &point, &update.left_y)?;
-    let state = State::Forward(updates, progress.points, progress.slice);
+    let state = FuncState::Forward(updates, progress.points, progress.slice);
     let value = value(scene, own, state, &point, &update.right)?;
-    Ok(Store { x, y, value })
+    Ok(UpdateStore { x, y, value })
 }
 
 /// Stores.
-fn put(slice: &mut Slice, store: Store) -> Result<(), AllocError>
+fn put(slice: &mut Slice, store: UpdateStore) -> Result<(), AllocError>
     ensures { OnOk result (Puts slice.old slice.new store) }
 {
     slice.writes.set(store.x, store.y, store.value)?;
@@ -122,7 +122,7 @@ fn store_at(
     row: &Option<UpdateRow>,
     at: usize,
     progress: Progress,
-) -> Result<Store, AllocError>
+) -> Result<UpdateStore, AllocError>
     requires tables { AreTables scene.now }
     requires pass { IsPass scene.now pass }
     requires slice { IsForward scene.now pass.own pass.updates progress.points progress.slice.now }

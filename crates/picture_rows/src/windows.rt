@@ -74,7 +74,7 @@ impl<'a> Window<'a> {
         self.part(column, count)
     }
 
-    /// How far behind the first one the furthest of these columns is, as words go; 0 of none.
+    /// How far after the first one the furthest of these columns is, as words go; 0 of none.
     fn reach(&self, columns: &[u32]) -> u32
         ensures { (at : ℕ) → at < length columns.now → (slice_index columns.now at < 2 ^ 32)
             × (word.subtract (slice_index columns.now at) self.now.first ≤ result) }

@@ -14,7 +14,7 @@ use Rattle.halide_pipeline.specs.Pipelines.{is_named}
 use Rattle.schedule_lines.specs.declared.stages.Loop.{Loop}
 use Rattle.schedule_lines.specs.declared.stages.LoopId.TheVariants as ids
 use Rattle.schedule_lines.specs.Making.{total, has_name, Differ}
-use Rattle.schedule_lines.proofs.Names.{same_bytes, turned, total-append}
+use Rattle.schedule_lines.proofs.Names.{same_bytes, swapped, total-append}
 use Rattle.schedule.specs.Plans.{pure_loops, reduction_loops, with_loop, with_second, with_reduction, with_first_in_place, update_loops}
 
 not_true : (test : Bool) → not test ≡ true → test ≡ false
@@ -61,9 +61,9 @@ second_differs : (second : Option (List ℕ)) (first : List ℕ) → is_named se
     → Differ (with_second (with_loop [] first variables.FirstArgument) second variables.SecondArgument)
 second_differs None first apart = one_alone (over first variables.FirstArgument)
 second_differs (Some name) first apart =
-    let turned_apart : bytes_eq first name ≡ false = turned first name ∙ apart in
+    let swapped_apart : bytes_eq first name ≡ false = swapped first name ∙ apart in
     more (with_loop [] first variables.FirstArgument) (over name variables.SecondArgument)
-    (absent_one (over first variables.FirstArgument) name turned_apart) (one_alone (over first variables.FirstArgument))
+    (absent_one (over first variables.FirstArgument) name swapped_apart) (one_alone (over first variables.FirstArgument))
 
 pub pure_differs : (func : Func) → are_arguments func.first_argument func.second_argument ≡ true → Differ (pure_loops func)
 pure_differs func names =
@@ -122,7 +122,7 @@ second_apart : (second : Option (List ℕ)) (name own : List ℕ) → is_named s
 second_apart None name own apart is = cc
 second_apart (Some other) name own apart is =
     let same : other ≡ name = cc in
-    turned own name ∙ subst (λ (o : List ℕ). bytes_eq o own ≡ false) same apart
+    swapped own name ∙ subst (λ (o : List ℕ). bytes_eq o own ≡ false) same apart
 
 -- a reduction variable's name is none of the arguments'
 abbrev IsNoArgument : Func → List ℕ → Type 0
@@ -131,7 +131,7 @@ IsNoArgument func own = (bytes_eq own func.first_argument ≡ false) × ((name :
 no_argument : (func : Func) (own : List ℕ) → is_argument_name func.first_argument func.second_argument own ≡ false → IsNoArgument func own
 no_argument func own e =
     let parts = or_parts (bytes_eq func.first_argument own) (is_named func.second_argument own) e in
-    (turned own func.first_argument ∙ parts.0, λ name is. second_apart func.second_argument name own parts.1 is)
+    (swapped own func.first_argument ∙ parts.0, λ name is. second_apart func.second_argument name own parts.1 is)
 
 outer_apart : (second : Option Reduction) (func : Func) (inner : List ℕ) (outer : Reduction)
     → is_second_reduction func.first_argument func.second_argument inner second ≡ true → second ≡ Some outer
@@ -142,7 +142,7 @@ outer_apart (Some other) func inner outer e is =
     let parts = and_parts (is_name other.name) (not (bytes_eq other.name inner || is_argument_name func.first_argument func.second_argument other.name)) e in
     let tests = or_parts (bytes_eq other.name inner) (is_argument_name func.first_argument func.second_argument other.name) (not_true _ parts.1) in
     subst (λ (o : Reduction). (bytes_eq inner o.name ≡ false) × IsNoArgument func o.name) same (
-      turned inner other.name
+      swapped inner other.name
           ∙ tests.0,
       no_argument func other.name tests.1,
     )

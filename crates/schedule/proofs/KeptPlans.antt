@@ -15,8 +15,8 @@ use Rattle.schedule_lines.specs.declared.faults.ScheduleFault.TheVariants as fau
 use Rattle.schedule_lines.specs.declared.lines.Computed.{Computed}
 use Rattle.schedule_lines.specs.declared.lines.Directive.{Directive}
 use Rattle.schedule_lines.specs.declared.lines.Directive.TheVariants as directives
-use Rattle.schedule_lines.specs.declared.lines.Line.{Line}
-use Rattle.schedule_lines.specs.declared.lines.Line.TheVariants as lines
+use Rattle.schedule_lines.specs.declared.lines.ScheduleLine.{ScheduleLine}
+use Rattle.schedule_lines.specs.declared.lines.ScheduleLine.TheVariants as lines
 use Rattle.schedule_lines.specs.declared.lines.LoopDirective.{LoopDirective}
 use Rattle.schedule_lines.specs.declared.stages.Loop.{Loop}
 use Rattle.schedule_lines.specs.declared.stages.LoopId.TheVariants as ids
@@ -28,9 +28,9 @@ use Rattle.schedule_lines.proofs.Names.{total-append}
 use Rattle.schedule_lines.proofs.Steps.{directed_keeps}
 use Rattle.schedule.specs.declared.plans.ComputeLine.{ComputeLine}
 use Rattle.schedule.specs.declared.plans.FuncPlan.{FuncPlan}
-use Rattle.schedule.specs.declared.readers.Reader.{Reader}
-use Rattle.schedule.specs.declared.readers.Target.{Target}
-use Rattle.schedule.specs.declared.readers.Target.TheVariants as targets
+use Rattle.schedule.specs.declared.readers.ScheduleReader.{ScheduleReader}
+use Rattle.schedule.specs.declared.readers.LineSubject.{LineSubject}
+use Rattle.schedule.specs.declared.readers.LineSubject.TheVariants as targets
 use Rattle.schedule.specs.Accepted.{Pairwise, IsUpdateStage, IsPlan}
 use Rattle.schedule.specs.Plans.{plan_of, pure_loops, reduction_loops, with_second, with_first_in_place, update_loops, update_stage, stage, with_stage}
 use Rattle.schedule.specs.Plans.{with_compute}
@@ -151,9 +151,9 @@ plan_begun func arguments reductions = record {
       (reductions at update found)));
 }
 
--- ---- a plan behind a line
+-- ---- a plan after a line
 
-abbrev ArePlans : Pipeline → Reader → Type 0
+abbrev ArePlans : Pipeline → ScheduleReader → Type 0
 ArePlans pipeline reader = Pairwise IsPlan pipeline.funcs reader.plans
 
 compute_kept : (func : Func) (plan : FuncPlan) (compute : ComputeLine) → IsPlan func plan → IsPlan func (with_compute plan compute)
@@ -179,10 +179,10 @@ stage_kept (Some at) func plan line d own new found e is = record {
 
 -- ---- lines
 
-abbrev KeepsPlans : Pipeline → Reader → Result Reader ScheduleFault → Type 0
-KeepsPlans pipeline reader given = (next : Reader) → given ≡ Ok next → ArePlans pipeline reader → ArePlans pipeline next
+abbrev KeepsPlans : Pipeline → ScheduleReader → Result ScheduleReader ScheduleFault → Type 0
+KeepsPlans pipeline reader given = (next : ScheduleReader) → given ≡ Ok next → ArePlans pipeline reader → ArePlans pipeline next
 
-computed_by : (faulty : Option ScheduleFault) (pipeline : Pipeline) (reader : Reader) (func : ℕ) (computed : Computed) (plan : FuncPlan)
+computed_by : (faulty : Option ScheduleFault) (pipeline : Pipeline) (reader : ScheduleReader) (func : ℕ) (computed : Computed) (plan : FuncPlan)
     → slice_get reader.plans func ≡ Some plan
     → KeepsPlans pipeline reader (computed_as reader func computed plan faulty)
 computed_by (Some wrong) pipeline reader func computed plan found next e are = cc
@@ -193,13 +193,13 @@ computed_by None pipeline reader func computed plan found next e are =
     let next_is : record { lines = reader.lines; plans = slice_set reader.plans func (with_compute plan line) } ≡ next = cc in
     subst (ArePlans pipeline) next_is kept
 
-computed_found : (found : Option FuncPlan) (pipeline : Pipeline) (reader : Reader) (func : ℕ) (computed : Computed) → slice_get reader.plans func ≡ found
+computed_found : (found : Option FuncPlan) (pipeline : Pipeline) (reader : ScheduleReader) (func : ℕ) (computed : Computed) → slice_get reader.plans func ≡ found
     → KeepsPlans pipeline reader (computed_of pipeline reader func computed found)
 computed_found None pipeline reader func computed found next e are = cc
 computed_found (Some plan) pipeline reader func computed found next e are = computed_by (compute_fault pipeline func plan) pipeline reader func computed plan
     found next e are
 
-directed_by : (given : Result Stage ScheduleFault) (own : Stage) (pipeline : Pipeline) (reader : Reader) (name : StageName) (d : LoopDirective)
+directed_by : (given : Result Stage ScheduleFault) (own : Stage) (pipeline : Pipeline) (reader : ScheduleReader) (name : StageName) (d : LoopDirective)
     (plan : FuncPlan) → slice_get reader.plans name.func ≡ Some plan
     → stage plan name.update ≡ Some own → directed (is_some name.update) own reader.lines d ≡ given
     → KeepsPlans pipeline reader (given >>= λ new. Ok (record {
@@ -214,7 +214,7 @@ directed_by (Ok new) own pipeline reader name d plan found at is next e are =
     let next_is : record { lines = reader.lines; plans = slice_set reader.plans name.func (with_stage plan name.update new) } ≡ next = cc in
     subst (ArePlans pipeline) next_is kept
 
-directed_stage : (at : Option Stage) (pipeline : Pipeline) (reader : Reader) (name : StageName) (d : LoopDirective) (plan : FuncPlan)
+directed_stage : (at : Option Stage) (pipeline : Pipeline) (reader : ScheduleReader) (name : StageName) (d : LoopDirective) (plan : FuncPlan)
     → slice_get reader.plans name.func ≡ Some plan → stage plan name.update ≡ at
     → KeepsPlans pipeline reader (new_stage_of name.update reader.lines d at >>= λ new. Ok (record {
       lines = reader.lines;
@@ -225,13 +225,13 @@ directed_stage None pipeline reader name d plan found at next e are = cc
 directed_stage (Some own) pipeline reader name d plan found at next e are =
     directed_by (directed (is_some name.update) own reader.lines d) own pipeline reader name d plan found at refl next e are
 
-directed_found : (found : Option FuncPlan) (pipeline : Pipeline) (reader : Reader) (name : StageName) (d : LoopDirective)
+directed_found : (found : Option FuncPlan) (pipeline : Pipeline) (reader : ScheduleReader) (name : StageName) (d : LoopDirective)
     → slice_get reader.plans name.func ≡ found
     → KeepsPlans pipeline reader (directed_of reader name d found)
 directed_found None pipeline reader name d found next e are = cc
 directed_found (Some plan) pipeline reader name d found next e are = directed_stage (stage plan name.update) pipeline reader name d plan found refl next e are
 
-directive_keeps : (to : Option Target) (pipeline : Pipeline) (reader : Reader) (d : Directive)
+directive_keeps : (to : Option LineSubject) (pipeline : Pipeline) (reader : ScheduleReader) (d : Directive)
     → KeepsPlans pipeline reader (taken_directive pipeline reader to d)
 directive_keeps None pipeline reader d next e are = cc
 directive_keeps (Some targets.Input) pipeline reader d next e are = cc
@@ -240,17 +240,17 @@ directive_keeps (Some (targets.Stage name)) pipeline reader (directives.OfPlace 
 directive_keeps (Some (targets.Stage name)) pipeline reader (directives.OfLoops d) next e are = directed_found (slice_get reader.plans name.func) pipeline
     reader name d refl next e are
 
-said_keeps : (said : Result Line ScheduleFault) (pipeline : Pipeline) (reader : Reader)
+said_keeps : (said : Result ScheduleLine ScheduleFault) (pipeline : Pipeline) (reader : ScheduleReader)
     → KeepsPlans pipeline reader (said >>= λ l. settled pipeline (record { lines = reader.lines + 1; plans = reader.plans }) l)
 said_keeps (Err wrong) pipeline reader next e are = cc
 said_keeps (Ok lines.Blank) pipeline reader next e are =
     let next_is : record { lines = reader.lines + 1; plans = reader.plans } ≡ next = cc in
     subst (ArePlans pipeline) next_is are
 said_keeps (Ok (lines.Directive subject d)) pipeline reader next e are =
-    let behind : Reader = record { lines = reader.lines + 1; plans = reader.plans } in
+    let behind : ScheduleReader = record { lines = reader.lines + 1; plans = reader.plans } in
     directive_keeps (target pipeline reader.plans subject) pipeline behind d next e are
 
-line_by : (past : Bool) (pipeline : Pipeline) (reader : Reader) (line : List ℕ)
+line_by : (past : Bool) (pipeline : Pipeline) (reader : ScheduleReader) (line : List ℕ)
     → KeepsPlans pipeline reader (cond past (Err fault.Syntax) (line_of_bytes line >>= λ said. settled pipeline (record {
       lines = reader.lines + 1;
       plans =
@@ -259,18 +259,18 @@ line_by : (past : Bool) (pipeline : Pipeline) (reader : Reader) (line : List ℕ
 line_by true pipeline reader line next e are = cc
 line_by false pipeline reader line next e are = said_keeps (line_of_bytes line) pipeline reader next e are
 
-line_keeps : (pipeline : Pipeline) (reader : Reader) (line : List ℕ) → KeepsPlans pipeline reader (taken pipeline reader line)
+line_keeps : (pipeline : Pipeline) (reader : ScheduleReader) (line : List ℕ) → KeepsPlans pipeline reader (taken pipeline reader line)
 unfolding taken
 line_keeps pipeline reader line next e are = line_by (nat_le 256 reader.lines) pipeline reader line next e are
 
-lines_by : (given : Result Reader ScheduleFault) (pipeline : Pipeline) (number : ℕ) (reader : Reader) (later : List (List ℕ)) (last : Reader)
+lines_by : (given : Result ScheduleReader ScheduleFault) (pipeline : Pipeline) (number : ℕ) (reader : ScheduleReader) (later : List (List ℕ)) (last : ScheduleReader)
     → KeepsPlans pipeline reader given
-    → ((next : Reader) → taken_from (taken pipeline) (number + 1) next later ≡ Ok last → ArePlans pipeline next → ArePlans pipeline last)
+    → ((next : ScheduleReader) → taken_from (taken pipeline) (number + 1) next later ≡ Ok last → ArePlans pipeline next → ArePlans pipeline last)
     → located number given (λ next. taken_from (taken pipeline) (number + 1) next later) ≡ Ok last → ArePlans pipeline reader → ArePlans pipeline last
 lines_by (Err wrong) pipeline number reader later last keeps goes_on e are = cc
 lines_by (Ok next) pipeline number reader later last keeps goes_on e are = goes_on next e (keeps next refl are)
 
-pub lines_keep : (pipeline : Pipeline) (number : ℕ) (reader : Reader) (lines : List (List ℕ)) (last : Reader) → taken_from (taken pipeline) number reader lines
+pub lines_keep : (pipeline : Pipeline) (number : ℕ) (reader : ScheduleReader) (lines : List (List ℕ)) (last : ScheduleReader) → taken_from (taken pipeline) number reader lines
     ≡ Ok last
     → ArePlans pipeline reader → ArePlans pipeline last
 unfolding taken_from

@@ -9,13 +9,13 @@ use Rattle.schedule_lines.specs.declared.lines.Computed.{Computed}
 use Rattle.schedule_lines.specs.declared.lines.Computed.TheVariants as computed
 use Rattle.schedule.specs.declared.plans.ComputeLine.{ComputeLine}
 use Rattle.schedule.specs.declared.plans.FuncPlan.{FuncPlan}
-use Rattle.schedule.specs.declared.standings.LoopPlace.{LoopPlace}
-use Rattle.schedule.specs.declared.standings.Place.{Place}
-use Rattle.schedule.specs.declared.standings.Place.TheVariants as places
-use Rattle.schedule.specs.declared.standings.Standing.{Standing}
+use Rattle.schedule.specs.declared.placements.LoopPlace.{LoopPlace}
+use Rattle.schedule.specs.declared.placements.ComputeLevel.{ComputeLevel}
+use Rattle.schedule.specs.declared.placements.ComputeLevel.TheVariants as places
+use Rattle.schedule.specs.declared.placements.FuncPlacement.{FuncPlacement}
 use Rattle.schedule.specs.Accepted.{Numbered, IsConsumer}
-use Rattle.schedule.specs.Standing.{place_calls, is_read, is_called, is_root_computed, is_root_line, is_root, is_within, is_away, is_outside, outside, consumer}
-use Rattle.schedule.specs.Standing.{place_at, place_computed, place_of, place, standing, standings_from}
+use Rattle.schedule.specs.Placements.{place_calls, is_read, is_called, is_root_computed, is_root_line, is_root, is_within, is_away, is_outside, outside, consumer}
+use Rattle.schedule.specs.Placements.{place_at, place_computed, place_of, place, standing, standings_from}
 use Rattle.schedule.specs.Uses.{IsReached, StandsWithin, Consumer, Computed as ComputedThere, Inlined, HasUsesWithin, HasConsumerAtRoot}
 
 -- ---- small facts
@@ -43,12 +43,12 @@ numbered_at P at (first ∷ xs) each (suc k) x found =
     let next : at + 1 + k ≡ at + suc k = omega arith in
     subst (λ (n : ℕ). P n x) next (numbered_at P (at + 1) xs each.1 k x found)
 
-module _ (pipeline : Pipeline) (plans : List FuncPlan) (all : List Standing) where
+module _ (pipeline : Pipeline) (plans : List FuncPlan) (all : List FuncPlacement) where
   -- the standings from a place on are these
-  abbrev From : ℕ → List Standing → Type 0
+  abbrev From : ℕ → List FuncPlacement → Type 0
   From at rest = (k : ℕ) → slice_get all (at + k) ≡ slice_get rest k
 
-  from_next : (at : ℕ) (first : Standing) (others : List Standing) → From at (first ∷ others) → From (at + 1) others
+  from_next : (at : ℕ) (first : FuncPlacement) (others : List FuncPlacement) → From at (first ∷ others) → From (at + 1) others
   from_next at first others from k =
       let next : at + 1 + k ≡ at + suc k = omega arith in
       ap (λ (n : ℕ). slice_get all n) next ∙ from (suc k)
@@ -72,22 +72,22 @@ module _ (pipeline : Pipeline) (plans : List FuncPlan) (all : List Standing) whe
       let next : at + 1 + k ≡ at + suc k = omega arith in
       subst (λ (n : ℕ). place_calls pipeline n func ≡ false) next (not_called func (at + 1) k rest parts.1 flag)
 
-  flagged : (consumer : LoopPlace) (at k : ℕ) (rest : List Standing) (own : Standing) → slice_get rest k ≡ Some own
+  flagged : (consumer : LoopPlace) (at k : ℕ) (rest : List FuncPlacement) (own : FuncPlacement) → slice_get rest k ≡ Some own
       → (flag : Bool) × (slice_get (outside pipeline plans consumer at rest) k ≡ Some flag)
   flagged consumer at k [] own found = absurd cc
   flagged consumer at zero (first ∷ others) own found = (is_outside pipeline plans consumer at first (outside pipeline plans consumer (at + 1) others), refl)
   flagged consumer at (suc k) (first ∷ others) own found = flagged consumer (at + 1) k others own found
 
   -- what a list of flags says of its Funcs
-  abbrev Flags : LoopPlace → ℕ → List Standing → Type 0
-  Flags consumer at rest = (k : ℕ) (own : Standing) → slice_get rest k ≡ Some own → own.is_reached ≡ true
+  abbrev Flags : LoopPlace → ℕ → List FuncPlacement → Type 0
+  Flags consumer at rest = (k : ℕ) (own : FuncPlacement) → slice_get rest k ≡ Some own → own.is_reached ≡ true
       → slice_get (outside pipeline plans consumer at rest) k ≡ Some false → Within consumer (at + k)
 
   -- what calls a Func stands within
   abbrev Callers : LoopPlace → ℕ → Type 0
-  Callers consumer at = (reader : ℕ) (its : Standing) → at < reader → IsReached all reader its → place_calls pipeline reader at ≡ true → Within consumer reader
+  Callers consumer at = (reader : ℕ) (its : FuncPlacement) → at < reader → IsReached all reader its → place_calls pipeline reader at ≡ true → Within consumer reader
 
-  by_flag : (flag : Bool) (consumer : LoopPlace) (at k reader : ℕ) (rest : List Standing) (its : Standing) → at + 1 + k ≡ reader → slice_get rest k ≡ Some its
+  by_flag : (flag : Bool) (consumer : LoopPlace) (at k reader : ℕ) (rest : List FuncPlacement) (its : FuncPlacement) → at + 1 + k ≡ reader → slice_get rest k ≡ Some its
       → IsReached all reader its
       → slice_get (outside pipeline plans consumer (at + 1) rest) k ≡ Some flag → is_called pipeline at (at + 1) (outside pipeline plans consumer (at + 1) rest)
       ≡ false
@@ -99,7 +99,7 @@ module _ (pipeline : Pipeline) (plans : List FuncPlan) (all : List Standing) whe
   by_flag false consumer at k reader rest its same found reached flag e calls each = subst (λ (n : ℕ). Within consumer n) same (each k its found reached.reached
       flag)
 
-  called_by : (consumer : LoopPlace) (at : ℕ) (rest : List Standing) → From (at + 1) rest → Flags consumer (at + 1) rest
+  called_by : (consumer : LoopPlace) (at : ℕ) (rest : List FuncPlacement) → From (at + 1) rest → Flags consumer (at + 1) rest
       → is_called pipeline at (at + 1) (outside pipeline plans consumer (at + 1) rest) ≡ false → Callers consumer at
   called_by consumer at rest from each e reader its later reached calls =
       let same : at + 1 + (reader - (at + 1)) ≡ reader = omega arith in
@@ -108,7 +108,7 @@ module _ (pipeline : Pipeline) (plans : List FuncPlan) (all : List Standing) whe
       let flag = flagged consumer (at + 1) (reader - (at + 1)) rest its found in
       by_flag flag.0 consumer at (reader - (at + 1)) reader rest its same found reached flag.1 e calls each
 
-  here_within : (is_consumer : Bool) (where_it_is : Place) (consumer : LoopPlace) (at : ℕ) (own : Standing) (flags : List Bool) → IsReached all at own
+  here_within : (is_consumer : Bool) (where_it_is : ComputeLevel) (consumer : LoopPlace) (at : ℕ) (own : FuncPlacement) (flags : List Bool) → IsReached all at own
       → (at == consumer.func) ≡ is_consumer → own.place ≡ where_it_is
       → (is_called pipeline at (at + 1) flags ≡ false → Callers consumer at)
       → (not is_consumer && is_away pipeline plans consumer at where_it_is flags) ≡ false → Within consumer at
@@ -121,35 +121,35 @@ module _ (pipeline : Pipeline) (plans : List FuncPlan) (all : List Standing) whe
   here_within false places.Root consumer at own flags reached is_consumer place_is callers e = absurd cc
   here_within false places.Nowhere consumer at own flags reached is_consumer place_is callers e = absurd cc
 
-  within : (consumer : LoopPlace) (at : ℕ) (rest : List Standing) → From at rest → Flags consumer at rest
+  within : (consumer : LoopPlace) (at : ℕ) (rest : List FuncPlacement) → From at rest → Flags consumer at rest
   within consumer at [] from k own found reached flag = absurd cc
   within consumer at (first ∷ others) from zero own found reached flag =
       let flags = outside pipeline plans consumer (at + 1) others in
       let first_is : first ≡ own = cc in
       let here : at + 0 ≡ at = omega arith in
       let there : IsReached all at own = record { standing = ap (λ (n : ℕ). slice_get all n) (sym here) ∙ from 0 ∙ found; reached = reached } in
-      let raised : first.is_reached ≡ true = ap (λ (s : Standing). s.is_reached) first_is ∙ reached in
+      let raised : first.is_reached ≡ true = ap (λ (s : FuncPlacement). s.is_reached) first_is ∙ reached in
       let lowered : is_outside pipeline plans consumer at first flags ≡ false = cc in
       let rest_is : (not (at == consumer.func) && is_away pipeline plans consumer at first.place flags) ≡ false =
       subst (λ (b : Bool). (b && (not (at == consumer.func) && is_away pipeline plans consumer at first.place flags)) ≡ false) raised lowered in
       subst (λ (n : ℕ). Within consumer n) (sym here)
-      (here_within (at == consumer.func) first.place consumer at own flags there refl (ap (λ (s : Standing). s.place) (sym first_is))
+      (here_within (at == consumer.func) first.place consumer at own flags there refl (ap (λ (s : FuncPlacement). s.place) (sym first_is))
       (called_by consumer at others (from_next at first others from) (within consumer (at + 1) others (from_next at first others from))) rest_is)
   within consumer at (first ∷ others) from (suc k) own found reached flag =
       let next : at + 1 + k ≡ at + suc k = omega arith in
       subst (λ (n : ℕ). Within consumer n) next (within consumer (at + 1) others (from_next at first others from) k own found reached flag)
 
-  -- ---- the standing of a Func, over those behind it
+  -- ---- the standing of a Func, over those after it
 
-  record StandingAt (at : ℕ) (own : Standing) : Type 0 where
+  record StandingAt (at : ℕ) (own : FuncPlacement) : Type 0 where
     plan : FuncPlan
-    behind : List Standing
+    behind : List FuncPlacement
     plan_is : slice_get plans at ≡ Some plan
     own_is : own ≡ standing pipeline plans at plan behind
     from : From (at + 1) behind
 
   standing_at : (at : ℕ) (rest : List FuncPlan) → From at (standings_from pipeline plans at rest) → ((k : ℕ) → slice_get plans (at + k) ≡ slice_get rest k)
-      → (k : ℕ) (own : Standing) → slice_get (standings_from pipeline plans at rest) k ≡ Some own → StandingAt (at + k) own
+      → (k : ℕ) (own : FuncPlacement) → slice_get (standings_from pipeline plans at rest) k ≡ Some own → StandingAt (at + k) own
   standing_at at [] from plans_are k own found = absurd cc
   standing_at at (first ∷ others) from plans_are zero own found =
       let behind = standings_from pipeline plans (at + 1) others in
@@ -175,7 +175,7 @@ module _ (pipeline : Pipeline) (plans : List FuncPlan) (all : List Standing) whe
   placed_by true own wanted e = absurd cc
   placed_by false own wanted e = (refl, cc)
 
-  consumer_placed : (found : Option LoopPlace) (at : ℕ) (behind : List Standing) (wanted : LoopPlace) → place_at pipeline plans at behind found
+  consumer_placed : (found : Option LoopPlace) (at : ℕ) (behind : List FuncPlacement) (wanted : LoopPlace) → place_at pipeline plans at behind found
       ≡ places.At wanted
       → is_called pipeline at (at + 1) (outside pipeline plans wanted (at + 1) behind) ≡ false
   consumer_placed None at behind wanted e = absurd cc
@@ -183,21 +183,21 @@ module _ (pipeline : Pipeline) (plans : List FuncPlan) (all : List Standing) whe
       let parts = placed_by (is_called pipeline at (at + 1) (outside pipeline plans own (at + 1) behind)) own wanted e in
       subst (λ (h : LoopPlace). is_called pipeline at (at + 1) (outside pipeline plans h (at + 1) behind) ≡ false) parts.1 parts.0
 
-  said_placed : (said : Computed) (at : ℕ) (behind : List Standing) (wanted : LoopPlace) → place_computed pipeline plans at behind said ≡ places.At wanted
+  said_placed : (said : Computed) (at : ℕ) (behind : List FuncPlacement) (wanted : LoopPlace) → place_computed pipeline plans at behind said ≡ places.At wanted
       → is_called pipeline at (at + 1) (outside pipeline plans wanted (at + 1) behind) ≡ false
   said_placed computed.Root at behind wanted e = absurd cc
   said_placed (computed.At names) at behind wanted e = consumer_placed (consumer pipeline plans at names) at behind wanted e
 
-  line_placed : (is_output : Bool) (compute : Option ComputeLine) (at : ℕ) (behind : List Standing) (wanted : LoopPlace)
+  line_placed : (is_output : Bool) (compute : Option ComputeLine) (at : ℕ) (behind : List FuncPlacement) (wanted : LoopPlace)
       → cond is_output places.Root (place_of pipeline plans at behind compute) ≡ places.At wanted
       → is_called pipeline at (at + 1) (outside pipeline plans wanted (at + 1) behind) ≡ false
   line_placed true compute at behind wanted e = absurd cc
   line_placed false None at behind wanted e = absurd cc
   line_placed false (Some line) at behind wanted e = said_placed line.computed at behind wanted e
 
-  uses_at : (at : ℕ) (own : Standing) → StandingAt at own → HasUsesWithin pipeline plans all at own
+  uses_at : (at : ℕ) (own : FuncPlacement) → StandingAt at own → HasUsesWithin pipeline plans all at own
   uses_at at own is wanted e =
-      let placed : place pipeline plans at is.plan is.behind ≡ places.At wanted = ap (λ (s : Standing). s.place) (sym is.own_is) ∙ e in
+      let placed : place pipeline plans at is.plan is.behind ≡ places.At wanted = ap (λ (s : FuncPlacement). s.place) (sym is.own_is) ∙ e in
       called_by wanted at is.behind is.from (within wanted (at + 1) is.behind is.from)
       (line_placed (at == pipeline.output.func) is.plan.compute at is.behind wanted placed)
 
@@ -206,12 +206,12 @@ module _ (pipeline : Pipeline) (plans : List FuncPlan) (all : List Standing) whe
   -- a later Func that is reached and calls the one at a place
   record IsReadBy (func at : ℕ) : Type 0 where
     reader : ℕ
-    its : Standing
+    its : FuncPlacement
     later : at ≤ reader
     there : IsReached all reader its
     calls : place_calls pipeline reader func ≡ true
 
-  read_further : (reads : Bool) (func at : ℕ) (first : Standing) (others : List Standing) → From at (first ∷ others)
+  read_further : (reads : Bool) (func at : ℕ) (first : FuncPlacement) (others : List FuncPlacement) → From at (first ∷ others)
       → (first.is_reached && place_calls pipeline at func) ≡ reads
       → (reads || is_read pipeline func (at + 1) others) ≡ true → (is_read pipeline func (at + 1) others ≡ true → IsReadBy func (at + 1)) → IsReadBy func at
   read_further true func at first others from is e goes_on =
@@ -228,36 +228,36 @@ module _ (pipeline : Pipeline) (plans : List FuncPlan) (all : List Standing) whe
       let found = goes_on e in
       record { reader = found.reader; its = found.its; later = omega (arith, found.later); there = found.there; calls = found.calls }
 
-  read_by : (func at : ℕ) (rest : List Standing) → From at rest → is_read pipeline func at rest ≡ true → IsReadBy func at
+  read_by : (func at : ℕ) (rest : List FuncPlacement) → From at rest → is_read pipeline func at rest ≡ true → IsReadBy func at
   read_by func at [] from e = absurd cc
   read_by func at (first ∷ others) from e =
       read_further (first.is_reached && place_calls pipeline at func) func at first others from refl e (read_by func (at + 1) others (from_next at first others
       from))
 
   -- a Func that is no output has no other way to be reached
-  read_since : (is_output : Bool) (compute : Option ComputeLine) (at : ℕ) (behind : List Standing) → From (at + 1) behind
+  read_since : (is_output : Bool) (compute : Option ComputeLine) (at : ℕ) (behind : List FuncPlacement) → From (at + 1) behind
       → (cond is_output places.Root (place_of pipeline plans at behind compute) ≡ places.Root → ⊥) → (is_output || is_read pipeline at (at + 1) behind) ≡ true
       → IsReadBy at (at + 1)
   read_since true compute at behind from no_root e = absurd (no_root refl)
   read_since false compute at behind from no_root e = read_by at (at + 1) behind from e
 
-  read_at : (at : ℕ) (own : Standing) → StandingAt at own → own.is_reached ≡ true → (own.place ≡ places.Root → ⊥) → IsReadBy at (at + 1)
+  read_at : (at : ℕ) (own : FuncPlacement) → StandingAt at own → own.is_reached ≡ true → (own.place ≡ places.Root → ⊥) → IsReadBy at (at + 1)
   read_at at own is reached no_root =
-      let raised : (at == pipeline.output.func || is_read pipeline at (at + 1) is.behind) ≡ true = ap (λ (s : Standing). s.is_reached) (sym is.own_is)
+      let raised : (at == pipeline.output.func || is_read pipeline at (at + 1) is.behind) ≡ true = ap (λ (s : FuncPlacement). s.is_reached) (sym is.own_is)
       ∙ reached in
-      let place_is : place pipeline plans at is.plan is.behind ≡ own.place = ap (λ (s : Standing). s.place) (sym is.own_is) in
+      let place_is : place pipeline plans at is.plan is.behind ≡ own.place = ap (λ (s : FuncPlacement). s.place) (sym is.own_is) in
       read_since (at == pipeline.output.func) is.plan.compute at is.behind is.from (λ root. no_root (sym place_is ∙ root)) raised
 
   abbrev Standings : Type 0
-  Standings = (at : ℕ) (own : Standing) → slice_get all at ≡ Some own → StandingAt at own
+  Standings = (at : ℕ) (own : FuncPlacement) → slice_get all at ≡ Some own → StandingAt at own
 
   record IsThere (at : ℕ) : Type 0 where
-    own : Standing
+    own : FuncPlacement
     there : IsReached all at own
 
-  consumer_within : (consumer : LoopPlace) (least reader : ℕ) → Standings → Within consumer reader → least < reader → (its : Standing)
+  consumer_within : (consumer : LoopPlace) (least reader : ℕ) → Standings → Within consumer reader → least < reader → (its : FuncPlacement)
       → IsReached all reader its
-      → ((at : ℕ) (own : Standing) (h : LoopPlace) → least < at → IsReached all at own → own.place ≡ places.At h → IsThere h.func) → IsThere consumer.func
+      → ((at : ℕ) (own : FuncPlacement) (h : LoopPlace) → least < at → IsReached all at own → own.place ≡ places.At h → IsThere h.func) → IsThere consumer.func
   consumer_within consumer least reader known Consumer lt its there later = record { own = its; there = there }
   consumer_within consumer least reader known (ComputedThere _ own at own_there place_is within) lt its there later =
       let same : at.func ≡ consumer.func = eqb-true at.func consumer.func (and_parts (at.func == consumer.func) _ within).0 in
@@ -267,7 +267,7 @@ module _ (pipeline : Pipeline) (plans : List FuncPlan) (all : List Standing) whe
       let behind : reader < read.reader = omega (arith, read.later) in
       consumer_within consumer least read.reader known (callers read.reader read.its behind read.there read.calls) (omega arith) read.its read.there later
 
-  consumer_there : (fuel at : ℕ) → Standings → length all ≤ at + fuel → (own : Standing) (consumer : LoopPlace) → IsReached all at own
+  consumer_there : (fuel at : ℕ) → Standings → length all ≤ at + fuel → (own : FuncPlacement) (consumer : LoopPlace) → IsReached all at own
       → own.place ≡ places.At consumer → IsThere consumer.func
   consumer_there zero at known le own consumer there place_is =
       let past : slice_get all at ≡ None = slice_get_past all at (omega arith) in
@@ -281,17 +281,17 @@ module _ (pipeline : Pipeline) (plans : List FuncPlan) (all : List Standing) whe
       read.there
       (λ later its h lt its_there its_place. consumer_there fuel later known (omega arith) its h its_there its_place)
 
-  root_said : (said : Computed) (at : ℕ) (behind : List Standing) → is_root_computed said ≡ true → place_computed pipeline plans at behind said ≡ places.Root
+  root_said : (said : Computed) (at : ℕ) (behind : List FuncPlacement) → is_root_computed said ≡ true → place_computed pipeline plans at behind said ≡ places.Root
   root_said computed.Root at behind e = refl
   root_said (computed.At names) at behind e = absurd cc
 
-  root_placed : (is_output : Bool) (compute : Option ComputeLine) (at : ℕ) (behind : List Standing) → (is_output || is_root_line compute) ≡ true
+  root_placed : (is_output : Bool) (compute : Option ComputeLine) (at : ℕ) (behind : List FuncPlacement) → (is_output || is_root_line compute) ≡ true
       → cond is_output places.Root (place_of pipeline plans at behind compute) ≡ places.Root
   root_placed true compute at behind e = refl
   root_placed false None at behind e = absurd cc
   root_placed false (Some line) at behind e = root_said line.computed at behind e
 
-  consumer_at_root : Standings → (at : ℕ) (own : Standing) → slice_get all at ≡ Some own → ((consumer : LoopPlace) → own.place ≡ places.At consumer
+  consumer_at_root : Standings → (at : ℕ) (own : FuncPlacement) → slice_get all at ≡ Some own → ((consumer : LoopPlace) → own.place ≡ places.At consumer
       → IsConsumer pipeline plans at consumer) → HasConsumerAtRoot all at own
   consumer_at_root known at own found produced reached consumer place_is =
       let is_consumer = produced consumer place_is in
@@ -303,7 +303,7 @@ module _ (pipeline : Pipeline) (plans : List FuncPlan) (all : List Standing) whe
       record {
         own = there.own;
         there = there.there;
-        root = ap (λ (s : Standing). s.place) is.own_is ∙ root_placed (consumer.func == pipeline.output.func) is.plan.compute consumer.func is.behind root;
+        root = ap (λ (s : FuncPlacement). s.place) is.own_is ∙ root_placed (consumer.func == pipeline.output.func) is.plan.compute consumer.func is.behind root;
       }
 
 -- ---- the whole
@@ -318,8 +318,8 @@ known_all pipeline plans at own found =
 -- ---- what a Func calls that is reached
 
 -- a Func that the output reaches
-pub record IsThereReached (all : List Standing) (at : ℕ) : Type 0 where
-  pub own : Standing
+pub record IsThereReached (all : List FuncPlacement) (at : ℕ) : Type 0 where
+  pub own : FuncPlacement
   pub there : IsReached all at own
 
 pub record IsSome {A : Type 0} (found : Option A) : Type 0 where
@@ -339,21 +339,21 @@ read_next : (a b : Bool) → b ≡ true → (a || b) ≡ true
 read_next true b e = refl
 read_next false b e = e
 
-read_there : (pipeline : Pipeline) (func at : ℕ) (rest : List Standing) (k : ℕ) (its : Standing) → slice_get rest k ≡ Some its → its.is_reached ≡ true
+read_there : (pipeline : Pipeline) (func at : ℕ) (rest : List FuncPlacement) (k : ℕ) (its : FuncPlacement) → slice_get rest k ≡ Some its → its.is_reached ≡ true
     → place_calls pipeline (at + k) func ≡ true
     → is_read pipeline func at rest ≡ true
 read_there pipeline func at [] k its found reached called = absurd cc
 read_there pipeline func at (first ∷ others) zero its found reached called =
     let first_is : first ≡ its = cc in
     let here : at + 0 ≡ at = omega arith in
-    read_first first.is_reached (place_calls pipeline at func) (is_read pipeline func (at + 1) others) (ap (λ (s : Standing). s.is_reached) first_is
+    read_first first.is_reached (place_calls pipeline at func) (is_read pipeline func (at + 1) others) (ap (λ (s : FuncPlacement). s.is_reached) first_is
     ∙ reached) (subst (λ (n : ℕ). place_calls pipeline n func ≡ true) here called)
 read_there pipeline func at (first ∷ others) (suc k) its found reached called =
     let next : at + suc k ≡ at + 1 + k = omega arith in
     read_next (first.is_reached && place_calls pipeline at func) (is_read pipeline func (at + 1) others)
     (read_there pipeline func (at + 1) others k its found reached (subst (λ (n : ℕ). place_calls pipeline n func ≡ true) next called))
 
-pub called_is_reached : (pipeline : Pipeline) (plans : List FuncPlan) (reader : ℕ) (its : Standing)
+pub called_is_reached : (pipeline : Pipeline) (plans : List FuncPlan) (reader : ℕ) (its : FuncPlacement)
     → IsReached (standings_from pipeline plans 0 plans) reader its
     → (func : ℕ) → func < reader → place_calls pipeline reader func ≡ true → IsThereReached (standings_from pipeline plans 0 plans) func
 called_is_reached pipeline plans reader its there func before called =
@@ -369,19 +369,19 @@ called_is_reached pipeline plans reader its there func before called =
       own = some.value;
       there = record {
         standing = some.is;
-        reached = ap (λ (s : Standing). s.is_reached) is.own_is ∙ read_next (func == pipeline.output.func) (is_read pipeline func (func + 1) is.behind) read;
+        reached = ap (λ (s : FuncPlacement). s.is_reached) is.own_is ∙ read_next (func == pipeline.output.func) (is_read pipeline func (func + 1) is.behind) read;
       };
     }
 
 -- the output is reached, and computed at root
-pub output_standing : (pipeline : Pipeline) (plans : List FuncPlan) (own : Standing) → slice_get (standings_from pipeline plans 0 plans) pipeline.output.func
+pub output_standing : (pipeline : Pipeline) (plans : List FuncPlan) (own : FuncPlacement) → slice_get (standings_from pipeline plans 0 plans) pipeline.output.func
     ≡ Some own
     → (own.is_reached ≡ true) × (own.place ≡ places.Root)
 output_standing pipeline plans own found =
     let is = known_all pipeline plans pipeline.output.func own found in
     let same : (pipeline.output.func == pipeline.output.func) ≡ true = eq-eqb pipeline.output.func pipeline.output.func refl in (
-      ap (λ (s : Standing). s.is_reached) is.own_is ∙ rw same refl,
-      ap (λ (s : Standing). s.place) is.own_is ∙ rw same refl,
+      ap (λ (s : FuncPlacement). s.is_reached) is.own_is ∙ rw same refl,
+      ap (λ (s : FuncPlacement). s.place) is.own_is ∙ rw same refl,
     )
 
 -- each Func has a standing
@@ -404,7 +404,7 @@ uses_lie_within pipeline plans =
     (uses_at pipeline plans all k own (known_all pipeline plans k own found)))
 
 pub consumers_at_root : (pipeline : Pipeline) (plans : List FuncPlan)
-    → ((k : ℕ) (own : Standing) → slice_get (standings_from pipeline plans 0 plans) k ≡ Some own → (consumer : LoopPlace) → own.place ≡ places.At consumer
+    → ((k : ℕ) (own : FuncPlacement) → slice_get (standings_from pipeline plans 0 plans) k ≡ Some own → (consumer : LoopPlace) → own.place ≡ places.At consumer
     → IsConsumer pipeline plans k consumer)
     → Numbered (HasConsumerAtRoot (standings_from pipeline plans 0 plans)) 0 (standings_from pipeline plans 0 plans)
 consumers_at_root pipeline plans produced =

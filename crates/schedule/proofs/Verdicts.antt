@@ -20,14 +20,14 @@ use Rattle.schedule.specs.declared.legality.LoopRule.{LoopRule}
 use Rattle.schedule.specs.declared.legality.LoopRule.TheVariants as rules_of
 use Rattle.schedule.specs.declared.plans.ComputeLine.{ComputeLine}
 use Rattle.schedule.specs.declared.plans.FuncPlan.{FuncPlan}
-use Rattle.schedule.specs.declared.standings.LoopPlace.{LoopPlace}
-use Rattle.schedule.specs.declared.standings.Place.TheVariants as places
-use Rattle.schedule.specs.declared.standings.Standing.{Standing}
+use Rattle.schedule.specs.declared.placements.LoopPlace.{LoopPlace}
+use Rattle.schedule.specs.declared.placements.ComputeLevel.TheVariants as places
+use Rattle.schedule.specs.declared.placements.FuncPlacement.{FuncPlacement}
 use Rattle.schedule.specs.Accepted.{Pairwise, Numbered, keeps, Keeps, IsLegal, IsConsumer, IsProduced}
 use Rattle.schedule.specs.Legal.{breaks, earlier, line_of, is_empty, loops_line, stage_line, stages_line, plan_line, is_root as at_root, rule_line, is_nowhere}
 use Rattle.schedule.specs.Legal.{compute_line, nowhere_line, is_inlined, has_lost, or_next, last_verdict, verdict}
-use Rattle.schedule.specs.Standing.{is_root, is_consumer, unvectorized, loop_of, consumer_of, consumer, is_called, outside, place_at, place_computed, place_of}
-use Rattle.schedule.specs.Standing.{place, standings_from}
+use Rattle.schedule.specs.Placements.{is_root, is_consumer, unvectorized, loop_of, consumer_of, consumer, is_called, outside, place_at, place_computed, place_of}
+use Rattle.schedule.specs.Placements.{place, standings_from}
 
 -- ---- lines that are none
 
@@ -74,11 +74,11 @@ stages_keep rule root (first ∷ others) e =
 -- ---- what a Func keeps
 
 -- a Func that is nowhere has a compute line
-abbrev HasLine : FuncPlan → Standing → Type 0
+abbrev HasLine : FuncPlan → FuncPlacement → Type 0
 HasLine plan own = is_nowhere own.place ≡ true → is_some plan.compute ≡ true
 
 -- no rule is broken
-pub record AreKept (plans : List FuncPlan) (found : List Standing) : Type 0 where
+pub record AreKept (plans : List FuncPlan) (found : List FuncPlacement) : Type 0 where
   pub rules : (rule : LoopRule) → rule_line rule found plans ≡ None
   pub places : nowhere_line found plans ≡ None
   pub lost : has_lost found plans ≡ false
@@ -108,7 +108,7 @@ lost_by true true false count r i e = (eqb-true count 0 (not_false (count == 0) 
 lost_by false inlined directed count r i e = cc
 lost_by true false directed count r i e = cc
 
-func_keeps : (plan : FuncPlan) (own : Standing) → HasLine plan own
+func_keeps : (plan : FuncPlan) (own : FuncPlacement) → HasLine plan own
     → ((rule : LoopRule) → cond own.is_reached (plan_line rule (at_root own.place) plan) None ≡ None)
     → cond (own.is_reached && is_nowhere own.place) (compute_line plan.compute) None ≡ None
     → (own.is_reached && is_inlined own.place && (plan.is_directed || not (length plan.updates == 0))) ≡ false
@@ -126,7 +126,7 @@ func_keeps plan own has rules nowhere lost reached =
       no_lines = λ inlined. (lost_by own.is_reached (is_inlined own.place) plan.is_directed (length plan.updates) reached inlined lost).1;
     }
 
-pub funcs_keep : (plans : List FuncPlan) (found : List Standing) → Pairwise HasLine plans found → AreKept plans found → Pairwise IsLegal plans found
+pub funcs_keep : (plans : List FuncPlan) (found : List FuncPlacement) → Pairwise HasLine plans found → AreKept plans found → Pairwise IsLegal plans found
 funcs_keep [] [] has kept = tt
 funcs_keep [] (own ∷ behind) has kept = absurd has
 funcs_keep (plan ∷ plans) [] has kept = absurd has
@@ -144,7 +144,7 @@ not_lost : (lost : Bool) → last_verdict lost ≡ None → lost ≡ false
 not_lost true e = cc
 not_lost false e = refl
 
-each : (plans : List FuncPlan) (found : List Standing) → rule_line rules_of.ParallelOutermost found plans ≡ None
+each : (plans : List FuncPlan) (found : List FuncPlacement) → rule_line rules_of.ParallelOutermost found plans ≡ None
     → rule_line rules_of.ParallelOverArgument found plans ≡ None
     → rule_line rules_of.ParallelUnshifted found plans ≡ None → rule_line rules_of.VectorizedInnermost found plans ≡ None → (rule : LoopRule)
     → rule_line rule found plans ≡ None
@@ -153,7 +153,7 @@ each plans found a b d v rules_of.ParallelOverArgument = b
 each plans found a b d v rules_of.ParallelUnshifted = d
 each plans found a b d v rules_of.VectorizedInnermost = v
 
-pub are_kept : (plans : List FuncPlan) (found : List Standing) → verdict found plans ≡ None → AreKept plans found
+pub are_kept : (plans : List FuncPlan) (found : List FuncPlacement) → verdict found plans ≡ None → AreKept plans found
 unfolding verdict
 are_kept plans found e =
     let last = last_verdict (has_lost found plans) in
@@ -175,7 +175,7 @@ are_kept plans found e =
 -- ---- what becomes of each Func
 
 -- a Func that is nowhere has a compute line
-line_by : (compute : Option ComputeLine) (is_output : Bool) (pipeline : Pipeline) (plans : List FuncPlan) (at : ℕ) (behind : List Standing)
+line_by : (compute : Option ComputeLine) (is_output : Bool) (pipeline : Pipeline) (plans : List FuncPlan) (at : ℕ) (behind : List FuncPlacement)
     → is_nowhere (cond is_output places.Root (place_of pipeline plans at behind compute)) ≡ true → is_some compute ≡ true
 line_by None true pipeline plans at behind e = cc
 line_by None false pipeline plans at behind e = cc
@@ -250,7 +250,7 @@ used_by : (away : Bool) (own wanted : LoopPlace) → cond away places.Nowhere (p
 used_by true own wanted e = cc
 used_by false own wanted e = cc
 
-consumer_by : (found : Option LoopPlace) (pipeline : Pipeline) (plans : List FuncPlan) (at : ℕ) (names : LoopNames) (behind : List Standing)
+consumer_by : (found : Option LoopPlace) (pipeline : Pipeline) (plans : List FuncPlan) (at : ℕ) (names : LoopNames) (behind : List FuncPlacement)
     (wanted : LoopPlace) → consumer pipeline plans at names ≡ found
     → place_at pipeline plans at behind found ≡ places.At wanted → IsConsumer pipeline plans at wanted
 consumer_by None pipeline plans at names behind wanted is e = cc
@@ -258,13 +258,13 @@ consumer_by (Some own) pipeline plans at names behind wanted is e =
     let own_is : own ≡ wanted = used_by (is_called pipeline at (at + 1) (outside pipeline plans own (at + 1) behind)) own wanted e in
     subst (λ (h : LoopPlace). IsConsumer pipeline plans at h) own_is (named_consumer (lookup names.func pipeline.names) pipeline plans at names.inside own is)
 
-computed_consumer : (said : Computed) (pipeline : Pipeline) (plans : List FuncPlan) (at : ℕ) (behind : List Standing) (wanted : LoopPlace)
+computed_consumer : (said : Computed) (pipeline : Pipeline) (plans : List FuncPlan) (at : ℕ) (behind : List FuncPlacement) (wanted : LoopPlace)
     → place_computed pipeline plans at behind said ≡ places.At wanted → IsConsumer pipeline plans at wanted
 computed_consumer computed.Root pipeline plans at behind wanted e = cc
 computed_consumer (computed.At names) pipeline plans at behind wanted e = consumer_by (consumer pipeline plans at names) pipeline plans at names behind wanted
     refl e
 
-consumer_of_line : (is_output : Bool) (compute : Option ComputeLine) (pipeline : Pipeline) (plans : List FuncPlan) (at : ℕ) (behind : List Standing)
+consumer_of_line : (is_output : Bool) (compute : Option ComputeLine) (pipeline : Pipeline) (plans : List FuncPlan) (at : ℕ) (behind : List FuncPlacement)
     (wanted : LoopPlace)
     → cond is_output places.Root (place_of pipeline plans at behind compute) ≡ places.At wanted → IsConsumer pipeline plans at wanted
 consumer_of_line true compute pipeline plans at behind wanted e = cc

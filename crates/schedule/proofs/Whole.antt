@@ -6,17 +6,17 @@ use Rattle.line_text.specs.declared.read_errors.LocatedError.TheVariants as plac
 use Rattle.halide_pipeline.specs.Pipelines.{Pipeline}
 use Rattle.halide_pipeline.specs.WellFormed.{IsWellFormed}
 use Rattle.schedule_lines.specs.declared.faults.ScheduleFault.{ScheduleFault}
-use Rattle.schedule.specs.declared.readers.Reader.{Reader}
+use Rattle.schedule.specs.declared.readers.ScheduleReader.{ScheduleReader}
 use Rattle.schedule.specs.declared.schedules.Schedule.{Schedule}
 use Rattle.schedule.specs.Accepted.{Pairwise, IsProduced, IsPlan, IsAccepted}
 use Rattle.schedule.specs.Legal.{verdict}
 use Rattle.schedule.specs.Reading.{start, taken, finished_as, finished, read}
-use Rattle.schedule.specs.Standing.{standings, standings_from}
+use Rattle.schedule.specs.Placements.{standings, standings_from}
 use Rattle.schedule.proofs.KeptPlans.{lines_keep, plans_begun}
 use Rattle.schedule.proofs.Uses.{numbered_at, consumers_at_root, uses_lie_within}
 use Rattle.schedule.proofs.Verdicts.{are_kept, funcs_keep, have_lines, are_produced}
 
-accepted_by : (wrong : Option (ℕ × ScheduleFault)) (pipeline : Pipeline) (reader : Reader) (schedule : Schedule)
+accepted_by : (wrong : Option (ℕ × ScheduleFault)) (pipeline : Pipeline) (reader : ScheduleReader) (schedule : Schedule)
     → verdict (standings pipeline reader.plans) reader.plans ≡ wrong
     → finished_as reader (standings pipeline reader.plans) wrong ≡ Ok schedule → Pairwise IsPlan pipeline.funcs reader.plans → IsAccepted pipeline schedule
 unfolding standings
@@ -37,7 +37,7 @@ accepted_by None pipeline reader schedule is e plans =
       uses = uses_lie_within pipeline reader.plans;
     })
 
-read_by : (given : Result Reader (ℕ × ScheduleFault)) (pipeline : Pipeline) (text : List ℕ) (schedule : Schedule)
+read_by : (given : Result ScheduleReader (ℕ × ScheduleFault)) (pipeline : Pipeline) (text : List ℕ) (schedule : Schedule)
     → taken_from (taken pipeline) 1 (start pipeline) (lines_of text) ≡ given
     → (given >>= λ reader. finished pipeline reader) ≡ Ok schedule → IsWellFormed pipeline → IsAccepted pipeline schedule
 read_by (Err wrong) pipeline text schedule is e rules = cc
@@ -58,7 +58,7 @@ fails places.Memory pipeline text e = tt
 fails (places.Fault number fault) pipeline text e = rw e refl
 
 -- no line is
-pub ends : (pipeline : Pipeline) (text : List ℕ) (reader : Reader) → taken_from (taken pipeline) 1 (start pipeline) (lines_of text) ≡ Ok reader
+pub ends : (pipeline : Pipeline) (text : List ℕ) (reader : ScheduleReader) → taken_from (taken pipeline) 1 (start pipeline) (lines_of text) ≡ Ok reader
     → read pipeline text ≡ finished pipeline reader
 unfolding read
 ends pipeline text reader e = rw e refl

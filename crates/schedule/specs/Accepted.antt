@@ -13,12 +13,12 @@ use Rattle.schedule_lines.specs.Making.{IsStage}
 use Rattle.schedule.specs.declared.legality.LoopRule.{LoopRule}
 use Rattle.schedule.specs.declared.plans.FuncPlan.{FuncPlan}
 use Rattle.schedule.specs.declared.schedules.Schedule.{Schedule}
-use Rattle.schedule.specs.declared.standings.LoopPlace.{LoopPlace}
-use Rattle.schedule.specs.declared.standings.Place.TheVariants as places
-use Rattle.schedule.specs.declared.standings.Standing.{Standing}
+use Rattle.schedule.specs.declared.placements.LoopPlace.{LoopPlace}
+use Rattle.schedule.specs.declared.placements.ComputeLevel.TheVariants as places
+use Rattle.schedule.specs.declared.placements.FuncPlacement.{FuncPlacement}
 use Rattle.schedule.specs.Legal.{breaks, is_empty, is_root, is_inlined, is_nowhere}
 use Rattle.schedule.specs.Plans.{pure_loops, update_loops}
-use Rattle.schedule.specs.Standing as standing
+use Rattle.schedule.specs.Placements as standing
 use Rattle.schedule.specs.Uses.{HasConsumerAtRoot, HasUsesWithin}
 
 -- Two lists of one length, of which each two in the same place are so.
@@ -57,14 +57,14 @@ Keeps rule at_root stage = keeps rule at_root true stage.loops ≡ true
 
 -- It is computed somewhere; and where that is in the expressions that call it, it has no updates and no line is
 -- about its loops.
-pub record IsComputed (plan : FuncPlan) (own : Standing) : Type 0 where
+pub record IsComputed (plan : FuncPlan) (own : FuncPlacement) : Type 0 where
   pub pure : (rule : LoopRule) → Keeps rule (is_root own.place) plan.pure
   pub updates : (rule : LoopRule) → AllByRecursion (Keeps rule (is_root own.place)) plan.updates
   pub somewhere : is_nowhere own.place ≡ false
   pub no_updates : is_inlined own.place ≡ true → length plan.updates ≡ 0
   pub no_lines : is_inlined own.place ≡ true → plan.is_directed ≡ false
 
-abbrev pub IsLegal : FuncPlan → Standing → Type 0
+abbrev pub IsLegal : FuncPlan → FuncPlacement → Type 0
 IsLegal plan own = own.is_reached ≡ true → IsComputed plan own
 
 -- ---- the loop at which a Func is computed is one of a later Func at root without updates, and not vectorized
@@ -81,7 +81,7 @@ pub record IsConsumer (pipeline : Pipeline) (plans : List FuncPlan) (at : ℕ) (
   pub id_is : loop.id ≡ consumer.inside
   pub unvectorized : is_marked marks.Vectorized loop ≡ false
 
-abbrev pub IsProduced : Pipeline → List FuncPlan → ℕ → Standing → Type 0
+abbrev pub IsProduced : Pipeline → List FuncPlan → ℕ → FuncPlacement → Type 0
 IsProduced pipeline plans at own = (consumer : LoopPlace) → own.place ≡ places.At consumer → IsConsumer pipeline plans at consumer
 
 -- ---- the whole

@@ -1,6 +1,6 @@
 -- What is wrong with the final loops of the Funcs that the output reaches, and with where these are computed.
 --
--- The rules are judged in turn: each is judged of all Funcs before the next one is. The line that is named is the
+-- The rules are judged in order: each is judged of all Funcs before the next one is. The line that is named is the
 -- first of those that mark a loop which breaks the rule, or that compute a Func which does.
 -- This project's own.
 use Rattle.std.specs.Prelude.{ℕ, min, Bool, true, false, not, ◌&&◌, ◌||◌, ◌==◌, if◌then◌else◌, List, [], ◌∷◌, length, Option, Some, None}
@@ -14,9 +14,9 @@ use Rattle.schedule_lines.specs.declared.stages.Loop.{Loop}
 use Rattle.schedule_lines.specs.declared.stages.Mark.TheVariants as marks
 use Rattle.schedule_lines.specs.declared.stages.Marked.{Marked}
 use Rattle.schedule_lines.specs.declared.stages.Stage.{Stage}
-use Rattle.schedule.specs.declared.standings.Place.{Place}
-use Rattle.schedule.specs.declared.standings.Place.TheVariants as places
-use Rattle.schedule.specs.declared.standings.Standing.{Standing}
+use Rattle.schedule.specs.declared.placements.ComputeLevel.{ComputeLevel}
+use Rattle.schedule.specs.declared.placements.ComputeLevel.TheVariants as places
+use Rattle.schedule.specs.declared.placements.FuncPlacement.{FuncPlacement}
 use Rattle.schedule_lines.specs.Directives.{is_marked, is_reduction}
 
 -- ---- the rules of marked loops
@@ -72,12 +72,12 @@ stages_line rule is_root (first ∷ others) = earlier (stage_line rule is_root f
 abbrev pub plan_line : LoopRule → Bool → FuncPlan → Option ℕ
 plan_line rule is_root plan = earlier (stage_line rule is_root plan.pure) (stages_line rule is_root plan.updates)
 
-abbrev pub is_root : Place → Bool
+abbrev pub is_root : ComputeLevel → Bool
 is_root places.Root = true
 is_root _ = false
 
 -- of all Funcs, each with what becomes of it
-abbrev pub rule_line : LoopRule → List Standing → List FuncPlan → Option ℕ
+abbrev pub rule_line : LoopRule → List FuncPlacement → List FuncPlan → Option ℕ
 rule_line rule [] plans = None
 rule_line rule (standing ∷ standings) [] = None
 rule_line rule (standing ∷ standings) (plan ∷ plans) =
@@ -87,7 +87,7 @@ rule_line rule (standing ∷ standings) (plan ∷ plans) =
 
 -- ---- where Funcs are computed
 
-abbrev pub is_nowhere : Place → Bool
+abbrev pub is_nowhere : ComputeLevel → Bool
 is_nowhere places.Nowhere = true
 is_nowhere _ = false
 
@@ -96,7 +96,7 @@ compute_line None = None
 compute_line (Some own) = Some own.line
 
 -- the first line that computes a Func nowhere
-abbrev pub nowhere_line : List Standing → List FuncPlan → Option ℕ
+abbrev pub nowhere_line : List FuncPlacement → List FuncPlan → Option ℕ
 nowhere_line [] plans = None
 nowhere_line (standing ∷ standings) [] = None
 nowhere_line (standing ∷ standings) (plan ∷ plans) =
@@ -104,12 +104,12 @@ nowhere_line (standing ∷ standings) (plan ∷ plans) =
     (if standing.is_reached && is_nowhere standing.place then compute_line plan.compute else None)
     (nowhere_line standings plans)
 
-abbrev pub is_inlined : Place → Bool
+abbrev pub is_inlined : ComputeLevel → Bool
 is_inlined places.Inlined = true
 is_inlined _ = false
 
 -- A Func with updates, or of whose loops a line speaks, is inlined.
-abbrev pub has_lost : List Standing → List FuncPlan → Bool
+abbrev pub has_lost : List FuncPlacement → List FuncPlan → Bool
 has_lost [] plans = false
 has_lost (standing ∷ standings) [] = false
 has_lost (standing ∷ standings) (plan ∷ plans) =
@@ -125,7 +125,7 @@ or_next None wrong next = next
 abbrev pub last_verdict : Bool → Option (ℕ × ScheduleFault)
 last_verdict is_lost = if is_lost then Some (0, fault.Inlined) else None
 
-unfoldable pub verdict : List Standing → List FuncPlan → Option (ℕ × ScheduleFault)
+unfoldable pub verdict : List FuncPlacement → List FuncPlan → Option (ℕ × ScheduleFault)
 verdict standings plans =
     or_next (rule_line rules_of.ParallelOutermost standings plans) fault.ParallelNotOutermost
     (or_next (rule_line rules_of.ParallelOverArgument standings plans) fault.ParallelReduction

@@ -1,6 +1,6 @@
 pub mod Accepted
 pub mod Legal
+pub mod Placements
 pub mod Plans
 pub mod Reading
-pub mod Standing
 pub mod Uses

@@ -1,7 +1,7 @@
 //! Which Funcs a definition calls.
 
 ghost use Rattle.std.specs.Prelude.{◌≡◌};
-ghost use Rattle.schedule.specs.Standing as spec;
+ghost use Rattle.schedule.specs.Placements as spec;
 
 use halide_pipeline::{Expr, Func, Pipeline, Source, Update};
 
@@ -15,7 +15,7 @@ fn is_func(source: Source, func: usize) -> bool
 }
 
 /// Whether an expression calls a Func.
-#[tactic(auto, unfolding(crate::specs::Standing::calls))]
+#[tactic(auto, unfolding(crate::specs::Placements::calls))]
 fn calls(own: &Expr, func: usize) -> bool
     ensures { result ≡ spec.calls func own.now }
 {
@@ -58,7 +58,7 @@ fn updates_call(updates: &[Update], func: usize) -> bool
 }
 
 /// Whether a Func calls another, in its pure definition or in its updates.
-#[tactic(auto, unfolding(crate::specs::Standing::func_calls))]
+#[tactic(auto, unfolding(crate::specs::Placements::func_calls))]
 fn func_calls(own: &Func, func: usize) -> bool
     ensures { result ≡ spec.func_calls func own.now }
 {
@@ -66,7 +66,7 @@ fn func_calls(own: &Func, func: usize) -> bool
 }
 
 /// Whether the Func at a place calls the Func at another.
-#[tactic(auto, unfolding(crate::specs::Standing::place_calls))]
+#[tactic(auto, unfolding(crate::specs::Placements::place_calls))]
 pub fn place_calls(pipeline: &Pipeline, from: usize, func: usize) -> bool
     ensures { result ≡ spec.place_calls pipeline.now from func }
 {

@@ -3,8 +3,8 @@
 ghost use Rattle.std.specs.Prelude.{◌≡◌};
 ghost use Rattle.schedule.specs.Legal as spec;
 
+use crate::placements::{ComputeLevel, FuncPlacement};
 use crate::plans::{ComputeLine, FuncPlan};
-use crate::standings::{Place, Standing};
 use schedule_lines::faults::ScheduleFault;
 use schedule_lines::stages::{Loop, Mark, Marked, Stage, is_marked, is_reduction};
 
@@ -15,7 +15,7 @@ pub enum LoopRule {
     ParallelOutermost,
     /// A parallel loop is not over a reduction variable.
     ParallelOverArgument,
-    /// A parallel loop comes from no split with its last round shifted.
+    /// A parallel loop comes from no split with its last iteration shifted.
     ParallelUnshifted,
     /// A vectorized loop is the innermost of its stage, the inner loop of a split by 4, 8 or 16, and not over a
     /// reduction variable.
@@ -107,26 +107,26 @@ fn plan_line(rule: LoopRule, is_root: bool, plan: &FuncPlan) -> Option<u64>
     earlier(line, stages_line(rule, is_root, plan.updates.as_slice()))
 }
 
-fn is_root(place: Place) -> bool
+fn is_root(place: ComputeLevel) -> bool
     ensures { result ≡ spec.is_root place }
 {
-    matches!(place, Place::Root)
+    matches!(place, ComputeLevel::Root)
 }
 
-fn is_nowhere(place: Place) -> bool
+fn is_nowhere(place: ComputeLevel) -> bool
     ensures { result ≡ spec.is_nowhere place }
 {
-    matches!(place, Place::Nowhere)
+    matches!(place, ComputeLevel::Nowhere)
 }
 
-fn is_inlined(place: Place) -> bool
+fn is_inlined(place: ComputeLevel) -> bool
     ensures { result ≡ spec.is_inlined place }
 {
-    matches!(place, Place::Inlined)
+    matches!(place, ComputeLevel::Inlined)
 }
 
 /// The first line that marks a loop which breaks a rule.
-fn rule_line(rule: LoopRule, standings: &[Standing], plans: &[FuncPlan]) -> Option<u64>
+fn rule_line(rule: LoopRule, standings: &[FuncPlacement], plans: &[FuncPlan]) -> Option<u64>
     ensures { result ≡ spec.rule_line rule standings.now plans.now }
 {
     match standings {
@@ -155,7 +155,7 @@ fn compute_line(compute: &Option<ComputeLine>) -> Option<u64>
 }
 
 /// The first line that computes a Func nowhere.
-fn nowhere_line(standings: &[Standing], plans: &[FuncPlan]) -> Option<u64>
+fn nowhere_line(standings: &[FuncPlacement], plans: &[FuncPlan]) -> Option<u64>
     ensures { result ≡ spec.nowhere_line standings.now plans.now }
 {
     match standings {
@@ -175,7 +175,7 @@ fn nowhere_line(standings: &[Standing], plans: &[FuncPlan]) -> Option<u64>
 }
 
 /// Whether a Func with updates, or of whose loops a line speaks, is inlined.
-fn has_lost(standings: &[Standing], plans: &[FuncPlan]) -> bool
+fn has_lost(standings: &[FuncPlacement], plans: &[FuncPlan]) -> bool
     ensures { result ≡ spec.has_lost standings.now plans.now }
 {
     match standings {
@@ -194,7 +194,7 @@ fn has_lost(standings: &[Standing], plans: &[FuncPlan]) -> bool
 
 /// The first rule that is broken, and its line; 0 where no line breaks it.
 #[tactic(auto, unfolding(crate::specs::Legal::verdict))]
-pub fn verdict(standings: &[Standing], plans: &[FuncPlan]) -> Option<(u64, ScheduleFault)>
+pub fn verdict(standings: &[FuncPlacement], plans: &[FuncPlan]) -> Option<(u64, ScheduleFault)>
     ensures { result ≡ spec.verdict standings.now plans.now }
 {
     if let Some(line) = rule_line(LoopRule::ParallelOutermost, standings, plans) {

@@ -3,19 +3,19 @@
 //!
 //! - [`plans`]: what is said of each Func (`specs/Plans.antt`).
 //! - [`readers`]: one line after the other (`specs/Reading.antt`).
-//! - [`calls`], [`standings`]: which Funcs the output reaches, and where each is computed
-//!   (`specs/Standing.antt`); where the reads of a Func at a loop lie (`specs/Uses.antt`).
+//! - [`calls`], [`placements`]: which Funcs the output reaches, and where each is computed
+//!   (`specs/Placements.antt`); where the reads of a Func at a loop lie (`specs/Uses.antt`).
 //! - [`legality`]: what is wrong with the final loops (`specs/Legal.antt`).
 //! - [`schedules`]: the whole (`specs/Reading.antt`).
 #![tactic(auto)]
 
 mod calls;
 pub mod legality;
+pub mod placements;
 pub mod plans;
 mod readers;
 pub mod schedules;
-pub mod standings;
 
+pub use crate::placements::{ComputeLevel, FuncPlacement, LoopPlace};
 pub use crate::plans::{FuncPlan, Plans};
 pub use crate::schedules::{Schedule, read};
-pub use crate::standings::{LoopPlace, Place, Standing};

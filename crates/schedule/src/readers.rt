@@ -12,7 +12,7 @@ use line_text::ReadError;
 use line_text::spans::is_digit;
 use schedule_lines::directives::directed;
 use schedule_lines::faults::ScheduleFault;
-use schedule_lines::lines::{Computed, Directive, Line, LoopDirective, Subject, line_of};
+use schedule_lines::lines::{Computed, Directive, LoopDirective, ScheduleLine, Subject, line_of};
 use schedule_lines::stages::{Stage, StageName};
 use schedule_lines::words::words_of;
 use sqlite_items::Items;
@@ -20,7 +20,7 @@ use std::alloc::{AllocError, Global};
 
 /// What the lines so far say.
 #[derive(Drop)]
-pub struct Reader {
+pub struct ScheduleReader {
     /// How many lines were read, at most 256.
     pub lines: u64,
     /// What they say of each Func.
@@ -29,7 +29,7 @@ pub struct Reader {
 
 /// What the first word of a line names.
 #[derive(Clone, Copy, Debug, PartialEq, Eq)]
-pub enum Target {
+pub enum LineSubject {
     /// An input, which has no stages.
     Input,
     Stage(StageName),
@@ -45,12 +45,12 @@ fn digit(suffix: &[u8]) -> Option<usize>
     }
 }
 
-/// The update of a Func that stands behind the dot of its name.
-fn numbered(func: usize, plan: &FuncPlan, suffix: &[u8]) -> Option<Target>
+/// The update of a Func that stands after the dot of its name.
+fn numbered(func: usize, plan: &FuncPlan, suffix: &[u8]) -> Option<LineSubject>
     ensures { result ≡ spec.numbered func plan.now (spec.digit suffix.now) }
 {
     match digit(suffix) {
-        Some(at) if at < plan.updates.len() => Some(Target::Stage(StageName {
+        Some(at) if at < plan.updates.len() => Some(LineSubject::Stage(StageName {
             func,
             update: Some(at),
         })),
@@ -59,11 +59,11 @@ fn numbered(func: usize, plan: &FuncPlan, suffix: &[u8]) -> Option<Target>
 }
 
 /// A stage of the Func at a place.
-fn stage_target(plans: &Plans, func: usize, update: &Option<Items<u8>>) -> Option<Target>
+fn stage_target(plans: &Plans, func: usize, update: &Option<Items<u8>>) -> Option<LineSubject>
     ensures { result ≡ spec.stage_target plans.now func update.now }
 {
     match update {
-        None => Some(Target::Stage(StageName { func, update: None })),
+        None => Some(LineSubject::Stage(StageName { func, update: None })),
         Some(suffix) => match plans.get(func) {
             None => None,
             Some(plan) => numbered(func, plan, suffix.as_slice()),
@@ -72,14 +72,14 @@ fn stage_target(plans: &Plans, func: usize, update: &Option<Items<u8>>) -> Optio
 }
 
 /// What the first word of a line names.
-fn target_of(pipeline: &Pipeline, plans: &Plans, subject: &Subject) -> Option<Target>
+fn target_of(pipeline: &Pipeline, plans: &Plans, subject: &Subject) -> Option<LineSubject>
     ensures { result ≡ spec.target pipeline.now plans.now subject.now }
 {
     match pipeline.source(subject.name.as_slice()) {
         None => None,
         Some(Source::Input(_)) => {
             if subject.update.is_none() {
-                Some(Target::Input)
+                Some(LineSubject::Input)
             } else {
                 None
             }
@@ -103,7 +103,7 @@ fn compute_fault(pipeline: &Pipeline, func: usize, plan: &FuncPlan) -> Option<Sc
 
 /// A compute line.
 fn take_computed(
-    reader: &mut Reader,
+    reader: &mut ScheduleReader,
     pipeline: &Pipeline,
     func: usize,
     computed: Computed,
@@ -125,7 +125,7 @@ fn take_computed(
     }
 }
 
-/// The stage behind a line about its loops.
+/// The stage after a line about its loops.
 fn new_stage(
     alloc: Global,
     plan: &FuncPlan,
@@ -143,7 +143,7 @@ fn new_stage(
 
 /// A line about the loops of a stage.
 fn take_directed(
-    reader: &mut Reader,
+    reader: &mut ScheduleReader,
     alloc: Global,
     name: StageName,
     directive: &LoopDirective,
@@ -162,18 +162,18 @@ fn take_directed(
 
 /// A directive for what its line names.
 fn take_directive(
-    reader: &mut Reader,
+    reader: &mut ScheduleReader,
     pipeline: &Pipeline,
     alloc: Global,
-    target: Option<Target>,
+    target: Option<LineSubject>,
     directive: Directive,
 ) -> Result<(), ReadError<ScheduleFault>>
     ensures { Takes (spec.taken_directive pipeline.now reader.old target directive) result reader.new }
 {
     match target {
         None => Err(ReadError::Fault(ScheduleFault::UnknownStage)),
-        Some(Target::Input) => Err(ReadError::Fault(ScheduleFault::InputOrOutput)),
-        Some(Target::Stage(name)) => match directive {
+        Some(LineSubject::Input) => Err(ReadError::Fault(ScheduleFault::InputOrOutput)),
+        Some(LineSubject::Stage(name)) => match directive {
             Directive::OfPlace(computed) => {
                 take_computed(reader, pipeline, name.func, computed)?;
                 Ok(())
@@ -187,7 +187,7 @@ fn take_directive(
 }
 
 /// What a line says.
-fn read_line(alloc: Global, line: &[u8]) -> Result<Line, ReadError<ScheduleFault>>
+fn read_line(alloc: Global, line: &[u8]) -> Result<ScheduleLine, ReadError<ScheduleFault>>
     ensures { Gives (λ x. x) result (spec.line_of_bytes line.now) }
 {
     let words = words_of(alloc, line)?;
@@ -201,7 +201,7 @@ fn read_line(alloc: Global, line: &[u8]) -> Result<Line, ReadError<ScheduleFault
 /// The line's least fault; memory ran out. The reader may then be anything.
 #[tactic(auto, unfolding(crate::specs::Reading::taken))]
 pub fn take_line(
-    reader: &mut Reader,
+    reader: &mut ScheduleReader,
     pipeline: &Pipeline,
     alloc: Global,
     line: &[u8],
@@ -214,8 +214,8 @@ pub fn take_line(
     let said = read_line(alloc, line)?;
     reader.lines += 1;
     match said {
-        Line::Blank => Ok(()),
-        Line::Directive(subject, directive) => {
+        ScheduleLine::Blank => Ok(()),
+        ScheduleLine::Directive(subject, directive) => {
             let target = target_of(pipeline, &reader.plans, &subject);
             take_directive(reader, pipeline, alloc, target, directive)?;
             Ok(())
@@ -224,11 +224,11 @@ pub fn take_line(
 }
 
 /// A reader before the first line.
-pub fn start(alloc: Global, pipeline: &Pipeline) -> Result<Reader, AllocError>
+pub fn start(alloc: Global, pipeline: &Pipeline) -> Result<ScheduleReader, AllocError>
     ensures given { IfOk result (λ reader. reader ≡ spec.start pipeline.now) }
     ensures rules { IsWellFormed pipeline.now }
 {
-    Ok(Reader {
+    Ok(ScheduleReader {
         lines: 0,
         plans: plans_of(alloc, pipeline.funcs())?,
     })

@@ -10,9 +10,9 @@ ghost use Rattle.schedule.specs.Reading.{taken};
 ghost use Rattle.schedule.specs.Reading as spec;
 
 use crate::legality::verdict;
+use crate::placements::{FuncPlacement, standings};
 use crate::plans::Plans;
-use crate::readers::{Reader, start, take_line};
-use crate::standings::{Standing, standings};
+use crate::readers::{ScheduleReader, start, take_line};
 use halide_pipeline::Pipeline;
 use line_text::LocatedError;
 use line_text::lines::first_line;
@@ -26,7 +26,7 @@ pub struct Schedule {
     /// The loops of each Func's stages, in the pipeline's order.
     pub funcs: Plans,
     /// Whether the output reaches each Func, and where it is computed, in the same order.
-    pub standings: Items<Standing>,
+    pub standings: Items<FuncPlacement>,
 }
 
 /// Written out, so that a check sees a call wherever one is dropped, and not the drops of its parts.
@@ -50,7 +50,7 @@ impl Schedule {
     }
 
     /// What becomes of the Func at a place.
-    pub fn standing(&self, func: usize) -> Option<&Standing>
+    pub fn standing(&self, func: usize) -> Option<&FuncPlacement>
         ensures { option_copied result ≡ slice_get self.now.standings func }
     {
         self.standings.get(func)
@@ -69,7 +69,7 @@ impl Schedule {
 
 /// Has a reader take all lines of a text, and says how many there are.
 fn read_lines(
-    reader: &mut Reader,
+    reader: &mut ScheduleReader,
     pipeline: &Pipeline,
     alloc: Global,
     text: &[u8],
@@ -90,11 +90,11 @@ fn read_lines(
     Ok(count)
 }
 
-/// The schedule behind the last line.
+/// The schedule after the last line.
 fn finished(
     alloc: Global,
     pipeline: &Pipeline,
-    reader: Reader,
+    reader: ScheduleReader,
 ) -> Result<Schedule, LocatedError<ScheduleFault>>
     ensures { GivesLocated (λ x. x) result (spec.finished pipeline.now reader) }
 {

@@ -1,4 +1,4 @@
--- The words of bytes are the first one and those behind it.
+-- The words of bytes are the first one and those after it.
 use Rattle.std.proofs.Common.{◌≡◌, ℕ, ◌+◌, suc, Bool, true, false, not, cond, ◌==◌, List, [], ◌∷◌, ◌++◌, take, drop, refl, ap, arith}
 use Rattle.std.specs.List.{prefix_len}
 use Rattle.line_text.specs.Lines.{joined, after_first}

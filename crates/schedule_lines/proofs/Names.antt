@@ -13,15 +13,15 @@ same_bytes xs ys is = (bytes_eq-Decides xs ys).0 is
 pub itself : (xs : List ℕ) → bytes_eq xs xs ≡ true
 itself xs = (bytes_eq-Decides xs xs).1 refl
 
--- a test of names that is turned
-turned_by : (a b : Bool) (xs ys : List ℕ) → bytes_eq xs ys ≡ a → bytes_eq ys xs ≡ b → a ≡ b
-turned_by true true xs ys e d = refl
-turned_by false false xs ys e d = refl
-turned_by true false xs ys e d = let s : bytes_eq ys xs ≡ true = rw (same_bytes xs ys e) (itself ys) in cc
-turned_by false true xs ys e d = let s : bytes_eq xs ys ≡ true = rw (same_bytes ys xs d) (itself xs) in cc
+-- a test of names that is swapped
+swapped_by : (a b : Bool) (xs ys : List ℕ) → bytes_eq xs ys ≡ a → bytes_eq ys xs ≡ b → a ≡ b
+swapped_by true true xs ys e d = refl
+swapped_by false false xs ys e d = refl
+swapped_by true false xs ys e d = let s : bytes_eq ys xs ≡ true = rw (same_bytes xs ys e) (itself ys) in cc
+swapped_by false true xs ys e d = let s : bytes_eq xs ys ≡ true = rw (same_bytes ys xs d) (itself xs) in cc
 
-pub turned : (xs ys : List ℕ) → bytes_eq xs ys ≡ bytes_eq ys xs
-turned xs ys = turned_by (bytes_eq xs ys) (bytes_eq ys xs) xs ys refl refl
+pub swapped : (xs ys : List ℕ) → bytes_eq xs ys ≡ bytes_eq ys xs
+swapped xs ys = swapped_by (bytes_eq xs ys) (bytes_eq ys xs) xs ys refl refl
 
 pub total-append : (value : Loop → ℕ) (xs ys : List Loop) → total value (xs ++ ys) ≡ total value xs + total value ys
 total-append value [] ys = omega arith

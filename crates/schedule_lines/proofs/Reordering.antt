@@ -6,7 +6,7 @@ use Rattle.std.proofs.lemmas.Bool.{and_parts, or_parts}
 use Rattle.schedule_lines.specs.declared.stages.Loop.{Loop}
 use Rattle.schedule_lines.specs.Directives.{find, are_known, is_among, is_twice_among, has_twice, or_else, find_or, reordered_from, reordered, is_known}
 use Rattle.schedule_lines.specs.Making.{total, has_name, Differ, SameLoops}
-use Rattle.schedule_lines.proofs.Names.{turned, total-append}
+use Rattle.schedule_lines.proofs.Names.{swapped, total-append}
 use Rattle.schedule_lines.proofs.Replacing.{IsBetween, between}
 
 abbrev named : List (List ℕ) → (Loop → ℕ) → Loop → ℕ
@@ -97,7 +97,7 @@ unused_at : (test : Bool) (name : List ℕ) (names : List (List ℕ)) (value : L
 unused_at true name names value first others is none later = let e : 1 + total (has_name name) others ≡ 0 = rw is at none in absurd (omega arith)
 unused_at false name names value first others is none later =
     let e : 0 + total (has_name name) others ≡ 0 = rw is at none in
-    let back : bytes_eq name first.name ≡ false = turned name first.name ∙ is in
+    let back : bytes_eq name first.name ≡ false = swapped name first.name ∙ is in
     rw back (ap (λ n. cond (is_among first.name names) (value first) 0 + n) (later (omega arith)))
 
 unused : (name : List ℕ) (names : List (List ℕ)) (value : Loop → ℕ) (loops : List Loop) → total (has_name name) loops ≡ 0
@@ -168,7 +168,7 @@ chosen_by (Some l) own name names value e known differ once later =
     let here = alone name own l differ e in
     let before = here.place.before in
     let after = here.place.after in
-    let back : bytes_eq name l.name ≡ true = turned name l.name ∙ here.place.named in
+    let back : bytes_eq name l.name ≡ true = swapped name l.name ∙ here.place.named in
     let single : is_twice_among l.name (name ∷ names) ≡ false = twice name (name ∷ names) own l once e in
     let rest : is_among l.name names ≡ false = rw back at single in
     let whole : total (named (name ∷ names) value) own ≡ total (named (name ∷ names) value) before + total (named (name ∷ names) value) (l ∷ after) =

@@ -200,7 +200,7 @@ mark_of stage name marked (Some own) = if is_bad_unroll marked.mark own then Err
 abbrev pub mark : Stage → List ℕ → Marked → Result Stage ScheduleFault
 mark stage name marked = mark_of stage name marked (find_open name stage.loops)
 
--- ---- the stage behind a line about its loops, which has this number, or the line's least fault
+-- ---- the stage after a line about its loops, which has this number, or the line's least fault
 unfoldable pub directed : Bool → Stage → ℕ → LoopDirective → Result Stage ScheduleFault
 directed is_update stage line (on_loops.Split s) = split is_update stage s
 directed is_update stage line (on_loops.Reorder names) = reorder stage names

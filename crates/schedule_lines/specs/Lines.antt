@@ -23,8 +23,8 @@ use Rattle.schedule_lines.specs.declared.lines.Computed.{Computed}
 use Rattle.schedule_lines.specs.declared.lines.Computed.TheVariants as on_place
 use Rattle.schedule_lines.specs.declared.lines.Directive.{Directive}
 use Rattle.schedule_lines.specs.declared.lines.Directive.TheVariants as directives
-use Rattle.schedule_lines.specs.declared.lines.Line.{Line}
-use Rattle.schedule_lines.specs.declared.lines.Line.TheVariants as lines
+use Rattle.schedule_lines.specs.declared.lines.ScheduleLine.{ScheduleLine}
+use Rattle.schedule_lines.specs.declared.lines.ScheduleLine.TheVariants as lines
 use Rattle.schedule_lines.specs.declared.stages.Mark.{Mark}
 use Rattle.schedule_lines.specs.declared.stages.Mark.TheVariants as marks
 use Rattle.schedule_lines.specs.declared.stages.Tail.{Tail}
@@ -45,7 +45,7 @@ abbrev pub is_suffix : List ℕ → Bool
 is_suffix [] = false
 is_suffix (first ∷ rest) = prefix_len continues_name (first ∷ rest) == length (first ∷ rest)
 
--- what stands behind a stage's name: nothing, or a dot and a suffix
+-- what stands after a stage's name: nothing, or a dot and a suffix
 abbrev pub update_of : List ℕ → Result (Option (List ℕ)) ScheduleFault
 update_of [] = Ok None
 update_of (byte ∷ suffix) = if byte == 46 && is_suffix suffix then Ok (Some suffix) else Err Syntax
@@ -109,16 +109,16 @@ directive verb words =
     else Err Syntax
 
 -- A Func is computed as a whole, so its compute line has no dot.
-abbrev pub joined_as : Subject → Directive → Option (List ℕ) → Result Line ScheduleFault
+abbrev pub joined_as : Subject → Directive → Option (List ℕ) → Result ScheduleLine ScheduleFault
 joined_as own (directives.OfPlace computed) (Some suffix) = Err Syntax
 joined_as own (directives.OfPlace computed) None = Ok (lines.Directive own (directives.OfPlace computed))
 joined_as own (directives.OfLoops d) update = Ok (lines.Directive own (directives.OfLoops d))
 
-abbrev pub joined : Subject → Directive → Result Line ScheduleFault
+abbrev pub joined : Subject → Directive → Result ScheduleLine ScheduleFault
 joined own d = joined_as own d own.update
 
 -- what the words of a line say
-unfoldable pub line_of : List (List ℕ) → Result Line ScheduleFault
+unfoldable pub line_of : List (List ℕ) → Result ScheduleLine ScheduleFault
 line_of [] = Ok lines.Blank
 line_of (front ∷ []) = Err Syntax
 line_of (front ∷ verb ∷ others) = subject front >>= λ s. directive verb others >>= λ d. joined s d

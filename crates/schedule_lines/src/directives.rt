@@ -107,7 +107,7 @@ fn is_known(loops: &[Loop], name: &[u8]) -> bool
     find(loops, name).is_some()
 }
 
-/// Whether the last round of a split begins earlier.
+/// Whether the last iteration of a split begins earlier.
 pub fn is_shift(tail: Tail) -> bool
     ensures { result ≡ spec.is_shift tail }
 {
@@ -183,7 +183,7 @@ fn split_loop(
     })
 }
 
-/// The stage behind a split line.
+/// The stage after a split line.
 fn split(
     alloc: Global,
     is_update: bool,
@@ -347,7 +347,7 @@ fn same_ids(own: &[LoopId], other: &[LoopId]) -> bool
     }
 }
 
-/// The stage behind a reorder line.
+/// The stage after a reorder line.
 fn reorder(
     alloc: Global,
     stage: &Stage,
@@ -402,7 +402,7 @@ fn is_bad_unroll(mark: Mark, own: &Loop) -> bool
     same_mark(mark, Mark::Unrolled) && own.inner_of.is_none()
 }
 
-/// The stage behind a line that marks a loop.
+/// The stage after a line that marks a loop.
 fn mark(
     alloc: Global,
     stage: &Stage,
@@ -423,7 +423,7 @@ fn mark(
     }
 }
 
-/// The stage behind a line about its loops, which has this number.
+/// The stage after a line about its loops, which has this number.
 ///
 /// # Errors
 ///

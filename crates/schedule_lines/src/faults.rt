@@ -6,7 +6,7 @@ ghost use Rattle.schedule_lines.specs.Faults as spec;
 /// What is wrong with a schedule, the least first.
 #[derive(Clone, Copy, Debug, PartialEq, Eq)]
 pub enum ScheduleFault {
-    /// The line is not of the grammar, or is behind the 256th.
+    /// The line is not of the grammar, or is after the 256th.
     Syntax,
     /// The first word names no stage and no input.
     UnknownStage,
@@ -23,9 +23,9 @@ pub enum ScheduleFault {
     ParallelNotOutermost,
     /// A parallel loop is over a reduction variable.
     ParallelReduction,
-    /// A loop of an update is split with its last round shifted.
+    /// A loop of an update is split with its last iteration shifted.
     ShiftOnUpdate,
-    /// A parallel loop comes from a split with its last round shifted.
+    /// A parallel loop comes from a split with its last iteration shifted.
     ParallelInShift,
     /// A vectorized loop is not the innermost, is not the inner loop of a split by 4, 8 or 16, or is over a reduction
     /// variable.

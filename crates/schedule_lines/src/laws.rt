@@ -7,7 +7,7 @@ ghost use Rattle.schedule_lines.specs.declared.stages.Stage.{Stage};
 ghost use Rattle.schedule_lines.specs.Directives.{directed};
 ghost use Rattle.schedule_lines.specs.Making.{IsStage};
 
-/// A stage that lines make of its first loops stays one: behind each line that is accepted its loops are those
+/// A stage that lines make of its first loops stays one: after each line that is accepted its loops are those
 /// that its splits leave, in an order that keeps that of loops over reduction variables, at most 5, with names
 /// that differ.
 pub fn directives_keep_stages()

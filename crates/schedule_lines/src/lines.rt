@@ -12,7 +12,7 @@ use line_text::spans::{begins_name, digits_len, name_len};
 use sqlite_items::Items;
 use std::alloc::{AllocError, Global};
 
-/// The first word of a line: a name, and what stands behind a dot.
+/// The first word of a line: a name, and what stands after a dot.
 #[derive(Drop)]
 pub struct Subject {
     pub name: Items<u8>,
@@ -62,7 +62,7 @@ pub enum Directive {
 
 /// A line.
 #[derive(Drop)]
-pub enum Line {
+pub enum ScheduleLine {
     /// It has no words.
     Blank,
     Directive(Subject, Directive),
@@ -88,7 +88,7 @@ fn is_number(word: &[u8]) -> bool
     }
 }
 
-/// Whether bytes may stand behind the dot of a stage: letters, digits and `_`, at least one.
+/// Whether bytes may stand after the dot of a stage: letters, digits and `_`, at least one.
 fn is_suffix(bytes: &[u8]) -> bool
     ensures { result ≡ spec.is_suffix bytes.now }
 {
@@ -109,7 +109,7 @@ fn name_of(alloc: Global, word: &[u8]) -> Result<Items<u8>, ReadError<ScheduleFa
     }
 }
 
-/// What stands behind a dot, behind a name.
+/// What stands after a dot, after a name.
 fn update_of(alloc: Global, rest: &[u8]) -> Result<Option<Items<u8>>, ReadError<ScheduleFault>>
     ensures { Gives (λ x. x) result (spec.update_of rest.now) }
 {
@@ -120,7 +120,7 @@ fn update_of(alloc: Global, rest: &[u8]) -> Result<Option<Items<u8>>, ReadError<
     }
 }
 
-/// The first word: a name, perhaps with a dot and what names an update behind it.
+/// The first word: a name, perhaps with a dot and what names an update after it.
 #[tactic(auto, unfolding(crate::specs::Lines::subject))]
 fn subject_of(alloc: Global, word: &[u8]) -> Result<Subject, ReadError<ScheduleFault>>
     ensures { Gives (λ x. x) result (spec.subject word.now) }
@@ -157,7 +157,7 @@ fn tail_of(word: &[u8]) -> Result<Tail, ReadError<ScheduleFault>>
     }
 }
 
-/// What stands behind `split`.
+/// What stands after `split`.
 #[tactic(auto, unfolding(crate::specs::Lines::split))]
 fn split_of(alloc: Global, words: &[Items<u8>]) -> Result<LoopDirective, ReadError<ScheduleFault>>
     ensures { Gives (λ x. x) result (spec.split words.now) }
@@ -205,7 +205,7 @@ fn copied(alloc: Global, words: &[Items<u8>]) -> Result<Items<Items<u8>>, AllocE
     Ok(copies)
 }
 
-/// What stands behind `reorder`.
+/// What stands after `reorder`.
 #[tactic(auto, unfolding(crate::specs::Lines::reorder))]
 fn reorder_of(alloc: Global, words: &[Items<u8>]) -> Result<LoopDirective, ReadError<ScheduleFault>>
     ensures { Gives (λ x. x) result (spec.reorder words.now) }
@@ -222,7 +222,7 @@ fn reorder_of(alloc: Global, words: &[Items<u8>]) -> Result<LoopDirective, ReadE
     }
 }
 
-/// What stands behind the word of a mark.
+/// What stands after the word of a mark.
 #[tactic(auto, unfolding(crate::specs::Lines::mark))]
 fn mark_of(
     alloc: Global,
@@ -237,7 +237,7 @@ fn mark_of(
     }
 }
 
-/// What stands behind `compute_root`.
+/// What stands after `compute_root`.
 fn compute_root(words: &[Items<u8>]) -> Result<Computed, ReadError<ScheduleFault>>
     ensures { Gives (λ x. x) result (spec.compute_root words.now) }
 {
@@ -247,7 +247,7 @@ fn compute_root(words: &[Items<u8>]) -> Result<Computed, ReadError<ScheduleFault
     }
 }
 
-/// What stands behind `compute_at`.
+/// What stands after `compute_at`.
 #[tactic(auto, unfolding(crate::specs::Lines::compute_at))]
 fn compute_at(alloc: Global, words: &[Items<u8>]) -> Result<Computed, ReadError<ScheduleFault>>
     ensures { Gives (λ x. x) result (spec.compute_at words.now) }
@@ -262,7 +262,7 @@ fn compute_at(alloc: Global, words: &[Items<u8>]) -> Result<Computed, ReadError<
     }
 }
 
-/// What the second word and those behind it say.
+/// What the second word and those after it say.
 #[tactic(auto, unfolding(crate::specs::Lines::directive))]
 fn directive_of(
     alloc: Global,
@@ -291,12 +291,12 @@ fn directive_of(
 }
 
 /// A line of a subject and a directive; a Func is computed as a whole, so that a dot is then a fault.
-fn joined(subject: Subject, directive: Directive) -> Result<Line, ReadError<ScheduleFault>>
+fn joined(subject: Subject, directive: Directive) -> Result<ScheduleLine, ReadError<ScheduleFault>>
     ensures { Gives (λ x. x) result (spec.joined subject directive) }
 {
     match (&directive, &subject.update) {
         (Directive::OfPlace(_), Some(_)) => Err(ReadError::Fault(ScheduleFault::Syntax)),
-        _ => Ok(Line::Directive(subject, directive)),
+        _ => Ok(ScheduleLine::Directive(subject, directive)),
     }
 }
 
@@ -306,11 +306,11 @@ fn joined(subject: Subject, directive: Directive) -> Result<Line, ReadError<Sche
 ///
 /// `Syntax` where they are not of the grammar; memory ran out.
 #[tactic(auto, unfolding(crate::specs::Lines::line_of))]
-pub fn line_of(alloc: Global, words: &[Items<u8>]) -> Result<Line, ReadError<ScheduleFault>>
+pub fn line_of(alloc: Global, words: &[Items<u8>]) -> Result<ScheduleLine, ReadError<ScheduleFault>>
     ensures { Gives (λ x. x) result (spec.line_of words.now) }
 {
     match words {
-        [] => Ok(Line::Blank),
+        [] => Ok(ScheduleLine::Blank),
         [front, verb, others @ ..] => {
             let subject = subject_of(alloc, front.as_slice())?;
             let directive = directive_of(alloc, verb.as_slice(), others)?;

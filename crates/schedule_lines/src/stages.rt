@@ -57,7 +57,7 @@ pub struct Loop {
     pub marked: Option<Marked>,
 }
 
-/// What the last round of a split loop does, where the factor does not divide the extent.
+/// What the last iteration of a split loop does, where the factor does not divide the extent.
 #[derive(Clone, Copy, Debug, PartialEq, Eq)]
 pub enum Tail {
     /// It leaves out what lies past the extent.
@@ -67,7 +67,7 @@ pub enum Tail {
 }
 
 /// A split of a loop of extent E: its value is `outer * factor + inner`, where the inner loop has `factor`
-/// rounds and the outer one E / factor, rounded up. Under `Tail::Shift` the least of `outer * factor` and
+/// iterations and the outer one E / factor, rounded up. Under `Tail::Shift` the least of `outer * factor` and
 /// E - factor stands in place of the product.
 #[derive(Clone, Copy, Debug, PartialEq, Eq)]
 pub struct Split {

@@ -6,7 +6,7 @@ use Rattle.halide_pipeline.specs.declared.definitions.Func.{Func}
 use Rattle.halide_pipeline.specs.declared.definitions.Update.{Update}
 use Rattle.schedule_lines.specs.declared.stages.Stage.{Stage}
 use Rattle.schedule.specs.declared.plans.FuncPlan.{FuncPlan}
-use Rattle.schedule.specs.declared.standings.Standing.{Standing}
+use Rattle.schedule.specs.declared.placements.FuncPlacement.{FuncPlacement}
 use Rattle.schedule.specs.Accepted.{Pairwise, IsPlan, IsLegal, IsComputed, IsUpdateStage, Keeps}
 use Rattle.schedule.specs.Legal.{is_root}
 use Rattle.schedule_loops.specs.Stages.{IsStageOf, KeepsRules}
@@ -28,7 +28,7 @@ each_at P [] (suc at) x all e = cc
 each_at P (a ∷ xs) zero x all e = subst P (some_is a x e) all.0
 each_at P (a ∷ xs) (suc at) x all e = each_at P xs at x all.1 e
 
-pub accepted : (func : Func) (plan : FuncPlan) (own : Standing) → IsPlan func plan → IsLegal plan own → own.is_reached ≡ true
+pub accepted : (func : Func) (plan : FuncPlan) (own : FuncPlacement) → IsPlan func plan → IsLegal plan own → own.is_reached ≡ true
     → (IsStageOf func None plan.pure × KeepsRules plan.pure)
     × ((at : ℕ) (update : Update) (stage : Stage) → slice_get func.updates at ≡ Some update → slice_get plan.updates at ≡ Some stage
     → IsStageOf func (Some update) stage × KeepsRules stage)

@@ -1,4 +1,4 @@
--- While loops outside have given turns, a variable lies between their base and what the loops inside can add.
+-- While loops outside have given iterations, a variable lies between their base and what the loops inside can add.
 use Rattle.std.proofs.Common.{◌≡◌, ℕ, zero, suc, ◌+◌, ◌-◌, ◌*◌, ◌<◌, ◌≤◌, Bool, true, false, not, cond, List, [], ◌∷◌, ◌++◌, Option, refl, sym, ap, subst, ◌∙◌}
 use Rattle.std.proofs.Common.{arith, ◌⊎◌, inl, inr}
 use Rattle.std.specs.Prelude.{◌&&◌, ◌||◌, nat_lt, is_some}
@@ -18,9 +18,9 @@ use Rattle.schedule_lines.specs.Making.{total, IsMade}
 use Rattle.schedule_loops.specs.declared.extents.Extents.{Extents}
 use Rattle.schedule_loops.specs.Visits.{Values, with, extent_of, whole_counts, counts, strides, is_uneven, upto, nest, split_bodies}
 use Rattle.schedule_loops.specs.Reach.{base, reach, has_uneven, wholes, IsReached}
-use Rattle.schedule_loops.specs.Runs.{AreTurns}
+use Rattle.schedule_loops.specs.Runs.{AreIterations}
 use Rattle.schedule_loops.specs.Stages.{has_variable, first_loops, IsStageOf}
-use Rattle.schedule_loops.proofs.Ids.{cases_id, with_other, turned_id}
+use Rattle.schedule_loops.proofs.Ids.{cases_id, with_other, swapped_id}
 use Rattle.schedule_loops.proofs.Nesting.{has_id, has_same, has_other, InRange, in_range_more}
 use Rattle.schedule_loops.proofs.Selecting.{Unique}
 use Rattle.schedule_loops.proofs.Making.{total-append}
@@ -42,28 +42,28 @@ all_upto P (suc n) f all = all_append P (upto n f) (f n) (all_upto P n f (λ v l
 
 -- values that differ from others for loops of the nest alone
 abbrev pub Agrees : List Loop → Values → Values → Type 0
-Agrees loops values turns = (id : LoopId) → total (has_id id) loops ≡ 0 → values id ≡ turns id
+Agrees loops values iterations = (id : LoopId) → total (has_id id) loops ≡ 0 → values id ≡ iterations id
 
-pub nest_all : {A : Type 0} (P : A → Type 0) (counts : Values) (loops : List Loop) (body : Values → List A) (turns : Values)
-    → ((values : Values) → InRange counts loops values → Agrees loops values turns → AllByRecursion P (body values))
-    → AllByRecursion P (nest counts loops body turns)
-nest_all P counts [] body turns all = all turns (λ id in_it. absurd (omega arith)) (λ id none. refl)
-nest_all P counts (own ∷ outside) body turns all =
-    nest_all P counts outside (λ outer. upto (counts own.id) (λ turn. body (with own.id turn outer))) turns
-    (λ outer in_range agrees. all_upto P (counts own.id) (λ turn. body (with own.id turn outer)) (λ turn l.
-    all (with own.id turn outer) (in_range_more counts own outside outer turn in_range l)
+pub nest_all : {A : Type 0} (P : A → Type 0) (counts : Values) (loops : List Loop) (body : Values → List A) (iterations : Values)
+    → ((values : Values) → InRange counts loops values → Agrees loops values iterations → AllByRecursion P (body values))
+    → AllByRecursion P (nest counts loops body iterations)
+nest_all P counts [] body iterations all = all iterations (λ id in_it. absurd (omega arith)) (λ id none. refl)
+nest_all P counts (own ∷ outside) body iterations all =
+    nest_all P counts outside (λ outer. upto (counts own.id) (λ iteration. body (with own.id iteration outer))) iterations
+    (λ outer in_range agrees. all_upto P (counts own.id) (λ iteration. body (with own.id iteration outer)) (λ iteration l.
+    all (with own.id iteration outer) (in_range_more counts own outside outer iteration in_range l)
     (λ id none. elim (cases_id own.id id) [
       | inl e ↦ let one : has_id id own ≡ 1 = ap (λ (i : LoopId). has_id i own) (sym e) ∙ has_same own in absurd (omega arith)
-      | inr d ↦ with_other own.id turn outer id (turned_id own.id id d) ∙ agrees id (omega arith)
+      | inr d ↦ with_other own.id iteration outer id (swapped_id own.id id d) ∙ agrees id (omega arith)
     ])))
 
--- ---- turns of loops inside and outside
+-- ---- iterations of loops inside and outside
 
-pub in_turns : (counts : Values) (loops : List Loop) (turns : Values) → AreTurns counts loops turns → InRange counts loops turns
-in_turns counts [] turns are id l = absurd (omega arith)
-in_turns counts (own ∷ others) turns are id l = elim (cases_id own.id id) [
-  | inl e ↦ subst (λ (i : LoopId). turns i < counts i) e are.0
-  | inr d ↦ in_turns counts others turns are.1 id (omega (arith, has_other id own d))
+pub in_iterations : (counts : Values) (loops : List Loop) (iterations : Values) → AreIterations counts loops iterations → InRange counts loops iterations
+in_iterations counts [] iterations are id l = absurd (omega arith)
+in_iterations counts (own ∷ others) iterations are id l = elim (cases_id own.id id) [
+  | inl e ↦ subst (λ (i : LoopId). iterations i < counts i) e are.0
+  | inr d ↦ in_iterations counts others iterations are.1 id (omega (arith, has_other id own d))
 ]
 
 -- 0, or some
@@ -71,18 +71,18 @@ zero_or : (n : ℕ) → (n ≡ 0) ⊎ (1 ≤ n)
 zero_or zero = inl refl
 zero_or (suc n) = inr (omega arith)
 
-module _ (counts : Values) (inside outside : List Loop) (unique : Unique (inside ++ outside)) (turns values : Values) where
+module _ (counts : Values) (inside outside : List Loop) (unique : Unique (inside ++ outside)) (iterations values : Values) where
   parts : (id : LoopId) → total (has_id id) inside + total (has_id id) outside ≤ 1
   parts id = omega (arith, unique id, total-append (has_id id) inside outside)
 
-  both_in_range : InRange counts inside values → Agrees inside values turns → InRange counts outside turns → InRange counts (inside ++ outside) values
+  both_in_range : InRange counts inside values → Agrees inside values iterations → InRange counts outside iterations → InRange counts (inside ++ outside) values
   both_in_range in_range agrees are id l = elim (zero_or (total (has_id id) inside)) [
     | inl none ↦ omega (arith, agrees id none, are id (omega (arith, total-append (has_id id) inside outside)))
     | inr some ↦ in_range id some
   ]
 
-  outer_turns : Agrees inside values turns → (id : LoopId) → 1 ≤ total (has_id id) outside → values id ≡ turns id
-  outer_turns agrees id l = agrees id (omega (arith, parts id))
+  outer_iterations : Agrees inside values iterations → (id : LoopId) → 1 ≤ total (has_id id) outside → values id ≡ iterations id
+  outer_iterations agrees id l = agrees id (omega (arith, parts id))
 
 -- ---- sums over the loops inside and outside
 
@@ -112,17 +112,17 @@ module _ (extents : Extents) (splits : List Split) (v : Variable) where
   or_right true b e = cc
   or_right false b e = e
 
-  outer_exact : (values turns : Values) (outside : List Loop) → has_uneven splits v outside ≡ false → ((id : LoopId) → 1 ≤ total (has_id id) outside
-      → values id ≡ turns id)
-      → total (exact v st un values) outside ≡ base splits v turns outside
-  outer_exact values turns [] none same = refl
-  outer_exact values turns (own ∷ others) none same =
+  outer_exact : (values iterations : Values) (outside : List Loop) → has_uneven splits v outside ≡ false → ((id : LoopId) → 1 ≤ total (has_id id) outside
+      → values id ≡ iterations id)
+      → total (exact v st un values) outside ≡ base splits v iterations outside
+  outer_exact values iterations [] none same = refl
+  outer_exact values iterations (own ∷ others) none same =
       let n : (same_variable own.variable v && un own.id) ≡ false = or_left (same_variable own.variable v && un own.id) (has_uneven splits v others) none in
-      let later = outer_exact values turns others (or_right (same_variable own.variable v && un own.id) (has_uneven splits v others) none)
+      let later = outer_exact values iterations others (or_right (same_variable own.variable v && un own.id) (has_uneven splits v others) none)
       (λ id l. same id (omega arith)) in
       omega (
         arith,
-        outer_one (same_variable own.variable v) (un own.id) (st own.id) (values own.id) (turns own.id) n
+        outer_one (same_variable own.variable v) (un own.id) (st own.id) (values own.id) (iterations own.id) n
             (same own.id (omega (arith, has_same own))),
         later,
       )
@@ -155,14 +155,14 @@ module _ (extents : Extents) (splits : List Split) (v : Variable) where
         inner_sum values others (λ id l. in_range id (omega arith)),
       )
 
-  reached_sum : (inside outside : List Loop) (turns values whole : Values) → has_uneven splits v outside ≡ false → InRange cs inside values
-      → ((id : LoopId) → 1 ≤ total (has_id id) outside → values id ≡ turns id)
+  reached_sum : (inside outside : List Loop) (iterations values whole : Values) → has_uneven splits v outside ≡ false → InRange cs inside values
+      → ((id : LoopId) → 1 ≤ total (has_id id) outside → values id ≡ iterations id)
       → IsSum (whole_counts extents) v (total (exact v st un values) (inside ++ outside)) (total (slack v st un cs) (inside ++ outside)) whole
-      → IsReached extents splits v inside outside turns whole
-  reached_sum inside outside turns values whole none in_range same s =
+      → IsReached extents splits v inside outside iterations whole
+  reached_sum inside outside iterations values whole none in_range same s =
       let e = total-append (exact v st un values) inside outside in
       let k = total-append (slack v st un cs) inside outside in
-      let a = outer_exact values turns outside none same in
+      let a = outer_exact values iterations outside none same in
       let b = outer_slack outside none in
       let c = inner_sum values inside in_range in
       record { low = omega (arith, s.sum, e, a); high = omega (arith, s.sum, s.few, e, k, a, b, c) }
@@ -174,9 +174,9 @@ module _ (extents : Extents) (splits : List Split) (v : Variable) where
 
 -- ---- the loops of a stage
 
-module _ (func : Func) (update : Option Update) (extents : Extents) (stage : Stage) (inside outside : List Loop) (v : Variable) (turns : Values)
+module _ (func : Func) (update : Option Update) (extents : Extents) (stage : Stage) (inside outside : List Loop) (v : Variable) (iterations : Values)
     (is : IsStageOf func update stage) (loops_are : stage.loops ≡ inside ++ outside) (some : has_variable v (first_loops func update) ≡ true)
-    (are : AreTurns (counts extents stage.splits) outside turns) where
+    (are : AreIterations (counts extents stage.splits) outside iterations) where
   abbrev start : List Loop
   start = first_loops func update
 
@@ -186,22 +186,22 @@ module _ (func : Func) (update : Option Update) (extents : Extents) (stage : Sta
   linear : Linear (whole_counts extents) v (inside ++ outside) stage.splits
   linear = linear_in (whole_counts extents) v (plain func update) some made
 
-  all_in_range : (values : Values) → InRange (counts extents stage.splits) inside values → Agrees inside values turns
+  all_in_range : (values : Values) → InRange (counts extents stage.splits) inside values → Agrees inside values iterations
       → InRange (counts extents stage.splits) (inside ++ outside) values
-  all_in_range values in_range agrees = both_in_range (counts extents stage.splits) inside outside linear.sound.unique turns values in_range agrees
-      (in_turns (counts extents stage.splits) outside turns are)
+  all_in_range values in_range agrees = both_in_range (counts extents stage.splits) inside outside linear.sound.unique iterations values in_range agrees
+      (in_iterations (counts extents stage.splits) outside iterations are)
 
-  pub reached : has_uneven stage.splits v outside ≡ false → AllByRecursion (IsReached extents stage.splits v inside outside turns) (wholes extents stage.splits
-      inside turns)
+  pub reached : has_uneven stage.splits v outside ≡ false → AllByRecursion (IsReached extents stage.splits v inside outside iterations) (wholes extents stage.splits
+      inside iterations)
   reached none =
-      nest_all (IsReached extents stage.splits v inside outside turns) (counts extents stage.splits) inside (split_bodies (whole_counts extents) 0 stage.splits
-      (λ whole. whole ∷ [])) turns (λ values in_range agrees.
-      all_listed extents stage.splits v (IsReached extents stage.splits v inside outside turns)
+      nest_all (IsReached extents stage.splits v inside outside iterations) (counts extents stage.splits) inside (split_bodies (whole_counts extents) 0 stage.splits
+      (λ whole. whole ∷ [])) iterations (λ values in_range agrees.
+      all_listed extents stage.splits v (IsReached extents stage.splits v inside outside iterations)
       (total (exact v (strides stage.splits) (is_uneven stage.splits) values) (inside ++ outside))
       (total (slack v (strides stage.splits) (is_uneven stage.splits) (counts extents stage.splits)) (inside ++ outside))
       (split_bodies (whole_counts extents) 0 stage.splits (λ whole. whole ∷ []) values)
-      (λ whole s. reached_sum extents stage.splits v inside outside turns values whole none in_range (outer_turns (counts extents stage.splits) inside outside
-      linear.sound.unique turns values agrees) s)
+      (λ whole s. reached_sum extents stage.splits v inside outside iterations values whole none in_range (outer_iterations (counts extents stage.splits) inside outside
+      linear.sound.unique iterations values agrees) s)
       (linear.sum values (all_in_range values in_range agrees)))
 
   abbrev is_below : Values → Bool
@@ -211,10 +211,10 @@ module _ (func : Func) (update : Option Update) (extents : Extents) (stage : Sta
   quiet = quiet_from (whole_counts extents) (λ values. values) is_below start (plain func update)
       (λ values in_range. lt-ltb (values (ids.Whole v)) (extent_of extents v) (in_range (ids.Whole v) (there v start (plain func update) some))) made
 
-  pub within : AllByRecursion (λ whole. whole (ids.Whole v) < extent_of extents v) (wholes extents stage.splits inside turns)
+  pub within : AllByRecursion (λ whole. whole (ids.Whole v) < extent_of extents v) (wholes extents stage.splits inside iterations)
   within =
       nest_all (λ whole. whole (ids.Whole v) < extent_of extents v) (counts extents stage.splits) inside (split_bodies (whole_counts extents) 0 stage.splits
-      (λ whole. whole ∷ [])) turns (λ values in_range agrees.
+      (λ whole. whole ∷ [])) iterations (λ values in_range agrees.
       all_pass (λ whole. whole (ids.Whole v) < extent_of extents v) is_below (λ whole e. ltb-true (whole (ids.Whole v)) (extent_of extents v) e)
       (split_bodies (whole_counts extents) 0 stage.splits (λ whole. whole ∷ []) values)
       (quiet.none values (all_in_range values in_range agrees)))

@@ -20,10 +20,10 @@ use Rattle.schedule_lines.specs.declared.stages.Tail.TheVariants as tails
 use Rattle.schedule_lines.specs.Directives.{same_id, parts, is_shift}
 use Rattle.schedule_lines.specs.Making.{total, IsSplit, IsMade}
 use Rattle.schedule_loops.specs.declared.extents.Extents.{Extents}
-use Rattle.schedule_loops.specs.Visits.{Values, with, rounds, whole_counts, more_counts, counts_from, shift_fits, shifts_fit_from, shifts_fit, upto, nest}
+use Rattle.schedule_loops.specs.Visits.{Values, with, outer_extent, whole_counts, more_counts, counts_from, shift_fits, shifts_fit_from, shifts_fit, upto, nest}
 use Rattle.schedule_loops.specs.Visits.{whole_of, begin_of, split_body, split_bodies, zeros, Visit, visit_of, visits}
 use Rattle.schedule_loops.specs.Stages.{has_variable, first_loops, is_slice_of, IsStageOf}
-use Rattle.schedule_loops.proofs.Ids.{cases_id, is_old, old_apart, inner_new, outer_new, turned_id, with_same, with_other}
+use Rattle.schedule_loops.proofs.Ids.{cases_id, is_old, old_apart, inner_new, outer_new, swapped_id, with_same, with_other}
 use Rattle.schedule_loops.proofs.Nesting.{has_id, has_same, has_other, InRange}
 use Rattle.schedule_loops.proofs.Splitting.{OnOld}
 use Rattle.schedule_loops.proofs.Selecting.{OnValues, Unique, on_values_more}
@@ -51,13 +51,13 @@ contains_upto {A} x (suc n) k f l there = elim (cases_eq k n) [
 abbrev pub OnlyIn : List Loop → Values → Values → Type 0
 OnlyIn loops found start = (id : LoopId) → total (has_id id) loops ≡ 0 → found id ≡ start id
 
--- A nest lists what its body lists under values that are turns of its loops.
+-- A nest lists what its body lists under values that are iterations of its loops.
 pub nest_contains : {A : Type 0} (x : A) (counts : Values) (loops : List Loop) (body : Values → List A) → OnValues body → Unique loops
     → (found start : Values) → InRange counts loops found → OnlyIn loops found start → Contains (body found) x → Contains (nest counts loops body start) x
 nest_contains x counts [] body on unique found start in_range only there = subst (λ xs. Contains xs x) (on found start (λ id. only id refl)) there
 nest_contains {A} x counts (own ∷ loops) body on unique found start in_range only there =
     let none : total (has_id own.id) loops ≡ 0 = omega (arith, unique own.id, has_same own) in
-    nest_contains x counts loops (λ outer. upto (counts own.id) (λ turn. body (with own.id turn outer))) (on_values_more counts own.id body on)
+    nest_contains x counts loops (λ outer. upto (counts own.id) (λ iteration. body (with own.id iteration outer))) (on_values_more counts own.id body on)
     (λ id. omega (arith, unique id))
     (with own.id (start own.id) found) start
     (λ id l. elim (cases_id id own.id) [
@@ -66,9 +66,9 @@ nest_contains {A} x counts (own ∷ loops) body on unique found start in_range o
     ])
     (λ id z. elim (cases_id id own.id) [
       | inl e ↦ subst (λ (i : LoopId). with own.id (start own.id) found i ≡ start i) (sym e) (with_same own.id (start own.id) found)
-      | inr d ↦ with_other own.id (start own.id) found id d ∙ only id (omega (arith, has_other id own (turned_id id own.id d)))
+      | inr d ↦ with_other own.id (start own.id) found id d ∙ only id (omega (arith, has_other id own (swapped_id id own.id d)))
     ])
-    (contains_upto x (counts own.id) (found own.id) (λ turn. body (with own.id turn (with own.id (start own.id) found)))
+    (contains_upto x (counts own.id) (found own.id) (λ iteration. body (with own.id iteration (with own.id (start own.id) found)))
     (in_range own.id (omega (arith, has_same own)))
     (subst (λ (xs : List A). Contains xs x) (on found (with own.id (found own.id) (with own.id (start own.id) found)) (λ id. elim (cases_id id own.id) [
       | inl e ↦ subst (λ (i : LoopId). found i ≡ with own.id (found own.id) (with own.id (start own.id) found) i) (sym e)
@@ -78,22 +78,22 @@ nest_contains {A} x counts (own ∷ loops) body on unique found start in_range o
 
 -- ---- a value of the loop that is split is one of its parts
 
--- the turn of the inner loop that comes to a value, where a shifted loop has at least one whole round
-pub inner_turn : Tail → ℕ → ℕ → ℕ → ℕ
-inner_turn tail factor extent value = value - begin_of tail factor extent (value / factor)
+-- the iteration of the inner loop that comes to a value, where a shifted loop has at least one whole iteration
+pub inner_iteration : Tail → ℕ → ℕ → ℕ → ℕ
+inner_iteration tail factor extent value = value - begin_of tail factor extent (value / factor)
 
 abbrev pub IsLong : Tail → ℕ → ℕ → Type 0
 IsLong tails.Guard factor extent = Unit {0}
 IsLong tails.Shift factor extent = factor ≤ extent
 
-inner_below : (tail : Tail) (factor extent value : ℕ) → 1 ≤ factor → value < extent → IsLong tail factor extent → inner_turn tail factor extent value < factor
-unfolding inner_turn
+inner_below : (tail : Tail) (factor extent value : ℕ) → 1 ≤ factor → value < extent → IsLong tail factor extent → inner_iteration tail factor extent value < factor
+unfolding inner_iteration
 inner_below tails.Guard factor extent value some l long = omega (arith, div-add-mod' value factor, mod-lt value some)
 inner_below tails.Shift factor extent value some l long = omega (arith, div-add-mod' value factor, mod-lt value some)
 
 inner_sum : (tail : Tail) (factor extent value : ℕ) → 1 ≤ factor → value < extent → IsLong tail factor extent
-    → begin_of tail factor extent (value / factor) + inner_turn tail factor extent value ≡ value
-unfolding inner_turn
+    → begin_of tail factor extent (value / factor) + inner_iteration tail factor extent value ≡ value
+unfolding inner_iteration
 inner_sum tails.Guard factor extent value some l long = omega (arith, div-add-mod' value factor, mod-lt value some)
 inner_sum tails.Shift factor extent value some l long = omega (arith, div-add-mod' value factor, mod-lt value some)
 
@@ -121,32 +121,32 @@ module _ {A : Type 0} (counts : Values) (body : Values → List A) (start : Valu
 
   -- values of the new loops under which the body lists the same
   abbrev pub moved : Values → Values
-  moved found = with own.id (start own.id) (with (ids.Inner (length splits)) (inner_turn line.tail line.factor (counts own.id) (found own.id))
+  moved found = with own.id (start own.id) (with (ids.Inner (length splits)) (inner_iteration line.tail line.factor (counts own.id) (found own.id))
       (with (ids.Outer (length splits)) (found own.id / line.factor) found))
 
   moved_outer : (found : Values) → moved found (ids.Outer (length splits)) ≡ found own.id / line.factor
   moved_outer found =
-      with_other own.id (start own.id) (with (ids.Inner (length splits)) (inner_turn line.tail line.factor (counts own.id) (found own.id))
-      (with (ids.Outer (length splits)) (found own.id / line.factor) found)) (ids.Outer (length splits)) (turned_id own.id (ids.Outer (length splits))
+      with_other own.id (start own.id) (with (ids.Inner (length splits)) (inner_iteration line.tail line.factor (counts own.id) (found own.id))
+      (with (ids.Outer (length splits)) (found own.id / line.factor) found)) (ids.Outer (length splits)) (swapped_id own.id (ids.Outer (length splits))
       (old_apart (length splits) own.id (ids.Outer (length splits)) own_old (outer_new (length splits))))
       ∙ with_same (ids.Outer (length splits)) (found own.id / line.factor) found
 
-  moved_inner : (found : Values) → moved found (ids.Inner (length splits)) ≡ inner_turn line.tail line.factor (counts own.id) (found own.id)
+  moved_inner : (found : Values) → moved found (ids.Inner (length splits)) ≡ inner_iteration line.tail line.factor (counts own.id) (found own.id)
   moved_inner found =
-      with_other own.id (start own.id) (with (ids.Inner (length splits)) (inner_turn line.tail line.factor (counts own.id) (found own.id))
-      (with (ids.Outer (length splits)) (found own.id / line.factor) found)) (ids.Inner (length splits)) (turned_id own.id (ids.Inner (length splits))
+      with_other own.id (start own.id) (with (ids.Inner (length splits)) (inner_iteration line.tail line.factor (counts own.id) (found own.id))
+      (with (ids.Outer (length splits)) (found own.id / line.factor) found)) (ids.Inner (length splits)) (swapped_id own.id (ids.Inner (length splits))
       (old_apart (length splits) own.id (ids.Inner (length splits)) own_old (inner_new (length splits))))
-      ∙ with_same (ids.Inner (length splits)) (inner_turn line.tail line.factor (counts own.id) (found own.id)) (with (ids.Outer (length splits))
+      ∙ with_same (ids.Inner (length splits)) (inner_iteration line.tail line.factor (counts own.id) (found own.id)) (with (ids.Outer (length splits))
       (found own.id / line.factor) found)
 
   moved_other : (found : Values) (id : LoopId) → same_id id own.id ≡ false → same_id (ids.Inner (length splits)) id ≡ false
       → same_id (ids.Outer (length splits)) id ≡ false → moved found id ≡ found id
   moved_other found id o d f =
-      with_other own.id (start own.id) (with (ids.Inner (length splits)) (inner_turn line.tail line.factor (counts own.id) (found own.id))
+      with_other own.id (start own.id) (with (ids.Inner (length splits)) (inner_iteration line.tail line.factor (counts own.id) (found own.id))
       (with (ids.Outer (length splits)) (found own.id / line.factor) found)) id o
-      ∙ with_other (ids.Inner (length splits)) (inner_turn line.tail line.factor (counts own.id) (found own.id)) (with (ids.Outer (length splits))
-      (found own.id / line.factor) found) id (turned_id (ids.Inner (length splits)) id d)
-      ∙ with_other (ids.Outer (length splits)) (found own.id / line.factor) found id (turned_id (ids.Outer (length splits)) id f)
+      ∙ with_other (ids.Inner (length splits)) (inner_iteration line.tail line.factor (counts own.id) (found own.id)) (with (ids.Outer (length splits))
+      (found own.id / line.factor) found) id (swapped_id (ids.Inner (length splits)) id d)
+      ∙ with_other (ids.Outer (length splits)) (found own.id / line.factor) found id (swapped_id (ids.Outer (length splits)) id f)
 
   -- the split lists what the loop listed
   pub split_lists : (found : Values) → found own.id < counts own.id → body found ≡ wanted
@@ -160,8 +160,8 @@ module _ {A : Type 0} (counts : Values) (body : Values → List A) (start : Valu
       (λ id old. elim (cases_id id own.id) [
         | inl s ↦ subst (λ (i : LoopId). with own.id (found own.id) (moved found) i ≡ found i) (sym s) (with_same own.id (found own.id) (moved found))
         | inr o ↦ with_other own.id (found own.id) (moved found) id o
-            ∙ moved_other found id o (turned_id id (ids.Inner (length splits)) (old_apart (length splits) id (ids.Inner (length splits)) old
-            (inner_new (length splits)))) (turned_id id (ids.Outer (length splits)) (old_apart (length splits) id (ids.Outer (length splits)) old
+            ∙ moved_other found id o (swapped_id id (ids.Inner (length splits)) (old_apart (length splits) id (ids.Inner (length splits)) old
+            (inner_new (length splits)))) (swapped_id id (ids.Outer (length splits)) (old_apart (length splits) id (ids.Outer (length splits)) old
             (outer_new (length splits))))
       ]) in
       ap (λ (n : ℕ). cond (nat_lt n (counts own.id)) (body (with own.id n (moved found))) []) w
@@ -177,7 +177,7 @@ module _ {A : Type 0} (counts : Values) (body : Values → List A) (start : Valu
               moved_inner found,
               inner_below line.tail line.factor (counts own.id) (found own.id) is.some l long,
               with_same
-                  (ids.Inner (length splits)) line.factor (with (ids.Outer (length splits)) (rounds (counts own.id) line.factor) counts),
+                  (ids.Inner (length splits)) line.factor (with (ids.Outer (length splits)) (outer_extent (counts own.id) line.factor) counts),
             ))
         | IsOuter e ↦ subst (λ (i : LoopId). moved found i < new_counts i) (sym e)
             (omega (
@@ -185,12 +185,12 @@ module _ {A : Type 0} (counts : Values) (body : Values → List A) (start : Valu
               moved_outer found,
               quotient_below (found own.id) (counts own.id) line.factor is.some l,
               with_same (ids.Outer (length splits))
-                  (rounds (counts own.id) line.factor) counts,
+                  (outer_extent (counts own.id) line.factor) counts,
             ))
         | IsNeither d f ↦
             let same_counts : new_counts id ≡ counts id = with_other (ids.Inner (length splits)) line.factor (with (ids.Outer (length splits))
-            (rounds (counts own.id) line.factor) counts) id (turned_id (ids.Inner (length splits)) id d)
-            ∙ with_other (ids.Outer (length splits)) (rounds (counts own.id) line.factor) counts id (turned_id (ids.Outer (length splits)) id f) in
+            (outer_extent (counts own.id) line.factor) counts) id (swapped_id (ids.Inner (length splits)) id d)
+            ∙ with_other (ids.Outer (length splits)) (outer_extent (counts own.id) line.factor) counts id (swapped_id (ids.Outer (length splits)) id f) in
             let sum = total_parts (has_id id) before own after (length splits) line in
             let none = parts_neither own (length splits) line id d f in
             elim (cases_id id own.id) [
@@ -225,12 +225,12 @@ module _ {A : Type 0} (counts : Values) (body : Values → List A) (start : Valu
             ))
         | IsNeither d f ↦ elim (cases_id id own.id) [
           | inl s ↦ subst (λ (i : LoopId). moved found i ≡ start i) (sym s) (with_same own.id (start own.id) (with (ids.Inner (length splits))
-              (inner_turn line.tail line.factor (counts own.id) (found own.id)) (with (ids.Outer (length splits)) (found own.id / line.factor) found)))
-          | inr o ↦ moved_other found id o d f ∙ only id (omega (arith, sum, has_other id own (turned_id id own.id o)))
+              (inner_iteration line.tail line.factor (counts own.id) (found own.id)) (with (ids.Outer (length splits)) (found own.id / line.factor) found)))
+          | inr o ↦ moved_other found id o d f ∙ only id (omega (arith, sum, has_other id own (swapped_id id own.id o)))
         ]
       ]
 
--- ---- each shifted split has a whole round
+-- ---- each shifted split has a whole iteration
 
 fit_parts : (splits : List Split) (counts : Values) (at : ℕ) (split : Split) → shifts_fit_from counts at (splits ++ split ∷ []) ≡ true
     → (shifts_fit_from counts at splits ≡ true) × (shift_fits (counts_from counts at splits) split ≡ true)
@@ -256,7 +256,7 @@ module _ (extents : Extents) (wanted : Visit) where
   abbrev body_of : List Split → Values → List Visit
   body_of splits = split_bodies (whole_counts extents) 0 splits leaf
 
-  -- turns of the loops under which the wanted visit is listed
+  -- iterations of the loops under which the wanted visit is listed
   pub record Found (loops : List Loop) (splits : List Split) : Type 0 where
     pub found : Values
     pub in_range : InRange (counts_of splits) loops found
@@ -290,10 +290,10 @@ module _ (extents : Extents) (wanted : Visit) where
       let bodies_are : body_of (splits ++ split_by own line ∷ []) ≡ split_body (counts_of splits) (length splits) (split_by own line) (body_of splits) =
       bodies-more splits (whole_counts extents) 0 (length splits) (split_by own line) leaf (omega arith) in
       let l : f.found own.id < counts_of splits own.id = f.in_range own.id (omega (arith, total-append (has_id own.id) before (own ∷ after), has_same own)) in
-      let new : Values = with own.id (zeros own.id) (with (ids.Inner (length splits)) (inner_turn line.tail line.factor (counts_of splits own.id)
+      let new : Values = with own.id (zeros own.id) (with (ids.Inner (length splits)) (inner_iteration line.tail line.factor (counts_of splits own.id)
       (f.found own.id)) (with (ids.Outer (length splits)) (f.found own.id / line.factor) f.found)) in
       record {
-        found = with own.id (zeros own.id) (with (ids.Inner (length splits)) (inner_turn line.tail line.factor (counts_of splits own.id) (f.found own.id))
+        found = with own.id (zeros own.id) (with (ids.Inner (length splits)) (inner_iteration line.tail line.factor (counts_of splits own.id) (f.found own.id))
             (with (ids.Outer (length splits)) (f.found own.id / line.factor) f.found));
         in_range = subst (λ (c : Values). InRange c (before ++ (parts own (length splits) line ++ after)) new) (sym counts_are)
             (split_in_range (counts_of splits) (body_of splits) zeros (wanted ∷ []) before own after splits line is_update is sound long (body_on splits)

@@ -13,9 +13,9 @@ use Rattle.schedule.specs.declared.legality.LoopRule.{LoopRule}
 use Rattle.schedule.specs.declared.legality.LoopRule.TheVariants as rules_of
 use Rattle.schedule.specs.declared.plans.ComputeLine.{ComputeLine}
 use Rattle.schedule.specs.declared.plans.FuncPlan.{FuncPlan}
-use Rattle.schedule.specs.declared.standings.Place.{Place}
-use Rattle.schedule.specs.declared.standings.Place.TheVariants as places
-use Rattle.schedule.specs.declared.standings.Standing.{Standing}
+use Rattle.schedule.specs.declared.placements.ComputeLevel.{ComputeLevel}
+use Rattle.schedule.specs.declared.placements.ComputeLevel.TheVariants as places
+use Rattle.schedule.specs.declared.placements.FuncPlacement.{FuncPlacement}
 use Rattle.schedule.specs.Legal.{breaks, compute_line, earlier, is_empty, is_nowhere, is_root, line_of, loops_line, nowhere_line, plan_line, rule_line}
 use Rattle.schedule.specs.Legal.{stages_line}
 use Rattle.schedule.specs.Legal.{has_lost, last_verdict, or_next, verdict}
@@ -157,34 +157,34 @@ module _ (rule : LoopRule) (at_root : Bool) where
 
 -- ---- Funcs
 
-module _ (Own : Standing → FuncPlan → ℕ → Type 0) where
-  record AmongFuncs (standings : List Standing) (plans : List FuncPlan) (line : ℕ) : Type 0 where
+module _ (Own : FuncPlacement → FuncPlan → ℕ → Type 0) where
+  record AmongFuncs (standings : List FuncPlacement) (plans : List FuncPlan) (line : ℕ) : Type 0 where
     place : ℕ
-    standing : Standing
+    standing : FuncPlacement
     standing_is : slice_get standings place ≡ Some standing
     plan : FuncPlan
     plan_is : slice_get plans place ≡ Some plan
     own : Own standing plan line
 
-  either_func : (standing : Standing) (standings : List Standing) (plan : FuncPlan) (plans : List FuncPlan) (line place : ℕ) (s : Standing) (p : FuncPlan)
+  either_func : (standing : FuncPlacement) (standings : List FuncPlacement) (plan : FuncPlan) (plans : List FuncPlan) (line place : ℕ) (s : FuncPlacement) (p : FuncPlan)
       → slice_get (standing ∷ standings) place ≡ Some s → slice_get (plan ∷ plans) place ≡ Some p → Own s p line
       → Own standing plan line ⊎ AmongFuncs standings plans line
   either_func standing standings plan plans line zero s p standing_is plan_is is =
       let same : s ≡ standing = cc in
       let alike : p ≡ plan = cc in
-      inl (subst (λ (t : Standing). Own t plan line) same (subst (λ (q : FuncPlan). Own s q line) alike is))
+      inl (subst (λ (t : FuncPlacement). Own t plan line) same (subst (λ (q : FuncPlan). Own s q line) alike is))
   either_func standing standings plan plans line (suc place) s p standing_is plan_is is =
       inr (record { place = place; standing = s; standing_is = standing_is; plan = p; plan_is = plan_is; own = is })
 
   -- the least line of all Funcs, by that of each
-  module _ (own_line : Standing → FuncPlan → Option ℕ) (own_least : (standing : Standing) (plan : FuncPlan)
+  module _ (own_line : FuncPlacement → FuncPlan → Option ℕ) (own_least : (standing : FuncPlacement) (plan : FuncPlan)
       → IsLeast (Own standing plan) (own_line standing plan)) where
-    abbrev funcs_line : List Standing → List FuncPlan → Option ℕ
+    abbrev funcs_line : List FuncPlacement → List FuncPlan → Option ℕ
     funcs_line [] plans = None
     funcs_line (standing ∷ standings) [] = None
     funcs_line (standing ∷ standings) (plan ∷ plans) = earlier (own_line standing plan) (funcs_line standings plans)
 
-    funcs_least : (standings : List Standing) (plans : List FuncPlan) → IsLeast (AmongFuncs standings plans) (funcs_line standings plans)
+    funcs_least : (standings : List FuncPlacement) (plans : List FuncPlan) → IsLeast (AmongFuncs standings plans) (funcs_line standings plans)
     funcs_least [] plans = λ line is. cc
     funcs_least (standing ∷ standings) [] = λ line is. cc
     funcs_least (standing ∷ standings) (plan ∷ plans) =
@@ -197,13 +197,13 @@ module _ (Own : Standing → FuncPlan → ℕ → Type 0) where
 -- ---- the rules
 
 module _ (rule : LoopRule) where
-  abbrev OfFunc : Standing → FuncPlan → ℕ → Type 0
+  abbrev OfFunc : FuncPlacement → FuncPlan → ℕ → Type 0
   OfFunc standing plan line = (standing.is_reached ≡ true) × OfPlan rule (is_root standing.place) plan line
 
-  abbrev func_line : Standing → FuncPlan → Option ℕ
+  abbrev func_line : FuncPlacement → FuncPlan → Option ℕ
   func_line standing plan = if standing.is_reached then plan_line rule (is_root standing.place) plan else None
 
-  func_least : (standing : Standing) (plan : FuncPlan) → IsLeast (OfFunc standing plan) (func_line standing plan)
+  func_least : (standing : FuncPlacement) (plan : FuncPlan) → IsLeast (OfFunc standing plan) (func_line standing plan)
   func_least standing plan = least_if (OfPlan rule (is_root standing.place) plan) standing.is_reached _ (plan_least rule (is_root standing.place) plan)
 
 pub rule_lines_are_least : RuleLinesAreLeast
@@ -249,20 +249,20 @@ compute_least : (own : Option ComputeLine) → IsLeast (IsComputedAt own) (compu
 compute_least None = λ line is. cc
 compute_least (Some own) = ((own, refl, refl), λ other is. let same : own.line ≡ other = cc in omega arith)
 
-nowhere_is : (place : Place) → is_nowhere place ≡ true → place ≡ places.Nowhere
+nowhere_is : (place : ComputeLevel) → is_nowhere place ≡ true → place ≡ places.Nowhere
 nowhere_is places.Nowhere is = refl
 nowhere_is places.Root is = cc
 nowhere_is places.Inlined is = cc
 nowhere_is (places.At loop) is = cc
 
 -- the line computes the Func, which can't be computed there
-abbrev IsLost : Standing → FuncPlan → ℕ → Type 0
+abbrev IsLost : FuncPlacement → FuncPlan → ℕ → Type 0
 IsLost standing plan line = ((standing.is_reached && is_nowhere standing.place) ≡ true) × IsComputedAt plan.compute line
 
-abbrev lost_line : Standing → FuncPlan → Option ℕ
+abbrev lost_line : FuncPlacement → FuncPlan → Option ℕ
 lost_line standing plan = if standing.is_reached && is_nowhere standing.place then compute_line plan.compute else None
 
-lost_least : (standing : Standing) (plan : FuncPlan) → IsLeast (IsLost standing plan) (lost_line standing plan)
+lost_least : (standing : FuncPlacement) (plan : FuncPlan) → IsLeast (IsLost standing plan) (lost_line standing plan)
 lost_least standing plan = least_if (IsComputedAt plan.compute) (standing.is_reached && is_nowhere standing.place) (compute_line plan.compute)
     (compute_least plan.compute)
 
@@ -297,7 +297,7 @@ nowhere_lines_are_least standings plans =
 
 -- ---- verdicts
 
-module _ (standings : List Standing) (plans : List FuncPlan) where
+module _ (standings : List FuncPlacement) (plans : List FuncPlan) where
   abbrev IsNamed : ℕ × ScheduleFault → Type 0
   IsNamed named = AllByRecursion (IsUnbroken standings plans) (rules_before named.1) × IsFaultLine standings plans named.1 named.0
 

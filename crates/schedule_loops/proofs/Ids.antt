@@ -48,8 +48,8 @@ pub ids_differ : (a b : LoopId) → same_id a b ≡ false → a ≢ b
 ids_differ a b f e =
     let s : same_id a b ≡ true = ap (same_id a) (sym e) ∙ same_id-self a in cc
 
-pub turned_id : (a b : LoopId) → same_id a b ≡ false → same_id b a ≡ false
-turned_id a b f = other_id b a (λ e. ids_differ a b f (sym e))
+pub swapped_id : (a b : LoopId) → same_id a b ≡ false → same_id b a ≡ false
+swapped_id a b f = other_id b a (λ e. ids_differ a b f (sym e))
 
 -- the same for numbers and flags
 pub same_of : {A : Type 0} (id : LoopId) (n : A) (values : LoopId → A) → with id n values id ≡ n

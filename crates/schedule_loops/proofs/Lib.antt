@@ -20,8 +20,8 @@ pub mod Starts
 pub mod Stepping
 pub mod Tables
 pub mod Tasks
-pub mod Turns
-pub mod TurnsFound
+pub mod Iterations
+pub mod IterationsFound
 pub mod Wholes
 pub mod Written
 pub mod FaultLines

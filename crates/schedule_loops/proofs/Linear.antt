@@ -14,12 +14,12 @@ use Rattle.schedule_lines.specs.declared.stages.Tail.{Tail}
 use Rattle.schedule_lines.specs.declared.stages.Tail.TheVariants as tails
 use Rattle.schedule_lines.specs.Directives.{same_id, parts, is_shift}
 use Rattle.schedule_lines.specs.Making.{total, IsSplit, IsMade}
-use Rattle.schedule_loops.specs.Visits.{Values, with, rounds, more_counts, counts_from, whole_strides, more_strides, strides_from, more_uneven, uneven_from}
+use Rattle.schedule_loops.specs.Visits.{Values, with, outer_extent, more_counts, counts_from, whole_strides, more_strides, strides_from, more_uneven, uneven_from}
 use Rattle.schedule_loops.specs.Visits.{begin_of, whole_of, split_body, split_bodies}
 use Rattle.schedule_loops.specs.Stages.{has_variable}
 use Rattle.schedule_loops.proofs.Ids.{is_old, old_apart, inner_new, outer_new, with_same, with_other, same_of, other_of, same_variable-true}
 use Rattle.schedule_loops.proofs.Nesting.{has_id, InRange}
-use Rattle.schedule_loops.proofs.Splitting.{Apart, rounds_reach}
+use Rattle.schedule_loops.proofs.Splitting.{Apart, outer_extent_reaches}
 use Rattle.schedule_loops.proofs.Making.{Stays, by_making, Sound, sound_stays, split_by, total-append, parts_outer, counts-more, bodies-more, bare_total}
 use Rattle.schedule_loops.proofs.Making.{own_apart, apart_from}
 use Rattle.schedule_loops.proofs.Order.{whole_in_range, inner_part, outer_part}
@@ -207,7 +207,7 @@ module _ (extents : Values) (v : Variable) where
         → slack v strides uneven counts l ≡ slack v new_strides new_uneven new_counts l
     slack_old l old d =
         ap (λ (n : ℕ). cond (same_variable l.variable v && uneven l.id) (strides l.id * (n - 1)) 0)
-        (sym (new_of line.factor (rounds (counts own.id) line.factor) counts l.id old))
+        (sym (new_of line.factor (outer_extent (counts own.id) line.factor) counts l.id old))
         ∙ ap (λ (n : ℕ). cond (same_variable l.variable v && uneven l.id) (n * (new_counts l.id - 1)) 0)
         (sym (new_of (strides own.id) (strides own.id * line.factor) strides l.id old))
         ∙ ap (λ (b : Bool). cond (same_variable l.variable v && b) (new_strides l.id * (new_counts l.id - 1)) 0)
@@ -245,11 +245,11 @@ module _ (extents : Values) (v : Variable) where
               (parts own place line) after,
           parts_outer own place line,
         )) in
-        let lo : values (ids.Outer place) < rounds (counts own.id) line.factor =
-        omega (arith, outer_in, at_outer line.factor (rounds (counts own.id) line.factor) counts) in
+        let lo : values (ids.Outer place) < outer_extent (counts own.id) line.factor =
+        omega (arith, outer_in, at_outer line.factor (outer_extent (counts own.id) line.factor) counts) in
         let p = parts_of (same_variable own.variable v) (uneven own.id) (is_shift line.tail) (strides own.id) (begin_of line.tail line.factor (counts own.id)
-        (values (ids.Outer place))) (counts own.id) line.factor (rounds (counts own.id) line.factor) (values (ids.Outer place)) (values (ids.Inner place))
-        is.some (rounds_reach (counts own.id) line.factor is.some) lo (begin_below line.tail line.factor (counts own.id) (values (ids.Outer place)))
+        (values (ids.Outer place))) (counts own.id) line.factor (outer_extent (counts own.id) line.factor) (values (ids.Outer place)) (values (ids.Inner place))
+        is.some (outer_extent_reaches (counts own.id) line.factor is.some) lo (begin_below line.tail line.factor (counts own.id) (values (ids.Outer place)))
         (begin_guard line.tail line.factor (counts own.id) (values (ids.Outer place))) in
         let eb = total_apart (length splits) own.id (exact v strides uneven (with own.id (w values) values)) (exact v new_strides new_uneven values) before
         (exact_old values) apart_before in
@@ -277,16 +277,16 @@ module _ (extents : Values) (v : Variable) where
         ap (λ (n : ℕ). cond (same_variable own.variable v && new_uneven (ids.Inner place)) (n * (new_counts (ids.Inner place) - 1)) 0)
         (at_inner (strides own.id) (strides own.id * line.factor) strides)
         ∙ ap (λ (n : ℕ). cond (same_variable own.variable v && new_uneven (ids.Inner place)) (strides own.id * (n - 1)) 0)
-        (at_inner line.factor (rounds (counts own.id) line.factor) counts)
+        (at_inner line.factor (outer_extent (counts own.id) line.factor) counts)
         ∙ ap (λ (c : Bool). cond (same_variable own.variable v && c) (strides own.id * (line.factor - 1)) 0) (at_inner (uneven own.id) (uneven own.id
         || is_shift line.tail) uneven) in
         let s_outer : slack v new_strides new_uneven new_counts (outer_part own place line) ≡ cond (same_variable own.variable v
-        && (uneven own.id || is_shift line.tail)) (strides own.id * line.factor * (rounds (counts own.id) line.factor - 1)) 0 =
+        && (uneven own.id || is_shift line.tail)) (strides own.id * line.factor * (outer_extent (counts own.id) line.factor - 1)) 0 =
         ap (λ (n : ℕ). cond (same_variable own.variable v && new_uneven (ids.Outer place)) (n * (new_counts (ids.Outer place) - 1)) 0)
         (at_outer (strides own.id) (strides own.id * line.factor) strides)
         ∙ ap (λ (n : ℕ). cond (same_variable own.variable v && new_uneven (ids.Outer place)) (strides own.id * line.factor * (n - 1)) 0)
-        (at_outer line.factor (rounds (counts own.id) line.factor) counts)
-        ∙ ap (λ (c : Bool). cond (same_variable own.variable v && c) (strides own.id * line.factor * (rounds (counts own.id) line.factor - 1)) 0)
+        (at_outer line.factor (outer_extent (counts own.id) line.factor) counts)
+        ∙ ap (λ (c : Bool). cond (same_variable own.variable v && c) (strides own.id * line.factor * (outer_extent (counts own.id) line.factor - 1)) 0)
         (at_outer (uneven own.id) (uneven own.id || is_shift line.tail) uneven) in
         let t_old : total (exact v strides uneven (with own.id (w values) values)) (before ++ own ∷ after)
         ≡ total (exact v strides uneven (with own.id (w values) values)) before + (exact v strides uneven (with own.id (w values) values) own + total
@@ -373,7 +373,7 @@ module _ (extents : Values) (v : Variable) where
         One values refl (record { added = 0; few = omega arith; sum = omega (arith, s) });
   }
 
-  -- A variable's value is the sum of strides times turns of its even loops, and of at most what its uneven ones reach.
+  -- A variable's value is the sum of strides times iterations of its even loops, and of at most what its uneven ones reach.
   pub linear_in : {is_update : Bool} {start loops : List Loop} {splits : List Split} → Plain start → has_variable v start ≡ true
       → IsMade is_update start loops splits → Linear loops splits
   linear_in {is_update} {start} plain some made = by_making Linear (linear_stays is_update start (begun start plain some)) made

@@ -6,14 +6,14 @@ use Rattle.schedule_lines.specs.declared.stages.LoopId.{LoopId}
 use Rattle.schedule_lines.specs.Directives.{same_id}
 use Rattle.schedule_lines.specs.Making.{total}
 use Rattle.schedule_loops.specs.Visits.{Values, with, upto, nest}
-use Rattle.schedule_loops.proofs.Turns.{upto_same, filter-upto}
-use Rattle.schedule_loops.proofs.Ids.{cases_id, turned_id, with_same, with_other, same_id-self}
+use Rattle.schedule_loops.proofs.Iterations.{upto_same, filter-upto}
+use Rattle.schedule_loops.proofs.Ids.{cases_id, swapped_id, with_same, with_other, same_id-self}
 
 -- 1 for the loop that is this one
 abbrev pub has_id : LoopId → Loop → ℕ
 has_id id own = if same_id own.id id then 1 else 0
 
--- The value of each of the loops is one of its turns.
+-- The value of each of the loops is one of its iterations.
 abbrev pub InRange : Values → List Loop → Values → Type 0
 InRange counts loops values = (id : LoopId) → 1 ≤ total (has_id id) loops → values id < counts id
 
@@ -29,38 +29,38 @@ in_range_more counts own outside values n in_range l id there = elim (cases_id o
   | inl e ↦ subst (λ (i : LoopId). with own.id n values i < counts i) e (omega (arith, with_same own.id n values, l))
   | inr d ↦
       let out : 1 ≤ total (has_id id) outside = omega (arith, has_other id own d, there) in
-      omega (arith, with_other own.id n values id (turned_id own.id id d), in_range id out)
+      omega (arith, with_other own.id n values id (swapped_id own.id id d), in_range id out)
 ]
 
--- bodies that list the same under all turns do so in a nest
+-- bodies that list the same under all iterations do so in a nest
 pub nest_same : {A : Type 0} (counts : Values) (loops : List Loop) (f g : Values → List A) → ((values : Values) → InRange counts loops values
     → f values ≡ g values)
     → (values : Values) → nest counts loops f values ≡ nest counts loops g values
 nest_same counts [] f g same values = same values (λ id there. absurd (omega arith))
 nest_same counts (own ∷ outside) f g same values =
-    nest_same counts outside (λ outer. upto (counts own.id) (λ turn. f (with own.id turn outer))) (λ outer. upto (counts own.id)
-    (λ turn. g (with own.id turn outer)))
-    (λ outer in_range. upto_same (counts own.id) (λ turn. f (with own.id turn outer)) (λ turn. g (with own.id turn outer))
-    (λ turn l. same (with own.id turn outer) (in_range_more counts own outside outer turn in_range l)))
+    nest_same counts outside (λ outer. upto (counts own.id) (λ iteration. f (with own.id iteration outer))) (λ outer. upto (counts own.id)
+    (λ iteration. g (with own.id iteration outer)))
+    (λ outer in_range. upto_same (counts own.id) (λ iteration. f (with own.id iteration outer)) (λ iteration. g (with own.id iteration outer))
+    (λ iteration l. same (with own.id iteration outer) (in_range_more counts own outside outer iteration in_range l)))
     values
 
 pub nest-append : {A : Type 0} (counts : Values) (inside outside : List Loop) (body : Values → List A) (values : Values)
     → nest counts (inside ++ outside) body values ≡ nest counts outside (nest counts inside body) values
 nest-append counts [] outside body values = refl
 nest-append counts (own ∷ inside) outside body values = nest-append counts inside outside (λ outer. upto (counts own.id)
-    (λ turn. body (with own.id turn outer))) values
+    (λ iteration. body (with own.id iteration outer))) values
 
 -- what passes a test in a nest
 pub filter-nest : {A : Type 0} (test : A → Bool) (counts : Values) (loops : List Loop) (body : Values → List A) (values : Values)
     → filter test (nest counts loops body values) ≡ nest counts loops (λ v. filter test (body v)) values
 filter-nest test counts [] body values = refl
 filter-nest test counts (own ∷ outside) body values =
-    filter-nest test counts outside (λ outer. upto (counts own.id) (λ turn. body (with own.id turn outer))) values
-    ∙ nest_same counts outside (λ outer. filter test (upto (counts own.id) (λ turn. body (with own.id turn outer)))) (λ outer. upto (counts own.id)
-    (λ turn. filter test (body (with own.id turn outer))))
-    (λ outer in_range. filter-upto test (counts own.id) (λ turn. body (with own.id turn outer))) values
+    filter-nest test counts outside (λ outer. upto (counts own.id) (λ iteration. body (with own.id iteration outer))) values
+    ∙ nest_same counts outside (λ outer. filter test (upto (counts own.id) (λ iteration. body (with own.id iteration outer)))) (λ outer. upto (counts own.id)
+    (λ iteration. filter test (body (with own.id iteration outer))))
+    (λ outer in_range. filter-upto test (counts own.id) (λ iteration. body (with own.id iteration outer))) values
 
--- Each of the loops has as many turns by one count as by another.
+-- Each of the loops has as many iterations by one count as by another.
 abbrev pub SameCounts : Values → Values → List Loop → Type 0
 SameCounts one other [] = Unit {0}
 SameCounts one other (own ∷ outside) = (one own.id ≡ other own.id) × SameCounts one other outside
@@ -69,5 +69,5 @@ pub nest_counts : {A : Type 0} (one other : Values) (loops : List Loop) (body : 
     → nest one loops body values ≡ nest other loops body values
 nest_counts one other [] body same values = refl
 nest_counts {A} one other (own ∷ outside) body same values =
-    nest_counts one other outside (λ outer. upto (one own.id) (λ turn. body (with own.id turn outer))) same.1 values
-    ∙ ap (λ (n : ℕ). nest other outside (λ outer. upto n (λ turn. body (with own.id turn outer))) values) same.0
+    nest_counts one other outside (λ outer. upto (one own.id) (λ iteration. body (with own.id iteration outer))) same.1 values
+    ∙ ap (λ (n : ℕ). nest other outside (λ outer. upto n (λ iteration. body (with own.id iteration outer))) values) same.0

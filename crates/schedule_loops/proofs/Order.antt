@@ -14,10 +14,10 @@ use Rattle.schedule_lines.specs.declared.stages.Tail.{Tail}
 use Rattle.schedule_lines.specs.declared.stages.Tail.TheVariants as tails
 use Rattle.schedule_lines.specs.Directives.{same_id, parts, is_shift}
 use Rattle.schedule_lines.specs.Making.{total, bare, IsSplit, IsMade}
-use Rattle.schedule_loops.specs.Visits.{Values, with, rounds, more_counts, counts_from, upto, nest, whole_of, split_body, split_bodies}
-use Rattle.schedule_loops.proofs.Ids.{cases_id, same_id-self, is_old, outer_new, inner_new, turned_id, with_same, with_other}
+use Rattle.schedule_loops.specs.Visits.{Values, with, outer_extent, more_counts, counts_from, upto, nest, whole_of, split_body, split_bodies}
+use Rattle.schedule_loops.proofs.Ids.{cases_id, same_id-self, is_old, outer_new, inner_new, swapped_id, with_same, with_other}
 use Rattle.schedule_loops.proofs.Nesting.{has_id, has_other, has_same, InRange, filter-nest}
-use Rattle.schedule_loops.proofs.Splitting.{OnOld, counts_old, rounds_reach, parted_nest}
+use Rattle.schedule_loops.proofs.Splitting.{OnOld, counts_old, outer_extent_reaches, parted_nest}
 use Rattle.schedule_loops.proofs.Selecting.{is_one, IsAmong, is_free, Only, among_has, moved_nest, only_moved}
 use Rattle.schedule_loops.proofs.Making.{Stays, by_making, Sound, sound_stays, split_by, IsInner, IsOuter, IsNeither, part_of, total-append, total_parts}
 use Rattle.schedule_loops.proofs.Making.{parts_inner, parts_neither, counts-more, bodies-more, bodies_on_old, is_old_has, bare_total, own_apart, apart_from}
@@ -26,9 +26,9 @@ pub guard_from : (tail : Tail) → is_shift tail ≡ false → tail ≡ tails.Gu
 guard_from tails.Guard e = refl
 guard_from tails.Shift e = cc
 
-pub quotient_below : (n extent factor : ℕ) → 1 ≤ factor → n < extent → n / factor < rounds extent factor
-quotient_below n extent factor some l = (div-lt_iff_lt-mul {k = factor} {x = n} {y = rounds extent factor} some).1
-    (omega (arith, rounds_reach extent factor some))
+pub quotient_below : (n extent factor : ℕ) → 1 ≤ factor → n < extent → n / factor < outer_extent extent factor
+quotient_below n extent factor some l = (div-lt_iff_lt-mul {k = factor} {x = n} {y = outer_extent extent factor} some).1
+    (omega (arith, outer_extent_reaches extent factor some))
 
 -- the loops of a split
 abbrev pub inner_part : Loop → ℕ → SplitLine → Loop
@@ -66,7 +66,7 @@ module _ (A : Type 0) (extents : Values) (seen : Values → A) (keep : A → Boo
   abbrev counts_of : List Split → Values
   counts_of splits = counts_from extents 0 splits
 
-  -- what is filter is in_turn only where loops that pass the test have given values
+  -- what is kept is in order only where loops that pass the test have given values
   pub record Selects (test : Loop → Bool) (loops : List Loop) (splits : List Split) : Type 0 where
     pub given : Values
     pub range : (id : LoopId) → IsAmong test loops id → given id < counts_of splits id
@@ -86,8 +86,8 @@ module _ (A : Type 0) (extents : Values) (seen : Values → A) (keep : A → Boo
       → parted_given given place split id ≡ given id
   given_old given place split id d f =
       with_other (ids.Inner place) (given split.of % split.factor) (with (ids.Outer place) (given split.of / split.factor) given) id
-      (turned_id (ids.Inner place) id d)
-      ∙ with_other (ids.Outer place) (given split.of / split.factor) given id (turned_id (ids.Outer place) id f)
+      (swapped_id (ids.Inner place) id d)
+      ∙ with_other (ids.Outer place) (given split.of / split.factor) given id (swapped_id (ids.Outer place) id f)
 
   module _ (is_update : Bool) (test : Loop → Bool) (passed_on : IsPassedOn is_update test)
       (before : List Loop) (own : Loop) (after : List Loop) (splits : List Split) (line : SplitLine)
@@ -114,10 +114,10 @@ module _ (A : Type 0) (extents : Values) (seen : Values → A) (keep : A → Boo
     own_old = sound.old own.id (omega (arith, total-append (has_id own.id) before (own ∷ after), has_same own))
 
     count_inner : new_counts (ids.Inner place) ≡ line.factor
-    count_inner = with_same (ids.Inner place) line.factor (with (ids.Outer place) (rounds (counts own.id) line.factor) counts)
+    count_inner = with_same (ids.Inner place) line.factor (with (ids.Outer place) (outer_extent (counts own.id) line.factor) counts)
 
-    count_outer : new_counts (ids.Outer place) ≡ rounds (counts own.id) line.factor
-    count_outer = with_same (ids.Outer place) (rounds (counts own.id) line.factor) counts
+    count_outer : new_counts (ids.Outer place) ≡ outer_extent (counts own.id) line.factor
+    count_outer = with_same (ids.Outer place) (outer_extent (counts own.id) line.factor) counts
 
     -- a loop that passes the test is a part, and then so does the loop that is split, or was there
     own_among : (id : LoopId) → IsAmong test (parts own place line) id → IsAmong test old_loops own.id
@@ -163,7 +163,7 @@ module _ (A : Type 0) (extents : Values) (seen : Values → A) (keep : A → Boo
       | inl e ↦ subst (λ (i : LoopId). with own.id (whole_of counts place split values) values i < counts i) (sym e)
           (omega (arith, with_same own.id (whole_of counts place split values) values))
       | inr d ↦
-          let none : has_id id own ≡ 0 = has_other id own (turned_id id own.id d) in
+          let none : has_id id own ≡ 0 = has_other id own (swapped_id id own.id d) in
           let r : values id < new_counts id = in_range id (omega (arith, total_parts (has_id id) before own after place line)) in
           omega (arith, with_other own.id (whole_of counts place split values) values id d, counts_old A counts place split id (sound.old id there))
     ]
@@ -266,7 +266,7 @@ module _ (A : Type 0) (extents : Values) (seen : Values → A) (keep : A → Boo
 
   -- ---- through all lines
 
-  -- whole variables alone are read, and what is filter has given values there
+  -- whole variables alone are read, and what is kept has given values there
   pub record Begins (test : Loop → Bool) (start : List Loop) (given : Values) : Type 0 where
     pub sound : Sound start []
     pub range : (id : LoopId) → IsAmong test start id → given id < extents id
@@ -310,7 +310,7 @@ module _ (A : Type 0) (extents : Values) (seen : Values → A) (keep : A → Boo
   leaf_on_old : ((one other : Values) → ((id : LoopId) → is_old 0 id ≡ true → one id ≡ other id) → seen one ≡ seen other) → OnOld 0 (λ values. seen values ∷ [])
   leaf_on_old whole one other same = ap (λ (a : A). a ∷ []) (whole one other same)
 
-  -- What is filter of the visits is what is filter of those of the first loops.
+  -- What is kept of the visits is what is kept of those of the first loops.
   pub record Ordered (start : List Loop) (loops : List Loop) (splits : List Split) : Type 0 where
     pub settled : Settled is_free loops splits
     pub same : (values : Values) → filter keep (nest (counts_of splits) loops (body_of splits) values)
@@ -325,8 +325,8 @@ module _ (A : Type 0) (extents : Values) (seen : Values → A) (keep : A → Boo
       let one : bare x ≡ bare y = cc in
       let rest : map bare xs ≡ map bare ys = cc in
       let id : x.id ≡ y.id = ap (λ (l : Loop). l.id) one in
-      ap (λ (i : LoopId). nest counts xs (λ outer. upto (counts i) (λ turn. body (with i turn outer))) values) id
-      ∙ nest_bare counts xs ys (λ outer. upto (counts y.id) (λ turn. body (with y.id turn outer))) rest values
+      ap (λ (i : LoopId). nest counts xs (λ outer. upto (counts i) (λ iteration. body (with i iteration outer))) values) id
+      ∙ nest_bare counts xs ys (λ outer. upto (counts y.id) (λ iteration. body (with y.id iteration outer))) rest values
 
   pub ordered_stays : (start : List Loop) (given : Values) → IsPassedOn true is_free → Begins is_free start given
       → ((one other : Values) → ((id : LoopId) → is_old 0 id ≡ true → one id ≡ other id) → seen one ≡ seen other) → Stays true start (Ordered start)

@@ -1,4 +1,4 @@
--- Iterations of the parallel loop are turns of the outermost one.
+-- Iterations of the parallel loop are iterations of the outermost one.
 use Rattle.std.proofs.Common.{◌≡◌, ◌≢◌, ℕ, ◌<◌, Bool, true, false, not, cond, List, [], ◌∷◌, ◌++◌, ◌==◌, Option, Some, None, refl, sym, ap, subst, ◌∙◌, arith}
 use Rattle.std.proofs.Common.{inl, inr}
 use Rattle.std.specs.Prelude.{◌&&◌, ◌||◌, is_some}
@@ -17,10 +17,10 @@ use Rattle.schedule.specs.Accepted.{keeps}
 use Rattle.schedule.specs.Legal.{breaks, is_empty}
 use Rattle.schedule_loops.specs.declared.extents.Extents.{Extents}
 use Rattle.schedule_loops.specs.Visits.{Values, with, whole_counts, counts, upto, nest, split_bodies, over_loops, zeros, Visit, is_slice, slice, visit_of}
-use Rattle.schedule_loops.specs.Visits.{visits, parallel, count_of, iteration_count, is_turn, iteration, in_turn, IsOrder, HasOwner}
+use Rattle.schedule_loops.specs.Visits.{visits, parallel, count_of, iteration_count, is_iteration_of, visits_in, in_order, IsOrder, HasOwner}
 use Rattle.schedule_loops.specs.Stages.{first_loops, is_slice_of, IsStageOf, KeepsRules}
-use Rattle.schedule_loops.proofs.Turns.{upto_same, upto_one, upto_nil, first_turn, filter-upto}
-use Rattle.schedule_loops.proofs.Ids.{cases_id, with_same, with_other, turned_id}
+use Rattle.schedule_loops.proofs.Iterations.{upto_same, upto_one, upto_nil, first_iteration, filter-upto}
+use Rattle.schedule_loops.proofs.Ids.{cases_id, with_same, with_other, swapped_id}
 use Rattle.schedule_loops.proofs.Nesting.{has_id, has_same}
 use Rattle.schedule_loops.proofs.Selecting.{is_free, Unique}
 use Rattle.schedule_loops.proofs.Making.{total-append, by_making}
@@ -111,19 +111,19 @@ outermost stage own legal found =
     let u : not own.is_from_shift ≡ true = unshifted legal.0 l.inside own l.marked (kept rules_of.ParallelUnshifted) in
     record { last = l; steady = ap (λ (b : Bool). b && not own.is_from_shift) f ∙ u }
 
--- ---- an iteration is a turn of it
+-- ---- an iteration is an iteration of it
 
 -- bodies that list the same while a loop outside has a value
 nest_same_at : {A : Type 0} (counts : Values) (loops : List Loop) (f g : Values → List A) (id : LoopId) (n : ℕ) → total (has_id id) loops ≡ 0
     → ((values : Values) → values id ≡ n → f values ≡ g values) → (values : Values) → values id ≡ n → nest counts loops f values ≡ nest counts loops g values
 nest_same_at counts [] f g id n outside same values is = same values is
 nest_same_at counts (own ∷ loops) f g id n outside same values is =
-    nest_same_at counts loops (λ outer. upto (counts own.id) (λ turn. f (with own.id turn outer))) (λ outer. upto (counts own.id)
-    (λ turn. g (with own.id turn outer))) id n (omega arith)
-    (λ outer here. upto_same (counts own.id) (λ turn. f (with own.id turn outer)) (λ turn. g (with own.id turn outer)) (λ turn l.
-    same (with own.id turn outer) (elim (cases_id own.id id) [
+    nest_same_at counts loops (λ outer. upto (counts own.id) (λ iteration. f (with own.id iteration outer))) (λ outer. upto (counts own.id)
+    (λ iteration. g (with own.id iteration outer))) id n (omega arith)
+    (λ outer here. upto_same (counts own.id) (λ iteration. f (with own.id iteration outer)) (λ iteration. g (with own.id iteration outer)) (λ iteration l.
+    same (with own.id iteration outer) (elim (cases_id own.id id) [
       | inl e ↦ let one : has_id id own ≡ 1 = ap (λ (i : LoopId). has_id i own) (sym e) ∙ has_same own in absurd (omega arith)
-      | inr d ↦ with_other own.id turn outer id (turned_id own.id id d) ∙ here
+      | inr d ↦ with_other own.id iteration outer id (swapped_id own.id id d) ∙ here
     ])))
     values is
 
@@ -134,19 +134,19 @@ module _ {A : Type 0} (counts : Values) (inside : List Loop) (own : Loop) (body 
   outside_all : total (has_id own.id) inside ≡ 0
   outside_all = omega (arith, unique own.id, total-append (has_id own.id) inside (own ∷ []), has_same own)
 
-  turn_here : (n : ℕ) (values : Values) → values own.id ≡ n → only_in n values ≡ body values
-  turn_here n values e = ap (λ (b : Bool). cond b (body values) []) (eq-eqb (values own.id) n e)
+  iteration_here : (n : ℕ) (values : Values) → values own.id ≡ n → only_in n values ≡ body values
+  iteration_here n values e = ap (λ (b : Bool). cond b (body values) []) (eq-eqb (values own.id) n e)
 
-  turn_away : (n turn : ℕ) → turn ≢ n → (values : Values) → values own.id ≡ turn → only_in n values ≡ []
-  turn_away n turn d values e = ap (λ (b : Bool). cond b (body values) []) (ne_eqb (values own.id) n (λ same. d (sym e ∙ same)))
+  iteration_away : (n iteration : ℕ) → iteration ≢ n → (values : Values) → values own.id ≡ iteration → only_in n values ≡ []
+  iteration_away n iteration d values e = ap (λ (b : Bool). cond b (body values) []) (ne_eqb (values own.id) n (λ same. d (sym e ∙ same)))
 
-  pub turn_is : (n : ℕ) → n < counts own.id → nest counts (inside ++ own ∷ []) (only_in n) zeros ≡ task counts inside own.id body zeros n
-  turn_is n l =
+  pub iteration_is : (n : ℕ) → n < counts own.id → nest counts (inside ++ own ∷ []) (only_in n) zeros ≡ task counts inside own.id body zeros n
+  iteration_is n l =
       tasks_are counts inside own (only_in n) zeros
       ∙ upto_one (counts own.id) n (task counts inside own.id (only_in n) zeros) l
-      (λ turn lt d. nest_none counts inside (only_in n) own.id turn outside_all (λ values in_range here. turn_away n turn d values here)
-      (with own.id turn zeros) (with_same own.id turn zeros))
-      ∙ nest_same_at counts inside (only_in n) body own.id n outside_all (turn_here n) (with own.id n zeros) (with_same own.id n zeros)
+      (λ iteration lt d. nest_none counts inside (only_in n) own.id iteration outside_all (λ values in_range here. iteration_away n iteration d values here)
+      (with own.id iteration zeros) (with_same own.id iteration zeros))
+      ∙ nest_same_at counts inside (only_in n) body own.id n outside_all (iteration_here n) (with own.id n zeros) (with_same own.id n zeros)
 
 -- ---- iterations of a stage
 
@@ -169,9 +169,9 @@ module _ (func : Func) (update : Option Update) (extents : Extents) (stage : Sta
 
   -- an iteration in the words of the first loops, for a loop that is the parallel one
   iteration_seen : (own : Loop) → parallel stage ≡ Some own → (n : ℕ)
-      → iteration extents stage n ≡ nest cs stage.loops (λ v. cond (v own.id == n) (seen_body v) []) zeros
+      → visits_in extents stage n ≡ nest cs stage.loops (λ v. cond (v own.id == n) (seen_body v) []) zeros
   iteration_seen own found n =
-      ap (λ (p : Option Loop). nest cs stage.loops (λ v. cond (is_turn p n v) (whole_body v) []) zeros) found
+      ap (λ (p : Option Loop). nest cs stage.loops (λ v. cond (is_iteration_of p n v) (whole_body v) []) zeros) found
       ∙ nest_rests start cs stage.loops (λ v. cond (v own.id == n) (whole_body v) []) (λ v. cond (v own.id == n) (seen_body v) []) (leaves (plain func update)
       is.made).loops_apart
       (λ values rests. ap (λ (xs : List Visit). cond (values own.id == n) xs []) (bodies_same values rests)) zeros (zeros_rest start)
@@ -195,21 +195,21 @@ module _ (func : Func) (update : Option Update) (extents : Extents) (stage : Sta
     one_loop : Unique (inside ++ own ∷ [])
     one_loop = (sound_made (plain func update) made).unique
 
-    -- an iteration is the nest inside the parallel loop, in a turn of that
-    pub iteration_is_task : (n : ℕ) → n < cs own.id → iteration extents stage n ≡ task cs inside own.id seen_body zeros n
+    -- an iteration is the nest inside the parallel loop, in an iteration of that
+    pub iteration_is_task : (n : ℕ) → n < cs own.id → visits_in extents stage n ≡ task cs inside own.id seen_body zeros n
     iteration_is_task n l =
         iteration_seen own found n
         ∙ ap (λ (ls : List Loop). nest cs ls (λ v. cond (v own.id == n) (seen_body v) []) zeros) out.last.loops_are
-        ∙ turn_is cs inside own seen_body one_loop n l
+        ∙ iteration_is cs inside own seen_body one_loop n l
 
-    visits_are : visits extents stage ≡ upto (cs own.id) (iteration extents stage)
+    visits_are : visits extents stage ≡ upto (cs own.id) (visits_in extents stage)
     visits_are =
         visits_seen func update extents stage is
         ∙ ap (λ (ls : List Loop). nest cs ls seen_body zeros) out.last.loops_are
         ∙ tasks_are cs inside own seen_body zeros
-        ∙ sym (upto_same (cs own.id) (iteration extents stage) (task cs inside own.id seen_body zeros) iteration_is_task)
+        ∙ sym (upto_same (cs own.id) (visits_in extents stage) (task cs inside own.id seen_body zeros) iteration_is_task)
 
-    owner : (x y : ℕ) → is_slice_of func update extents x y ≡ true → HasOwner (cs own.id) (iteration extents stage) x y
+    owner : (x y : ℕ) → is_slice_of func update extents x y ≡ true → HasOwner (cs own.id) (visits_in extents stage) x y
     owner x y there =
         let s = settled x y there in
         record {
@@ -221,60 +221,60 @@ module _ (func : Func) (update : Option Update) (extents : Extents) (stage : Sta
 
   -- ---- with a parallel loop or without
 
-  visits_at : KeepsRules stage → (par : Option Loop) → parallel stage ≡ par → visits extents stage ≡ upto (count_of cs par) (iteration extents stage)
+  visits_at : KeepsRules stage → (par : Option Loop) → parallel stage ≡ par → visits extents stage ≡ upto (count_of cs par) (visits_in extents stage)
   visits_at legal None e =
-      ap (λ (p : Option Loop). nest cs stage.loops (λ v. cond (is_turn p 0 v) (whole_body v) []) zeros) (sym e)
-      ∙ first_turn (iteration extents stage)
+      ap (λ (p : Option Loop). nest cs stage.loops (λ v. cond (is_iteration_of p 0 v) (whole_body v) []) zeros) (sym e)
+      ∙ first_iteration (visits_in extents stage)
   visits_at legal (Some own) e = visits_are own e (outermost stage own legal e)
 
   -- the iterations in rising order are all that the stage visits
-  pub all_iterations : KeepsRules stage → visits extents stage ≡ upto (iteration_count extents stage) (iteration extents stage)
+  pub all_iterations : KeepsRules stage → visits extents stage ≡ upto (iteration_count extents stage) (visits_in extents stage)
   all_iterations legal = visits_at legal (parallel stage) refl
 
   owner_at : KeepsRules stage → (x y : ℕ) → is_slice_of func update extents x y ≡ true → (par : Option Loop) → parallel stage ≡ par
-      → HasOwner (count_of cs par) (iteration extents stage) x y
+      → HasOwner (count_of cs par) (visits_in extents stage) x y
   owner_at legal x y there None e = record { owner = 0; is_iteration = omega arith; no_other = λ n l d. absurd (omega (arith, l, d)) }
   owner_at legal x y there (Some own) e = owner own e (outermost stage own legal e) x y there
 
   -- each slice belongs to one iteration
   pub slice_owner : KeepsRules stage → (x y : ℕ) → is_slice_of func update extents x y ≡ true
-      → HasOwner (iteration_count extents stage) (iteration extents stage) x y
+      → HasOwner (iteration_count extents stage) (visits_in extents stage) x y
   slice_owner legal x y there = owner_at legal x y there (parallel stage) refl
 
   slices_of_all : KeepsRules stage → (x y : ℕ) → slice x y (visits extents stage) ≡ upto (iteration_count extents stage)
-      (λ n. slice x y (iteration extents stage n))
-  slices_of_all legal x y = ap (slice x y) (all_iterations legal) ∙ filter-upto (is_slice x y) (iteration_count extents stage) (iteration extents stage)
+      (λ n. slice x y (visits_in extents stage n))
+  slices_of_all legal x y = ap (slice x y) (all_iterations legal) ∙ filter-upto (is_slice x y) (iteration_count extents stage) (visits_in extents stage)
 
   ordered_at : KeepsRules stage → (order : List ℕ) → IsOrder (iteration_count extents stage) order → (x y : ℕ) → (there : Bool)
       → is_slice_of func update extents x y ≡ there
-      → slice x y (in_turn (iteration extents stage) order) ≡ slice x y (visits extents stage)
+      → slice x y (in_order (visits_in extents stage) order) ≡ slice x y (visits extents stage)
   ordered_at legal order is_order x y true e =
       let o = slice_owner legal x y e in
-      any_order (is_slice x y) (iteration extents stage) (iteration_count extents stage) o.owner order is_order o.is_iteration o.no_other
+      any_order (is_slice x y) (visits_in extents stage) (iteration_count extents stage) o.owner order is_order o.is_iteration o.no_other
       ∙ ap (slice x y) (sym (all_iterations legal))
   ordered_at legal order is_order x y false e =
       let none : slice x y (visits extents stage) ≡ [] = slice_away func update extents x y e (visits extents stage) (visits_within func update extents stage
       is) in
-      any_order_none (is_slice x y) (iteration extents stage) (iteration_count extents stage) order is_order
-      (upto_nil (iteration_count extents stage) (λ n. slice x y (iteration extents stage n)) (sym (slices_of_all legal x y) ∙ none))
+      any_order_none (is_slice x y) (visits_in extents stage) (iteration_count extents stage) order is_order
+      (upto_nil (iteration_count extents stage) (λ n. slice x y (visits_in extents stage n)) (sym (slices_of_all legal x y) ∙ none))
       ∙ sym none
 
   -- in any order they visit each slice as the stage does
   pub in_any_order : KeepsRules stage → (order : List ℕ) → IsOrder (iteration_count extents stage) order → (x y : ℕ)
-      → slice x y (in_turn (iteration extents stage) order) ≡ slice x y (visits extents stage)
+      → slice x y (in_order (visits_in extents stage) order) ≡ slice x y (visits extents stage)
   in_any_order legal order is_order x y = ordered_at legal order is_order x y (is_slice_of func update extents x y) refl
 
 -- An iteration is the nest inside the parallel loop.
-pub iteration_turn : (func : Func) (update : Option Update) (extents : Extents) (stage : Stage) (inside : List Loop) (own : Loop) → IsStageOf func update stage
+pub iteration_visits : (func : Func) (update : Option Update) (extents : Extents) (stage : Stage) (inside : List Loop) (own : Loop) → IsStageOf func update stage
     → stage.loops ≡ inside ++ own ∷ [] → parallel stage ≡ Some own
     → (number : ℕ) → number < counts extents stage.splits own.id
-    → iteration extents stage number ≡ nest (counts extents stage.splits) inside (over_loops extents stage.splits (λ whole. visit_of extents whole ∷ []))
+    → visits_in extents stage number ≡ nest (counts extents stage.splits) inside (over_loops extents stage.splits (λ whole. visit_of extents whole ∷ []))
     (with own.id number zeros)
-iteration_turn func update extents stage inside own is loops_are found number l =
+iteration_visits func update extents stage inside own is loops_are found number l =
     let cs : Values = counts extents stage.splits in
     let body : Values → List Visit = over_loops extents stage.splits (λ whole. visit_of extents whole ∷ []) in
     let made : IsMade (is_some update) (first_loops func update) (inside ++ own ∷ []) stage.splits = subst (λ (ls : List Loop). IsMade (is_some update)
     (first_loops func update) ls stage.splits) loops_are is.made in
-    ap (λ (p : Option Loop). nest cs stage.loops (λ v. cond (is_turn p number v) (body v) []) zeros) found
+    ap (λ (p : Option Loop). nest cs stage.loops (λ v. cond (is_iteration_of p number v) (body v) []) zeros) found
     ∙ ap (λ (ls : List Loop). nest cs ls (λ v. cond (v own.id == number) (body v) []) zeros) loops_are
-    ∙ turn_is cs inside own body (sound_made (plain func update) made).unique number l
+    ∙ iteration_is cs inside own body (sound_made (plain func update) made).unique number l

@@ -12,8 +12,8 @@ use Rattle.schedule_lines.specs.Making.{total, IsMade}
 use Rattle.schedule_loops.specs.declared.extents.Extents.{Extents}
 use Rattle.schedule_loops.specs.Visits.{Values, with, more_counts, upto, nest, whole_of, split_body, split_bodies, Visit, visit_of}
 use Rattle.schedule_loops.specs.Stages.{has_variable}
-use Rattle.schedule_loops.proofs.Turns.{upto_same}
-use Rattle.schedule_loops.proofs.Ids.{cases_id, with_other, turned_id}
+use Rattle.schedule_loops.proofs.Iterations.{upto_same}
+use Rattle.schedule_loops.proofs.Ids.{cases_id, with_other, swapped_id}
 use Rattle.schedule_loops.proofs.Nesting.{has_id, has_same}
 use Rattle.schedule_loops.proofs.Making.{Stays, by_making, split_by, total-append, total_parts, bare_total}
 use Rattle.schedule_loops.proofs.FirstLoops.{Plain, absent}
@@ -79,7 +79,7 @@ pub record Leaves (start loops : List Loop) (splits : List Split) : Type 0 where
 pub not_among : (id : LoopId) (own : Loop) (count : ℕ) → has_id id own + count ≡ 0 → same_id id own.id ≡ false
 not_among id own count none = elim (cases_id own.id id) [
   | inl e ↦ let one : has_id id own ≡ 1 = ap (λ (i : LoopId). has_id i own) (sym e) ∙ has_same own in absurd (omega arith)
-  | inr d ↦ turned_id own.id id d
+  | inr d ↦ swapped_id own.id id d
 ]
 
 parted_apart : (v : Variable) (before : List Loop) (own : Loop) (after : List Loop) → total (has_id (ids.Whole v)) (before ++ own ∷ after) ≡ 0
@@ -137,9 +137,9 @@ pub nest_rests : {A : Type 0} (start : List Loop) (counts : Values) (loops : Lis
     → SameAtRest start f g → SameAtRest start (nest counts loops f) (nest counts loops g)
 nest_rests start counts [] f g apart same = same
 nest_rests start counts (own ∷ outside) f g apart same =
-    nest_rests start counts outside (λ outer. upto (counts own.id) (λ turn. f (with own.id turn outer))) (λ outer. upto (counts own.id)
-    (λ turn. g (with own.id turn outer)))
+    nest_rests start counts outside (λ outer. upto (counts own.id) (λ iteration. f (with own.id iteration outer))) (λ outer. upto (counts own.id)
+    (λ iteration. g (with own.id iteration outer)))
     (λ v none. omega (arith, apart v none))
-    (λ outer rests. upto_same (counts own.id) (λ turn. f (with own.id turn outer)) (λ turn. g (with own.id turn outer))
-    (λ turn l. same (with own.id turn outer) (rests_with start own.id turn outer (λ v none. not_among (ids.Whole v) own (total (has_id (ids.Whole v)) outside)
+    (λ outer rests. upto_same (counts own.id) (λ iteration. f (with own.id iteration outer)) (λ iteration. g (with own.id iteration outer))
+    (λ iteration l. same (with own.id iteration outer) (rests_with start own.id iteration outer (λ v none. not_among (ids.Whole v) own (total (has_id (ids.Whole v)) outside)
     (apart v none)) rests)))

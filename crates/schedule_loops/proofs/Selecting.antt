@@ -1,4 +1,4 @@
--- A nest of whose loops those outside reductions list something in one turn alone.
+-- A nest of whose loops those outside reductions list something in one iteration alone.
 use Rattle.std.proofs.Common.{◌≡◌, ◌≢◌, ℕ, ◌<◌, ◌≤◌, Bool, true, false, not, cond, List, [], ◌∷◌, refl, sym, ap, subst, ◌∙◌, arith, inl, inr}
 use Rattle.std.specs.Prelude.{◌&&◌, if◌then◌else◌}
 use Rattle.std.proofs.lemmas.Bool.{cases_eq}
@@ -7,8 +7,8 @@ use Rattle.schedule_lines.specs.declared.stages.LoopId.{LoopId}
 use Rattle.schedule_lines.specs.Directives.{same_id, is_reduction, reductions}
 use Rattle.schedule_lines.specs.Making.{total, SameLoops}
 use Rattle.schedule_loops.specs.Visits.{Values, with, upto, nest}
-use Rattle.schedule_loops.proofs.Turns.{upto_same, upto_none, upto_one}
-use Rattle.schedule_loops.proofs.Ids.{cases_id, turned_id, with_same, with_other, same_id-self}
+use Rattle.schedule_loops.proofs.Iterations.{upto_same, upto_none, upto_one}
+use Rattle.schedule_loops.proofs.Ids.{cases_id, swapped_id, with_same, with_other, same_id-self}
 use Rattle.schedule_loops.proofs.Nesting.{has_id, has_same, InRange, in_range_more, nest_same}
 
 -- 1 for the loop that is this one, if it passes a test
@@ -38,7 +38,7 @@ among_has test id (own ∷ others) = omega (arith, one_has test id own, among_ha
 
 abbrev pub nest_ids : {A : Type 0} → Values → List LoopId → (Values → List A) → Values → List A
 nest_ids counts [] body values = body values
-nest_ids counts (id ∷ outside) body values = nest_ids counts outside (λ outer. upto (counts id) (λ turn. body (with id turn outer))) values
+nest_ids counts (id ∷ outside) body values = nest_ids counts outside (λ outer. upto (counts id) (λ iteration. body (with id iteration outer))) values
 
 -- What a body lists depends on each loop's value alone.
 abbrev pub OnValues : {A : Type 0} → (Values → List A) → Type 0
@@ -48,24 +48,24 @@ with_same_values : (id : LoopId) (n : ℕ) (one other : Values) → ((i : LoopId
 with_same_values id n one other same i = ap (λ (m : ℕ). cond (same_id i id) n m) (same i)
 
 pub on_values_more : {A : Type 0} (counts : Values) (id : LoopId) (body : Values → List A) → OnValues body
-    → OnValues (λ outer. upto (counts id) (λ turn. body (with id turn outer)))
+    → OnValues (λ outer. upto (counts id) (λ iteration. body (with id iteration outer)))
 on_values_more counts id body on one other same =
-    upto_same (counts id) (λ turn. body (with id turn one)) (λ turn. body (with id turn other)) (λ turn l. on (with id turn one) (with id turn other)
-    (with_same_values id turn one other same))
+    upto_same (counts id) (λ iteration. body (with id iteration one)) (λ iteration. body (with id iteration other)) (λ iteration l. on (with id iteration one) (with id iteration other)
+    (with_same_values id iteration one other same))
 
 on_values_with : {A : Type 0} (id : LoopId) (n : ℕ) (body : Values → List A) → OnValues body → OnValues (λ v. body (with id n v))
 on_values_with id n body on one other same = on (with id n one) (with id n other) (with_same_values id n one other same)
 
 pub ids_values : {A : Type 0} (counts : Values) (ids : List LoopId) (body : Values → List A) → OnValues body → OnValues (nest_ids counts ids body)
 ids_values counts [] body on = on
-ids_values counts (id ∷ ids) body on = ids_values counts ids (λ outer. upto (counts id) (λ turn. body (with id turn outer))) (on_values_more counts id body on)
+ids_values counts (id ∷ ids) body on = ids_values counts ids (λ outer. upto (counts id) (λ iteration. body (with id iteration outer))) (on_values_more counts id body on)
 
 ids_same : {A : Type 0} (counts : Values) (ids : List LoopId) (f g : Values → List A) → ((v : Values) → f v ≡ g v) → (v : Values)
     → nest_ids counts ids f v ≡ nest_ids counts ids g v
 ids_same counts [] f g same v = same v
 ids_same counts (id ∷ ids) f g same v =
-    ids_same counts ids (λ outer. upto (counts id) (λ turn. f (with id turn outer))) (λ outer. upto (counts id) (λ turn. g (with id turn outer)))
-    (λ outer. upto_same (counts id) (λ turn. f (with id turn outer)) (λ turn. g (with id turn outer)) (λ turn l. same (with id turn outer))) v
+    ids_same counts ids (λ outer. upto (counts id) (λ iteration. f (with id iteration outer))) (λ outer. upto (counts id) (λ iteration. g (with id iteration outer)))
+    (λ outer. upto_same (counts id) (λ iteration. f (with id iteration outer)) (λ iteration. g (with id iteration outer)) (λ iteration l. same (with id iteration outer))) v
 
 abbrev Without : LoopId → List LoopId → Type 0
 Without id [] = Unit {0}
@@ -84,12 +84,12 @@ given_outside : {A : Type 0} (counts : Values) (ids : List LoopId) (id : LoopId)
     → (values : Values) → nest_ids counts ids (λ v. body (with id n v)) values ≡ nest_ids counts ids body (with id n values)
 given_outside counts [] id n body on without values = refl
 given_outside counts (first ∷ ids) id n body on without values =
-    ids_same counts ids (λ outer. upto (counts first) (λ turn. body (with id n (with first turn outer)))) (λ outer. upto (counts first)
-    (λ turn. body (with first turn (with id n outer))))
-    (λ outer. upto_same (counts first) (λ turn. body (with id n (with first turn outer))) (λ turn. body (with first turn (with id n outer)))
-    (λ turn l. on (with id n (with first turn outer)) (with first turn (with id n outer)) (with_swapped id first n turn outer (turned_id first id without.0))))
+    ids_same counts ids (λ outer. upto (counts first) (λ iteration. body (with id n (with first iteration outer)))) (λ outer. upto (counts first)
+    (λ iteration. body (with first iteration (with id n outer))))
+    (λ outer. upto_same (counts first) (λ iteration. body (with id n (with first iteration outer))) (λ iteration. body (with first iteration (with id n outer)))
+    (λ iteration l. on (with id n (with first iteration outer)) (with first iteration (with id n outer)) (with_swapped id first n iteration outer (swapped_id first id without.0))))
     values
-    ∙ given_outside counts ids id n (λ outer. upto (counts first) (λ turn. body (with first turn outer))) (on_values_more counts first body on) without.1 values
+    ∙ given_outside counts ids id n (λ outer. upto (counts first) (λ iteration. body (with first iteration outer))) (on_values_more counts first body on) without.1 values
 
 -- ---- loops outside reductions have given values
 
@@ -150,9 +150,9 @@ module _ (A : Type 0) (counts given : Values) where
   selected_at : (test : Bool) (own : Loop) (others : List Loop) → is_reduction own.variable ≡ test → Selected others → Selected (own ∷ others)
   selected_at true own others is later body unique on range only values =
       rw is
-      (later (λ outer. upto (counts own.id) (λ turn. body (with own.id turn outer))) (unique_less own others unique) (on_values_more counts own.id body on)
+      (later (λ outer. upto (counts own.id) (λ iteration. body (with own.id iteration outer))) (unique_less own others unique) (on_values_more counts own.id body on)
       (λ id there. range id (among_more is_free own others id there))
-      (λ v in_range id there d. upto_none (counts own.id) (λ turn. body (with own.id turn v)) (λ turn l. only_given counts own others given body turn l unique
+      (λ v in_range id there d. upto_none (counts own.id) (λ iteration. body (with own.id iteration v)) (λ iteration l. only_given counts own others given body iteration l unique
       only v in_range id there d))
       values)
   selected_at false own others is later body unique on range only values =
@@ -161,9 +161,9 @@ module _ (A : Type 0) (counts given : Values) where
       let l : given own.id < counts own.id = range own.id here in
       let none : total (has_id own.id) others ≡ 0 = omega (arith, unique own.id, has_same own) in
       rw is
-      (nest_same counts others (λ outer. upto (counts own.id) (λ turn. body (with own.id turn outer))) (λ v. body (with own.id (given own.id) v))
-      (λ v in_range. upto_one (counts own.id) (given own.id) (λ turn. body (with own.id turn v)) l
-      (λ turn lt d. only (with own.id turn v) (in_range_more counts own others v turn in_range lt) own.id here (λ e. d (sym (with_same own.id turn v) ∙ e))))
+      (nest_same counts others (λ outer. upto (counts own.id) (λ iteration. body (with own.id iteration outer))) (λ v. body (with own.id (given own.id) v))
+      (λ v in_range. upto_one (counts own.id) (given own.id) (λ iteration. body (with own.id iteration v)) l
+      (λ iteration lt d. only (with own.id iteration v) (in_range_more counts own others v iteration in_range lt) own.id here (λ e. d (sym (with_same own.id iteration v) ∙ e))))
       values
       ∙ later (λ v. body (with own.id (given own.id) v)) (unique_less own others unique) (on_values_with own.id (given own.id) body on)
       (λ id there. range id (among_more is_free own others id there))
@@ -209,7 +209,7 @@ fills_at false given own others values id is later = elim (cases_id own.id id) [
   | inr d ↦
       let none : is_one is_free id own ≡ 0 = one_other is_free id own d in
       let here : with own.id (given own.id) (filled given others values) id ≡ filled given others values id = with_other own.id (given own.id)
-      (filled given others values) id (turned_id own.id id d) in
+      (filled given others values) id (swapped_id own.id id d) in
       (λ there. rw is (here ∙ later.0 (omega arith)), λ there. rw is (here ∙ later.1 (omega arith)))
 ]
 

@@ -18,7 +18,7 @@ use Rattle.schedule.specs.Plans.{with_loop, with_second}
 use Rattle.schedule_loops.specs.declared.extents.Extents.{Extents}
 use Rattle.schedule_loops.specs.Visits.{Values, with, whole_counts, counts_from, upto, nest, split_bodies, zeros, Visit, visit_of, visits}
 use Rattle.schedule_loops.specs.Stages.{has_variable, first_loops, extent_in, points_of, is_slice_of, IsStageOf, IsVisitOf}
-use Rattle.schedule_loops.proofs.Turns.{upto_none}
+use Rattle.schedule_loops.proofs.Iterations.{upto_none}
 use Rattle.schedule_loops.proofs.Nesting.{InRange, nest_same, filter-nest}
 use Rattle.schedule_loops.proofs.Making.{by_making}
 use Rattle.schedule_loops.proofs.Order.{Quiet, quiet_stays}
@@ -145,8 +145,8 @@ nothing values = []
 nest_empty : {A : Type 0} (counts : Values) (loops : List Loop) (values : Values) → nest {A = A} counts loops nothing values ≡ []
 nest_empty counts [] values = refl
 nest_empty {A} counts (own ∷ outside) values =
-    nest_same counts outside (λ outer. upto (counts own.id) (λ turn. nothing {A = A} (with own.id turn outer))) (nothing {A = A}) (λ outer in_range. upto_none
-    (counts own.id) (λ turn. nothing {A = A} (with own.id turn outer)) (λ turn l. refl)) values
+    nest_same counts outside (λ outer. upto (counts own.id) (λ iteration. nothing {A = A} (with own.id iteration outer))) (nothing {A = A}) (λ outer in_range. upto_none
+    (counts own.id) (λ iteration. nothing {A = A} (with own.id iteration outer)) (λ iteration l. refl)) values
     ∙ nest_empty {A = A} counts outside values
 
 pub nest_quiet : {A : Type 0} (extents : Values) (seen : Values → A) (keep : A → Bool) (loops : List Loop) (splits : List Split)
@@ -163,7 +163,7 @@ all_at : {A : Type 0} (P : A → Type 0) (passes : A → Bool) → ((x : A) → 
 all_at P passes holds x xs true e later none = (holds x e, later none)
 all_at P passes holds x xs false e later none = cc
 
--- where nothing is filter that fails a test, all pass it
+-- where nothing is kept that fails a test, all pass it
 pub all_pass : {A : Type 0} (P : A → Type 0) (passes : A → Bool) → ((x : A) → passes x ≡ true → P x) → (xs : List A) → filter (λ y. not (passes y)) xs ≡ []
     → AllByRecursion P xs
 all_pass P passes holds [] none = tt

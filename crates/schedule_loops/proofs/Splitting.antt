@@ -7,9 +7,9 @@ use Rattle.schedule_lines.specs.declared.stages.LoopId.TheVariants as ids
 use Rattle.schedule_lines.specs.declared.stages.Split.{Split}
 use Rattle.schedule_lines.specs.declared.stages.Tail.TheVariants as tails
 use Rattle.schedule_lines.specs.Directives.{same_id}
-use Rattle.schedule_loops.specs.Visits.{Values, with, rounds, more_counts, upto, nest, whole_of, split_body}
-use Rattle.schedule_loops.proofs.Turns.{upto_same, upto_none, upto_guard}
-use Rattle.schedule_loops.proofs.Ids.{cases_id, same_id-self, is_old, old_apart, outer_new, inner_new, turned_id, with_same, with_other}
+use Rattle.schedule_loops.specs.Visits.{Values, with, outer_extent, more_counts, upto, nest, whole_of, split_body}
+use Rattle.schedule_loops.proofs.Iterations.{upto_same, upto_none, upto_guard}
+use Rattle.schedule_loops.proofs.Ids.{cases_id, same_id-self, is_old, old_apart, outer_new, inner_new, swapped_id, with_same, with_other}
 use Rattle.schedule_loops.proofs.Nesting.{nest_same, nest-append, nest_counts, SameCounts}
 
 -- What a body lists depends on the values of old loops alone.
@@ -25,8 +25,8 @@ upto_cond : {A : Type 0} (test : Bool) (n : ℕ) (f : ℕ → List A) → upto n
 upto_cond true n f = refl
 upto_cond {A} false n f = upto_none n (λ v. []) (λ v l. refl)
 
-pub rounds_reach : (extent factor : ℕ) → 1 ≤ factor → extent ≤ rounds extent factor * factor
-rounds_reach extent factor l = omega arith
+pub outer_extent_reaches : (extent factor : ℕ) → 1 ≤ factor → extent ≤ outer_extent extent factor * factor
+outer_extent_reaches extent factor l = omega arith
 
 module _ (A : Type 0) (counts : Values) (place : ℕ) (split : Split) where
   abbrev whole : Values → ℕ
@@ -42,23 +42,23 @@ module _ (A : Type 0) (counts : Values) (place : ℕ) (split : Split) where
 
   whole_with : (id : LoopId) (n : ℕ) (values : Values) → is_old place id ≡ true → whole (with id n values) ≡ whole values
   whole_with id n values old =
-      let o : with id n values (ids.Outer place) ≡ values (ids.Outer place) = with_other id n values (ids.Outer place) (turned_id id (ids.Outer place)
+      let o : with id n values (ids.Outer place) ≡ values (ids.Outer place) = with_other id n values (ids.Outer place) (swapped_id id (ids.Outer place)
       (old_apart place id (ids.Outer place) old (outer_new place))) in
-      let i : with id n values (ids.Inner place) ≡ values (ids.Inner place) = with_other id n values (ids.Inner place) (turned_id id (ids.Inner place)
+      let i : with id n values (ids.Inner place) ≡ values (ids.Inner place) = with_other id n values (ids.Inner place) (swapped_id id (ids.Inner place)
       (old_apart place id (ids.Inner place) old (inner_new place))) in
       rw (o, i) refl
 
   pub counts_old : (id : LoopId) → is_old place id ≡ true → new_counts id ≡ counts id
   counts_old id old =
-      with_other (ids.Inner place) split.factor (with (ids.Outer place) (rounds (counts split.of) split.factor) counts) id (old_apart place id (ids.Inner place)
+      with_other (ids.Inner place) split.factor (with (ids.Outer place) (outer_extent (counts split.of) split.factor) counts) id (old_apart place id (ids.Inner place)
       old (inner_new place))
-      ∙ with_other (ids.Outer place) (rounds (counts split.of) split.factor) counts id (old_apart place id (ids.Outer place) old (outer_new place))
+      ∙ with_other (ids.Outer place) (outer_extent (counts split.of) split.factor) counts id (old_apart place id (ids.Outer place) old (outer_new place))
 
   stands_with : (id : LoopId) (n : ℕ) (parts value : Values) → is_old place id ≡ true → same_id id split.of ≡ false → Stands parts value
       → Stands (with id n parts) (with id n value)
   stands_with id n parts value old other s = record {
     others = λ i i_old i_other. ap (λ (m : ℕ). cond (same_id i id) n m) (s.others i i_old i_other);
-    own = with_other id n value split.of (turned_id id split.of other) ∙ s.own ∙ sym (whole_with id n parts old);
+    own = with_other id n value split.of (swapped_id id split.of other) ∙ s.own ∙ sym (whole_with id n parts old);
   }
 
   -- a body over the parts does what one over the whole does, where that is below the extent
@@ -69,15 +69,15 @@ module _ (A : Type 0) (counts : Values) (place : ℕ) (split : Split) where
       → Parts (nest new_counts inside f) (nest counts inside g)
   parts_inside [] apart f g does = does
   parts_inside (own ∷ inside) apart f g does =
-      parts_inside inside apart.1 (λ outer. upto (new_counts own.id) (λ turn. f (with own.id turn outer))) (λ outer. upto (counts own.id)
-      (λ turn. g (with own.id turn outer)))
+      parts_inside inside apart.1 (λ outer. upto (new_counts own.id) (λ iteration. f (with own.id iteration outer))) (λ outer. upto (counts own.id)
+      (λ iteration. g (with own.id iteration outer)))
       (λ parts value s.
-      ap (λ (n : ℕ). upto n (λ turn. f (with own.id turn parts))) (counts_old own.id apart.0.0)
-      ∙ upto_same (counts own.id) (λ turn. f (with own.id turn parts)) (λ turn. cond (nat_lt (whole parts) (counts split.of)) (g (with own.id turn value)) [])
-      (λ turn l.
-      does (with own.id turn parts) (with own.id turn value) (stands_with own.id turn parts value apart.0.0 apart.0.1 s)
-      ∙ ap (λ (n : ℕ). cond (nat_lt n (counts split.of)) (g (with own.id turn value)) []) (whole_with own.id turn parts apart.0.0))
-      ∙ upto_cond (nat_lt (whole parts) (counts split.of)) (counts own.id) (λ turn. g (with own.id turn value)))
+      ap (λ (n : ℕ). upto n (λ iteration. f (with own.id iteration parts))) (counts_old own.id apart.0.0)
+      ∙ upto_same (counts own.id) (λ iteration. f (with own.id iteration parts)) (λ iteration. cond (nat_lt (whole parts) (counts split.of)) (g (with own.id iteration value)) [])
+      (λ iteration l.
+      does (with own.id iteration parts) (with own.id iteration value) (stands_with own.id iteration parts value apart.0.0 apart.0.1 s)
+      ∙ ap (λ (n : ℕ). cond (nat_lt n (counts split.of)) (g (with own.id iteration value)) []) (whole_with own.id iteration parts apart.0.0))
+      ∙ upto_cond (nat_lt (whole parts) (counts split.of)) (counts own.id) (λ iteration. g (with own.id iteration value)))
 
   split_parts : (body : Values → List A) → OnOld place body → Parts (split_body counts place split body) body
   split_parts body on_old parts value s =
@@ -110,19 +110,19 @@ module _ (A : Type 0) (counts : Values) (place : ℕ) (split : Split) where
       → upto (new_counts (ids.Outer place)) (λ o. upto (new_counts (ids.Inner place)) (λ i. f (with (ids.Inner place) i (with (ids.Outer place) o values))))
       ≡ upto (counts split.of) (λ v. g (with split.of v values))
   guard_at f g does guard some values =
-      let outer_count : new_counts (ids.Outer place) ≡ rounds (counts split.of) split.factor = rw (same_id-self (ids.Outer place)) refl in
+      let outer_count : new_counts (ids.Outer place) ≡ outer_extent (counts split.of) split.factor = rw (same_id-self (ids.Outer place)) refl in
       let inner_count : new_counts (ids.Inner place) ≡ split.factor = rw (same_id-self (ids.Inner place)) refl in
       ap (λ (n : ℕ). upto n (λ o. upto (new_counts (ids.Inner place)) (λ i. f (with (ids.Inner place) i (with (ids.Outer place) o values))))) outer_count
-      ∙ ap (λ (n : ℕ). upto (rounds (counts split.of) split.factor) (λ o. upto n (λ i. f (with (ids.Inner place) i (with (ids.Outer place) o values)))))
+      ∙ ap (λ (n : ℕ). upto (outer_extent (counts split.of) split.factor) (λ o. upto n (λ i. f (with (ids.Inner place) i (with (ids.Outer place) o values)))))
       inner_count
-      ∙ upto_same (rounds (counts split.of) split.factor) (λ o. upto split.factor (λ i. f (with (ids.Inner place) i (with (ids.Outer place) o values))))
+      ∙ upto_same (outer_extent (counts split.of) split.factor) (λ o. upto split.factor (λ i. f (with (ids.Inner place) i (with (ids.Outer place) o values))))
       (λ o. upto split.factor (λ i. cond (nat_lt (o * split.factor + i) (counts split.of)) (g (with split.of (o * split.factor + i) values)) []))
       (λ o lo. upto_same split.factor (λ i. f (with (ids.Inner place) i (with (ids.Outer place) o values)))
       (λ i. cond (nat_lt (o * split.factor + i) (counts split.of)) (g (with split.of (o * split.factor + i) values)) [])
       (λ i li.
       does (with (ids.Inner place) i (with (ids.Outer place) o values)) (with split.of (o * split.factor + i) values) (stands_own i o values guard)
       ∙ ap (λ (n : ℕ). cond (nat_lt n (counts split.of)) (g (with split.of (o * split.factor + i) values)) []) (whole_own i o values guard)))
-      ∙ upto_guard (counts split.of) (rounds (counts split.of) split.factor) split.factor (λ v. g (with split.of v values)) (rounds_reach (counts split.of)
+      ∙ upto_guard (counts split.of) (outer_extent (counts split.of) split.factor) split.factor (λ v. g (with split.of v values)) (outer_extent_reaches (counts split.of)
       split.factor some)
 
   same_counts : (loops : List Loop) → Apart place split.of loops → SameCounts new_counts counts loops

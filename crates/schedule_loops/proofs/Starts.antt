@@ -11,7 +11,7 @@ use Rattle.schedule_lines.specs.Directives.{same_id, is_shift}
 use Rattle.schedule_lines.specs.Making.{total}
 use Rattle.schedule_loops.specs.Visits.{Values, with, upto, nest, Visit, is_slice, rising}
 use Rattle.schedule_loops.specs.Stages.{has_variable}
-use Rattle.schedule_loops.proofs.Turns.{upto_same, upto-add, upto_split}
+use Rattle.schedule_loops.proofs.Iterations.{upto_same, upto-add, upto_split}
 use Rattle.schedule_loops.proofs.Nesting.{filter-nest}
 use Rattle.schedule_loops.proofs.Selecting.{fills, is_free, is_one, filled, nest_ids, selected}
 use Rattle.schedule_loops.proofs.Order.{IsPassedOn, Begins, guard_from}

@@ -1,4 +1,4 @@
--- Where uneven loops are in the same turns, the values of a variable differ as what its loops add.
+-- Where uneven loops are in the same iterations, the values of a variable differ as what its loops add.
 use Rattle.std.proofs.Common.{◌≡◌, ℕ, ◌+◌, ◌*◌, ◌<◌, ◌≤◌, Bool, true, false, cond, List, [], ◌∷◌, ◌++◌, length, Option, refl, sym, ap, subst, ◌∙◌, arith, inl}
 use Rattle.std.proofs.Common.{inr}
 use Rattle.std.specs.Prelude.{◌||◌, nat_lt}
@@ -19,9 +19,9 @@ use Rattle.schedule_loops.specs.declared.extents.Extents.{Extents}
 use Rattle.schedule_loops.specs.Visits.{Values, with, whole_counts, more_counts, counts_from, counts, whole_strides, more_strides, strides_from, more_uneven}
 use Rattle.schedule_loops.specs.Visits.{uneven_from, is_uneven, begin_of, whole_of, split_body, split_bodies, over_loops}
 use Rattle.schedule_loops.specs.Reach.{base, AgreeWhereUneven}
-use Rattle.schedule_loops.specs.Runs.{AreTurns}
+use Rattle.schedule_loops.specs.Runs.{AreIterations}
 use Rattle.schedule_loops.specs.Stages.{has_variable, first_loops, IsStageOf}
-use Rattle.schedule_loops.proofs.Ids.{is_old, old_apart, inner_new, outer_new, cases_id, with_same, with_other, same_of, other_of, turned_id}
+use Rattle.schedule_loops.proofs.Ids.{is_old, old_apart, inner_new, outer_new, cases_id, with_same, with_other, same_of, other_of, swapped_id}
 use Rattle.schedule_loops.proofs.Ids.{same_variable-true}
 use Rattle.schedule_loops.proofs.Nesting.{has_id, has_other, InRange}
 use Rattle.schedule_loops.proofs.Making.{Stays, by_making, Sound, sound_stays, split_by, total-append, parts_inner, parts_outer, total_parts, counts-more}
@@ -30,7 +30,7 @@ use Rattle.schedule_loops.proofs.Order.{whole_in_range, inner_part, outer_part}
 use Rattle.schedule_loops.proofs.FirstLoops.{Plain, plain, sound, once_sum}
 use Rattle.schedule_loops.proofs.Starts.{is_steady, steady_passed_on}
 use Rattle.schedule_loops.proofs.Linear.{even, strides-more, uneven-more, total_apart, times_sum, times_factor, begin_guard}
-use Rattle.schedule_loops.proofs.Bounded.{in_turns}
+use Rattle.schedule_loops.proofs.Bounded.{in_iterations}
 
 -- what a loop over the variable adds
 abbrev pub part : Variable → Values → Values → Loop → ℕ
@@ -40,7 +40,7 @@ some_of : {A : Type 0} (test : Bool) (xs : List A) (x : A) → cond test xs [] �
 some_of true xs x e = (refl, e)
 some_of false xs x e = cc
 
--- what the loops of a split add in one turn and in another, beside what the loop added that is split
+-- what the loops of a split add in one iteration and in another, beside what the loop added that is split
 parts_step : (same odd : Bool) (s f o p i j b c : ℕ) → (odd ≡ true → (o ≡ p) × (b ≡ c)) → (odd ≡ false → (b ≡ o * f) × (c ≡ p * f))
     → cond {A = ℕ} same (s * i) 0 + cond {A = ℕ} same (s * f * o) 0 + cond {A = ℕ} same (s * (c + j)) 0 ≡ cond {A = ℕ} same (s * j) 0 + cond {A = ℕ} same
     (s * f * p) 0 + cond {A = ℕ} same (s * (b + i)) 0
@@ -223,7 +223,7 @@ module _ (extents : Values) (v : Variable) where
               there,
               total_parts (has_id id) before own after place line,
               has_other id own
-                  (turned_id id own.id d),
+                  (swapped_id id own.id d),
             ) in
             with_other own.id (w a) a id d ∙ agree id l (same_un ∙ e) ∙ sym (with_other own.id (w b) b id d)
       ]
@@ -344,16 +344,16 @@ agree_at splits (own ∷ others) a b agree id l e = elim (cases_id own.id id) [
   | inr d ↦ agree_at splits others a b agree.1 id (omega (arith, has_other id own d)) e
 ]
 
-pub stepped : (func : Func) (update : Option Update) (extents : Extents) (stage : Stage) (variable : Variable) (one_turns other_turns one other : Values)
+pub stepped : (func : Func) (update : Option Update) (extents : Extents) (stage : Stage) (variable : Variable) (one_iterations other_iterations one other : Values)
     → IsStageOf func update stage
     → has_variable variable (first_loops func update) ≡ true
-    → AreTurns (counts extents stage.splits) stage.loops one_turns → AreTurns (counts extents stage.splits) stage.loops other_turns
-    → AgreeWhereUneven stage.splits stage.loops one_turns other_turns
-    → over_loops extents stage.splits (λ whole. whole ∷ []) one_turns ≡ one ∷ [] → over_loops extents stage.splits (λ whole. whole ∷ []) other_turns ≡ other
+    → AreIterations (counts extents stage.splits) stage.loops one_iterations → AreIterations (counts extents stage.splits) stage.loops other_iterations
+    → AgreeWhereUneven stage.splits stage.loops one_iterations other_iterations
+    → over_loops extents stage.splits (λ whole. whole ∷ []) one_iterations ≡ one ∷ [] → over_loops extents stage.splits (λ whole. whole ∷ []) other_iterations ≡ other
     ∷ []
-    → one (ids.Whole variable) + base stage.splits variable other_turns stage.loops ≡ other (ids.Whole variable) + base stage.splits variable one_turns
+    → one (ids.Whole variable) + base stage.splits variable other_iterations stage.loops ≡ other (ids.Whole variable) + base stage.splits variable one_iterations
     stage.loops
-stepped func update extents stage variable one_turns other_turns one other is some are_one are_other agree e_one e_other =
-    (steps_in (whole_counts extents) variable (plain func update) some is.made).step one_turns other_turns
-    (in_turns (counts extents stage.splits) stage.loops one_turns are_one) (in_turns (counts extents stage.splits) stage.loops other_turns are_other)
-    (agree_at stage.splits stage.loops one_turns other_turns agree) one other e_one e_other
+stepped func update extents stage variable one_iterations other_iterations one other is some are_one are_other agree e_one e_other =
+    (steps_in (whole_counts extents) variable (plain func update) some is.made).step one_iterations other_iterations
+    (in_iterations (counts extents stage.splits) stage.loops one_iterations are_one) (in_iterations (counts extents stage.splits) stage.loops other_iterations are_other)
+    (agree_at stage.splits stage.loops one_iterations other_iterations agree) one other e_one e_other

@@ -17,7 +17,7 @@ use Rattle.schedule_lines.specs.Directives.{is_shift}
 use Rattle.schedule_loops.specs.declared.extents.Extents.{Extents}
 use Rattle.schedule_loops.specs.declared.sizes.LoopSize.{LoopSize}
 use Rattle.schedule_loops.specs.declared.sizes.SizedSplit.{SizedSplit}
-use Rattle.schedule_loops.specs.Visits.{Values, rounds, whole_counts, more_counts, counts_from, whole_strides, more_strides, strides_from, more_uneven}
+use Rattle.schedule_loops.specs.Visits.{Values, outer_extent, whole_counts, more_counts, counts_from, whole_strides, more_strides, strides_from, more_uneven}
 use Rattle.schedule_loops.specs.Visits.{uneven_from, shift_fits, shifts_fit_from, IsFactor, AreSplits}
 use Rattle.schedule_loops.specs.inner.Table.{looked_up, outer_of, inner_of, no_size, row_of, rows_from, splits_of, row_fits, IsTable, IsKept, stride_limit}
 use Rattle.schedule_loops.specs.inner.Table.{AreBounded}
@@ -26,14 +26,14 @@ use Rattle.schedule_loops.proofs.Lists.{first_of_rest, get_last, get_other}
 
 -- ---- a quotient rounded up
 
-pub ceiling : (a b : ℕ) → 1 ≤ b → div_ceil a b ≡ rounds a b
+pub ceiling : (a b : ℕ) → 1 ≤ b → div_ceil a b ≡ outer_extent a b
 ceiling a b some =
     let t = div_ceil_times a b some in
     let up : div_ceil a b * b ≤ a + (b - 1) = omega (arith, t.1) in
-    let low : div_ceil a b ≤ rounds a b = (le-div_iff_mul-le {k = b} {x = div_ceil a b} {y = a + (b - 1)} some).1 up in
+    let low : div_ceil a b ≤ outer_extent a b = (le-div_iff_mul-le {k = b} {x = div_ceil a b} {y = a + (b - 1)} some).1 up in
     let e : suc (div_ceil a b) * b ≡ div_ceil a b * b + b = omega arith in
     let over : a + (b - 1) < suc (div_ceil a b) * b = omega (arith, t.0, e) in
-    let high : rounds a b < suc (div_ceil a b) = (div-lt_iff_lt-mul {k = b} {x = a + (b - 1)} {y = suc (div_ceil a b)} some).1 over in
+    let high : outer_extent a b < suc (div_ceil a b) = (div-lt_iff_lt-mul {k = b} {x = a + (b - 1)} {y = suc (div_ceil a b)} some).1 over in
     omega (arith, low, high)
 
 -- ---- each row
@@ -54,7 +54,7 @@ module _ (extents : Extents) (rows : List SizedSplit) (counts strides : Values) 
   of_split size = row_of size split
 
   outer_is : row.outer ≡ record {
-    count = rounds (counts split.of) split.factor;
+    count = outer_extent (counts split.of) split.factor;
     stride = strides split.of * split.factor;
     is_uneven = uneven split.of
         || is_shift split.tail;

@@ -8,12 +8,12 @@ use Rattle.halide_pipeline.specs.declared.definitions.Func.{Func}
 use Rattle.halide_pipeline.specs.declared.definitions.Update.{Update}
 use Rattle.schedule_lines.specs.declared.stages.Stage.{Stage}
 use Rattle.schedule_loops.specs.declared.extents.Extents.{Extents}
-use Rattle.schedule_loops.specs.Visits.{iteration_count, iteration, points_written, HasOwner, upto, Visit, is_slice, slice}
+use Rattle.schedule_loops.specs.Visits.{iteration_count, visits_in, points_written, HasOwner, upto, Visit, is_slice, slice}
 use Rattle.schedule_loops.specs.Stages.{IsStageOf, KeepsRules, IsVisitOf}
 use Rattle.schedule_loops.proofs.Slices.{visits_within}
 use Rattle.schedule_loops.proofs.Parallel.{all_iterations, slice_owner}
 
--- ---- what all turns list, each does
+-- ---- what all iterations list, each does
 
 all_left : {A : Type 0} (P : A → Type 0) (xs ys : List A) → AllByRecursion P (xs ++ ys) → AllByRecursion P xs
 all_left P [] ys all = tt
@@ -23,15 +23,15 @@ all_right : {A : Type 0} (P : A → Type 0) (xs ys : List A) → AllByRecursion 
 all_right P [] ys all = all
 all_right P (x ∷ xs) ys all = all_right P xs ys all.1
 
-all_of_turn : {A : Type 0} (P : A → Type 0) (n : ℕ) (f : ℕ → List A) → AllByRecursion P (upto n f) → (v : ℕ) → v < n → AllByRecursion P (f v)
+all_of_iteration : {A : Type 0} (P : A → Type 0) (n : ℕ) (f : ℕ → List A) → AllByRecursion P (upto n f) → (v : ℕ) → v < n → AllByRecursion P (f v)
 unfolding upto
-all_of_turn P zero f all v l = absurd (omega arith)
-all_of_turn P (suc n) f all v l = elim (cases_eq v n) [
+all_of_iteration P zero f all v l = absurd (omega arith)
+all_of_iteration P (suc n) f all v l = elim (cases_eq v n) [
   | inl e ↦ subst (λ (k : ℕ). AllByRecursion P (f k)) (sym e) (all_right P (upto n f) (f n) all)
-  | inr d ↦ all_of_turn P n f (all_left P (upto n f) (f n) all) v (omega (arith, d))
+  | inr d ↦ all_of_iteration P n f (all_left P (upto n f) (f n) all) v (omega (arith, d))
 ]
 
--- ---- the visit behind a point
+-- ---- the visit after a point
 
 module _ (P : Visit → Type 0) (left : Visit → ℕ × ℕ) (point : ℕ × ℕ) where
   pub record Behind (visits : List Visit) : Type 0 where
@@ -69,18 +69,18 @@ module _ (func : Func) (update : Option Update) (extents : Extents) (stage : Sta
     → ℕ × ℕ)
     (apart : (one other : Visit) → IsVisitOf func update extents one → IsVisitOf func update extents other → left one ≡ left other
     → (one.x ≡ other.x) × (one.y ≡ other.y)) where
-  within : (number : ℕ) → number < iteration_count extents stage → AllByRecursion (IsVisitOf func update extents) (iteration extents stage number)
+  within : (number : ℕ) → number < iteration_count extents stage → AllByRecursion (IsVisitOf func update extents) (visits_in extents stage number)
   within number l =
-      all_of_turn (IsVisitOf func update extents) (iteration_count extents stage) (iteration extents stage)
+      all_of_iteration (IsVisitOf func update extents) (iteration_count extents stage) (visits_in extents stage)
       (subst (AllByRecursion (IsVisitOf func update extents)) (all_iterations func update extents stage is rules) (visits_within func update extents stage is))
       number l
 
   found : (number : ℕ) → number < iteration_count extents stage → (point : ℕ × ℕ) → Contains (points_written left extents stage number) point
-      → Behind (IsVisitOf func update extents) left point (iteration extents stage number)
-  found number l point there = behind (IsVisitOf func update extents) left point (iteration extents stage number) there.0 there.1 there.2 (within number l)
+      → Behind (IsVisitOf func update extents) left point (visits_in extents stage number)
+  found number l point there = behind (IsVisitOf func update extents) left point (visits_in extents stage number) there.0 there.1 there.2 (within number l)
 
-  owned : (x y number : ℕ) → number < iteration_count extents stage → slice x y (iteration extents stage number) ≢ []
-      → (o : HasOwner (iteration_count extents stage) (iteration extents stage) x y) → number ≡ o.owner
+  owned : (x y number : ℕ) → number < iteration_count extents stage → slice x y (visits_in extents stage number) ≢ []
+      → (o : HasOwner (iteration_count extents stage) (visits_in extents stage) x y) → number ≡ o.owner
   owned x y number l some o = elim (cases_eq number o.owner) [ inl e ↦ e | inr d ↦ absurd (some (o.no_other number l d)) ]
 
   pub written_apart : (first second : ℕ) → first < iteration_count extents stage → second < iteration_count extents stage → (point : ℕ × ℕ)
@@ -90,7 +90,7 @@ module _ (func : Func) (update : Option Update) (extents : Extents) (stage : Sta
       let s = found second ls point in_second in
       let same = apart f.visit s.visit f.holds s.holds (f.left_is ∙ sym s.left_is) in
       let o = slice_owner func update extents stage is rules f.visit.x f.visit.y f.holds.slice in
-      let there : slice f.visit.x f.visit.y (iteration extents stage second) ≢ [] =
-      subst (λ (n : ℕ). slice n f.visit.y (iteration extents stage second) ≢ []) (sym same.0)
-      (subst (λ (n : ℕ). slice s.visit.x n (iteration extents stage second) ≢ []) (sym same.1) s.listed) in
+      let there : slice f.visit.x f.visit.y (visits_in extents stage second) ≢ [] =
+      subst (λ (n : ℕ). slice n f.visit.y (visits_in extents stage second) ≢ []) (sym same.0)
+      (subst (λ (n : ℕ). slice s.visit.x n (visits_in extents stage second) ≢ []) (sym same.1) s.listed) in
       owned f.visit.x f.visit.y first lf f.listed o ∙ sym (owned f.visit.x f.visit.y second ls there o)

@@ -12,8 +12,8 @@ use Rattle.schedule.specs.declared.legality.LoopRule.{LoopRule}
 use Rattle.schedule.specs.declared.legality.LoopRule.TheVariants as rules_of
 use Rattle.schedule.specs.declared.plans.ComputeLine.{ComputeLine}
 use Rattle.schedule.specs.declared.plans.FuncPlan.{FuncPlan}
-use Rattle.schedule.specs.declared.standings.Place.TheVariants as places
-use Rattle.schedule.specs.declared.standings.Standing.{Standing}
+use Rattle.schedule.specs.declared.placements.ComputeLevel.TheVariants as places
+use Rattle.schedule.specs.declared.placements.FuncPlacement.{FuncPlacement}
 use Rattle.schedule.specs.Legal.{breaks, has_lost, is_root, nowhere_line, rule_line, verdict}
 
 -- the least line that is so, if any is
@@ -29,9 +29,9 @@ rules_before fault.ParallelInShift = rules_of.ParallelOutermost ∷ rules_of.Par
 rules_before fault.VectorizedLoop = rules_of.ParallelOutermost ∷ rules_of.ParallelOverArgument ∷ rules_of.ParallelUnshifted ∷ []
 rules_before _ = rules_of.ParallelOutermost ∷ rules_of.ParallelOverArgument ∷ rules_of.ParallelUnshifted ∷ rules_of.VectorizedInnermost ∷ []
 
-module _ (standings : List Standing) (plans : List FuncPlan) where
+module _ (standings : List FuncPlacement) (plans : List FuncPlan) where
   -- a Func that the output reaches, with its plan
-  pub record IsPlanned (standing : Standing) (plan : FuncPlan) : Type 0 where
+  pub record IsPlanned (standing : FuncPlacement) (plan : FuncPlan) : Type 0 where
     pub place : ℕ
     pub standing_is : slice_get standings place ≡ Some standing
     pub plan_is : slice_get plans place ≡ Some plan
@@ -39,7 +39,7 @@ module _ (standings : List Standing) (plans : List FuncPlan) where
 
   -- The line marks a loop of a stage of such a Func, and the loop breaks the rule. A stage's loops stand innermost first.
   pub record BreaksRule (rule : LoopRule) (line : ℕ) : Type 0 where
-    pub standing : Standing
+    pub standing : FuncPlacement
     pub plan : FuncPlan
     pub is_planned : IsPlanned standing plan
     pub stage : Stage
@@ -54,7 +54,7 @@ module _ (standings : List Standing) (plans : List FuncPlan) where
 
   -- The line computes such a Func, and where it says the Func can't be computed.
   pub record ComputesNowhere (line : ℕ) : Type 0 where
-    pub standing : Standing
+    pub standing : FuncPlacement
     pub plan : FuncPlan
     pub is_planned : IsPlanned standing plan
     pub compute : ComputeLine
@@ -77,14 +77,14 @@ module _ (standings : List Standing) (plans : List FuncPlan) where
   IsFaultLine _ line = ⊥
 
 abbrev pub RuleLinesAreLeast : Type 0
-RuleLinesAreLeast = (rule : LoopRule) (standings : List Standing) (plans : List FuncPlan)
+RuleLinesAreLeast = (rule : LoopRule) (standings : List FuncPlacement) (plans : List FuncPlan)
     → IsLeast (BreaksRule standings plans rule) (rule_line rule standings plans)
 
 abbrev pub NowhereLinesAreLeast : Type 0
-NowhereLinesAreLeast = (standings : List Standing) (plans : List FuncPlan)
+NowhereLinesAreLeast = (standings : List FuncPlacement) (plans : List FuncPlan)
     → IsLeast (ComputesNowhere standings plans) (nowhere_line standings plans)
 
 -- The first rule that is broken is named, with the least line that breaks it.
 abbrev pub VerdictsNameLeastLines : Type 0
-VerdictsNameLeastLines = (standings : List Standing) (plans : List FuncPlan) (line : ℕ) (wrong : ScheduleFault) → verdict standings plans ≡ Some (line, wrong)
+VerdictsNameLeastLines = (standings : List FuncPlacement) (plans : List FuncPlan) (line : ℕ) (wrong : ScheduleFault) → verdict standings plans ≡ Some (line, wrong)
     → AllByRecursion (IsUnbroken standings plans) (rules_before wrong) × IsFaultLine standings plans wrong line

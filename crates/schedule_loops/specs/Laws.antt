@@ -10,18 +10,18 @@ use Rattle.schedule_lines.specs.declared.stages.LoopId.TheVariants as ids
 use Rattle.schedule_lines.specs.declared.stages.Split.{Split}
 use Rattle.schedule_lines.specs.declared.stages.Stage.{Stage}
 use Rattle.schedule.specs.declared.plans.FuncPlan.{FuncPlan}
-use Rattle.schedule.specs.declared.standings.Standing.{Standing}
+use Rattle.schedule.specs.declared.placements.FuncPlacement.{FuncPlacement}
 use Rattle.schedule.specs.Accepted.{IsPlan, IsLegal}
 use Rattle.schedule_loops.specs.declared.extents.Extents.{Extents}
 use Rattle.schedule_loops.specs.Visits.{Values, with, counts, extent_of, shifts_fit, AreSplits, Visit, nest, over_loops, zeros, upto, visit_of, visits, slice}
-use Rattle.schedule_loops.specs.Visits.{rising, parallel, iteration, iteration_count, points_written, in_turn, IsOrder, HasOwner}
+use Rattle.schedule_loops.specs.Visits.{rising, parallel, visits_in, iteration_count, points_written, in_order, IsOrder, HasOwner}
 use Rattle.schedule_loops.specs.Reach.{base, AgreeWhereUneven, has_uneven, wholes, IsReached}
-use Rattle.schedule_loops.specs.Runs.{AreTurns}
+use Rattle.schedule_loops.specs.Runs.{AreIterations}
 use Rattle.schedule_loops.specs.Stages.{IsStageOf, KeepsRules, IsVisitOf, first_loops, has_variable, is_slice_of, points_of}
 
 -- Where the output reaches a Func, an accepted schedule has such stages for its pure definition and for each of its updates.
 abbrev pub AcceptedStages : Type 0
-AcceptedStages = (func : Func) (plan : FuncPlan) (own : Standing) → IsPlan func plan → IsLegal plan own → own.is_reached ≡ true
+AcceptedStages = (func : Func) (plan : FuncPlan) (own : FuncPlacement) → IsPlan func plan → IsLegal plan own → own.is_reached ≡ true
     → (IsStageOf func None plan.pure × KeepsRules plan.pure)
     × ((at : ℕ) (update : Update) (stage : Stage) → slice_get func.updates at ≡ Some update → slice_get plan.updates at ≡ Some stage
     → IsStageOf func (Some update) stage × KeepsRules stage)
@@ -46,7 +46,7 @@ UpdatesKeepTheirOrder = (func : Func) (update : Update) (extents : Extents) (sta
     → slice x y (visits extents stage)
     ≡ rising x y 0 (if is_slice_of func (Some update) extents x y then points_of func (Some update) extents else 0)
 
--- A pure definition is visited at each point of its box, if each shifted split has a whole round.
+-- A pure definition is visited at each point of its box, if each shifted split has a whole iteration.
 abbrev pub PureStagesCover : Type 0
 PureStagesCover = (func : Func) (extents : Extents) (stage : Stage)
     → IsStageOf func None stage → shifts_fit extents stage.splits ≡ true
@@ -57,15 +57,15 @@ PureStagesCover = (func : Func) (extents : Extents) (stage : Stage)
 abbrev pub IterationsAreAll : Type 0
 IterationsAreAll = (func : Func) (update : Option Update) (extents : Extents) (stage : Stage)
     → IsStageOf func update stage → KeepsRules stage
-    → visits extents stage ≡ upto (iteration_count extents stage) (iteration extents stage)
+    → visits extents stage ≡ upto (iteration_count extents stage) (visits_in extents stage)
 
--- An iteration is what the loops inside the parallel one list in a turn of that.
-abbrev pub IterationsAreTurns : Type 0
-IterationsAreTurns = (func : Func) (update : Option Update) (extents : Extents) (stage : Stage) (inside : List Loop) (own : Loop)
+-- A task is what the loops inside the parallel one list in one of its iterations.
+abbrev pub IterationsAreNests : Type 0
+IterationsAreNests = (func : Func) (update : Option Update) (extents : Extents) (stage : Stage) (inside : List Loop) (own : Loop)
     → IsStageOf func update stage
     → stage.loops ≡ inside ++ own ∷ [] → parallel stage ≡ Some own
     → (number : ℕ) → number < counts extents stage.splits own.id
-    → iteration extents stage number
+    → visits_in extents stage number
     ≡ nest (counts extents stage.splits) inside (over_loops extents stage.splits (λ whole. visit_of extents whole ∷ [])) (with own.id number zeros)
 
 -- Each slice belongs to one iteration: so iterations of a pure definition visit points apart, and those of an update slices apart.
@@ -73,7 +73,7 @@ abbrev pub IterationsAreApart : Type 0
 IterationsAreApart = (func : Func) (update : Option Update) (extents : Extents) (stage : Stage)
     → IsStageOf func update stage → KeepsRules stage
     → (x y : ℕ) → is_slice_of func update extents x y ≡ true
-    → HasOwner (iteration_count extents stage) (iteration extents stage) x y
+    → HasOwner (iteration_count extents stage) (visits_in extents stage) x y
 
 -- Iterations write points apart, where the left side names points apart at visits of slices apart, as a pure definition's does.
 abbrev pub IterationsWriteApart : Type 0
@@ -92,46 +92,46 @@ abbrev pub IterationsInAnyOrder : Type 0
 IterationsInAnyOrder = (func : Func) (update : Option Update) (extents : Extents) (stage : Stage)
     → IsStageOf func update stage → KeepsRules stage
     → (order : List ℕ) → IsOrder (iteration_count extents stage) order
-    → (x y : ℕ) → slice x y (in_turn (iteration extents stage) order) ≡ slice x y (visits extents stage)
+    → (x y : ℕ) → slice x y (in_order (visits_in extents stage) order) ≡ slice x y (visits extents stage)
 
--- While the loops outside are in given turns, those inside visit values of a variable that lie in its extent; and between a base and
+-- While the loops outside are in given iterations, those inside visit values of a variable that lie in its extent; and between a base and
 -- what the loops inside can add to it, unless an uneven loop is among those outside.
 abbrev pub VariablesAreReached : Type 0
 VariablesAreReached = (func : Func) (update : Option Update) (extents : Extents) (stage : Stage) (inside outside : List Loop) (variable : Variable)
-    (turns : Values)
+    (iterations : Values)
     → IsStageOf func update stage
     → stage.loops ≡ inside ++ outside → has_variable variable (first_loops func update) ≡ true
-    → AreTurns (counts extents stage.splits) outside turns
-    → AllByRecursion (λ whole. whole (ids.Whole variable) < extent_of extents variable) (wholes extents stage.splits inside turns)
+    → AreIterations (counts extents stage.splits) outside iterations
+    → AllByRecursion (λ whole. whole (ids.Whole variable) < extent_of extents variable) (wholes extents stage.splits inside iterations)
     × (has_uneven stage.splits variable outside ≡ false
-    → AllByRecursion (IsReached extents stage.splits variable inside outside turns) (wholes extents stage.splits inside turns))
+    → AllByRecursion (IsReached extents stage.splits variable inside outside iterations) (wholes extents stage.splits inside iterations))
 
--- Where uneven loops are in the same turns, the values of a variable differ as the bases of all loops do: each turn of an even loop
+-- Where uneven loops are in the same iterations, the values of a variable differ as the bases of all loops do: each iteration of an even loop
 -- takes the variable its stride further.
 abbrev pub EvenLoopsStep : Type 0
-EvenLoopsStep = (func : Func) (update : Option Update) (extents : Extents) (stage : Stage) (variable : Variable) (one_turns other_turns one other : Values)
+EvenLoopsStep = (func : Func) (update : Option Update) (extents : Extents) (stage : Stage) (variable : Variable) (one_iterations other_iterations one other : Values)
     → IsStageOf func update stage
     → has_variable variable (first_loops func update) ≡ true
-    → AreTurns (counts extents stage.splits) stage.loops one_turns
-    → AreTurns (counts extents stage.splits) stage.loops other_turns
-    → AgreeWhereUneven stage.splits stage.loops one_turns other_turns
-    → over_loops extents stage.splits (λ whole. whole ∷ []) one_turns ≡ one ∷ []
-    → over_loops extents stage.splits (λ whole. whole ∷ []) other_turns ≡ other ∷ []
-    → one (ids.Whole variable) + base stage.splits variable other_turns stage.loops
-    ≡ other (ids.Whole variable) + base stage.splits variable one_turns stage.loops
+    → AreIterations (counts extents stage.splits) stage.loops one_iterations
+    → AreIterations (counts extents stage.splits) stage.loops other_iterations
+    → AgreeWhereUneven stage.splits stage.loops one_iterations other_iterations
+    → over_loops extents stage.splits (λ whole. whole ∷ []) one_iterations ≡ one ∷ []
+    → over_loops extents stage.splits (λ whole. whole ∷ []) other_iterations ≡ other ∷ []
+    → one (ids.Whole variable) + base stage.splits variable other_iterations stage.loops
+    ≡ other (ids.Whole variable) + base stage.splits variable one_iterations stage.loops
 
 -- What loops visit is seen from the values of whole variables that they visit.
 abbrev pub VisitsAreOfWholes : Type 0
-VisitsAreOfWholes = (extents : Extents) (splits : List Split) (inside : List Loop) (turns : Values)
-    → nest (counts extents splits) inside (over_loops extents splits (λ whole. visit_of extents whole ∷ [])) turns
-    ≡ map (visit_of extents) (wholes extents splits inside turns)
+VisitsAreOfWholes = (extents : Extents) (splits : List Split) (inside : List Loop) (iterations : Values)
+    → nest (counts extents splits) inside (over_loops extents splits (λ whole. visit_of extents whole ∷ [])) iterations
+    ≡ map (visit_of extents) (wholes extents splits inside iterations)
 
--- A visit is one that the loops inside make while those outside are in some turns.
+-- A visit is one that the loops inside make while those outside are in some iterations.
 pub record IsMadeIn (extents : Extents) (stage : Stage) (inside outside : List Loop) (visit : Visit) : Type 0 where
-  pub turns : Values
-  pub are : AreTurns (counts extents stage.splits) outside turns
+  pub iterations : Values
+  pub are : AreIterations (counts extents stage.splits) outside iterations
   pub whole : Values
-  pub visited : Contains (wholes extents stage.splits inside turns) whole
+  pub visited : Contains (wholes extents stage.splits inside iterations) whole
   pub visit_is : visit_of extents whole ≡ visit
 
 -- Each visit of a stage is, wherever its loops are parted into those inside and those outside.

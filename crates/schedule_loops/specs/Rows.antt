@@ -32,11 +32,11 @@ abbrev pub first_values : ℕ → ℕ → Tail → List ℕ
 first_values n factor tail = listed_by (width n) (split_by factor tail) (λ values. values (ids.Whole variables.FirstArgument) ∷ [])
 
 -- an update over 2 values of its argument and 3 of its reduction variable, whose argument has the inner loop
-abbrev pub turned_extents : Extents
-turned_extents = record { first_argument = 2; second_argument = 0; first_reduction = 3; second_reduction = 0 }
+abbrev pub reordered_extents : Extents
+reordered_extents = record { first_argument = 2; second_argument = 0; first_reduction = 3; second_reduction = 0 }
 
-abbrev pub turned : Stage
-turned = record {
+abbrev pub reordered : Stage
+reordered = record {
   loops = loop (ids.Whole variables.FirstArgument) variables.FirstArgument ∷ loop (ids.Whole variables.FirstReduction) variables.FirstReduction ∷ [];
   splits = [];
 }

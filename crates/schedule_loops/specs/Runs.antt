@@ -11,10 +11,10 @@ use Rattle.schedule_lines.specs.declared.stages.LoopId.{LoopId}
 use Rattle.schedule_lines.specs.declared.stages.Stage.{Stage}
 use Rattle.schedule_loops.specs.Visits as loops
 
--- Each of the loops is in one of its turns.
-abbrev pub AreTurns : Values → List Loop → Values → Type 0
-AreTurns counts [] turns = Unit {0}
-AreTurns counts (own ∷ others) turns = (turns own.id < counts own.id) × AreTurns counts others turns
+-- Each of the loops is in one of its iterations.
+abbrev pub AreIterations : Values → List Loop → Values → Type 0
+AreIterations counts [] iterations = Unit {0}
+AreIterations counts (own ∷ others) iterations = (iterations own.id < counts own.id) × AreIterations counts others iterations
 
 abbrev pub is_vectorized_loop : Loop → Bool
 is_vectorized_loop own = is_marked marks.Vectorized own
@@ -36,21 +36,21 @@ abbrev pub is_among : List Loop → LoopId → Bool
 is_among [] id = false
 is_among (own ∷ others) id = same_id id own.id || is_among others id
 
--- These loops are in their turns, and no other has begun.
-abbrev pub turns_of : List Loop → loops.Values → loops.Values
-turns_of own turns id = if is_among own id then turns id else 0
+-- These loops are in their iterations, and no other has begun.
+abbrev pub iterations_of : List Loop → loops.Values → loops.Values
+iterations_of own iterations id = if is_among own id then iterations id else 0
 
--- what the stage visits in all turns of its innermost loop, while its other loops are in these turns
+-- what the stage visits in all iterations of its innermost loop, while its other loops are in these iterations
 abbrev pub run_of : Extents → Stage → loops.Values → List Visit
-run_of extents stage turns =
+run_of extents stage iterations =
     nest (counts extents stage.splits) (innermost stage.loops) (over_loops extents stage.splits (λ whole. visit_of extents whole ∷ []))
-    (turns_of (outside_innermost stage.loops) turns)
+    (iterations_of (outside_innermost stage.loops) iterations)
 
--- all runs of the stage, one for each of the turns of its other loops
+-- all runs of the stage, one for each of the iterations of its other loops
 abbrev pub runs : Extents → Stage → List (List Visit)
-runs extents stage = nest (counts extents stage.splits) (outside_innermost stage.loops) (λ turns. run_of extents stage turns ∷ []) zeros
+runs extents stage = nest (counts extents stage.splits) (outside_innermost stage.loops) (λ iterations. run_of extents stage iterations ∷ []) zeros
 
--- Each of these loops is in one of its turns.
-abbrev pub are_turns : loops.Values → List Loop → loops.Values → Bool
-are_turns counts [] turns = true
-are_turns counts (own ∷ outside) turns = nat_lt (turns own.id) (counts own.id) && are_turns counts outside turns
+-- Each of these loops is in one of its iterations.
+abbrev pub are_iterations : loops.Values → List Loop → loops.Values → Bool
+are_iterations counts [] iterations = true
+are_iterations counts (own ∷ outside) iterations = nat_lt (iterations own.id) (counts own.id) && are_iterations counts outside iterations

@@ -1,4 +1,4 @@
--- How many turns loops have and how far these go, as values.
+-- How many iterations loops have and how far these go, as values.
 -- This project's own.
 use Rattle.std.specs.Prelude.{List}
 use Rattle.schedule_lines.specs.declared.stages.LoopId.{LoopId}

@@ -19,13 +19,13 @@ use Rattle.schedule_lines.specs.Directives.{is_shift, same_id, find_marked}
 use Rattle.schedule_loops.specs.declared.extents.Extents.{Extents}
 use Rattle.schedule_lines.specs.declared.stages.Mark.TheVariants as marks
 
--- ---- How many turns each loop of a stage has, and how far one turn of it takes its variable.
+-- ---- How many iterations each loop of a stage has, and how far one iteration of it takes its variable.
 --
--- A loop over a whole variable has a turn for each value of it, and takes it one further. A split of a loop uses the numbers of that
--- loop as they stood when it was made: the inner loop has `factor` turns of the same stride, and the outer one as many as it takes to
+-- A loop over a whole variable has an iteration for each value of it, and takes it one further. A split of a loop uses the numbers of that
+-- loop as they stood when it was made: the inner loop has `factor` iterations of the same stride, and the outer one as many as it takes to
 -- reach the extent, with a stride `factor` times as long.
 
--- a number for each loop: the turn that it is in, from 0, how many turns it has, or how far a turn goes
+-- a number for each loop: the iteration that it is in, from 0, how many iterations it has, or how far an iteration goes
 abbrev pub Values : Type 0
 Values = LoopId → ℕ
 
@@ -39,7 +39,7 @@ extent_of extents variables.SecondArgument = extents.second_argument
 extent_of extents variables.FirstReduction = extents.first_reduction
 extent_of extents variables.SecondReduction = extents.second_reduction
 
--- ---- turns
+-- ---- iterations
 
 -- before any split
 abbrev pub whole_counts : Extents → Values
@@ -48,12 +48,12 @@ whole_counts extents (ids.Outer place) = 0
 whole_counts extents (ids.Inner place) = 0
 
 -- how often the factor goes into the extent, rounded up
-abbrev pub rounds : ℕ → ℕ → ℕ
-rounds extent factor = (extent + (factor - 1)) / factor
+abbrev pub outer_extent : ℕ → ℕ → ℕ
+outer_extent extent factor = (extent + (factor - 1)) / factor
 
--- the loops of the split at this place have turns too
+-- the loops of the split at this place have iterations too
 abbrev pub more_counts : Values → ℕ → Split → Values
-more_counts counts place split = with (ids.Inner place) split.factor (with (ids.Outer place) (rounds (counts split.of) split.factor) counts)
+more_counts counts place split = with (ids.Inner place) split.factor (with (ids.Outer place) (outer_extent (counts split.of) split.factor) counts)
 
 -- the same of all splits, the first of which has this place
 abbrev pub counts_from : Values → ℕ → List Split → Values
@@ -80,7 +80,7 @@ strides_from strides place (split ∷ others) = strides_from (more_strides strid
 abbrev pub strides : List Split → Values
 strides splits = strides_from whole_strides 0 splits
 
--- ---- A loop is uneven where its last turn may take the variable less far than its stride: the outer loop of a shifted split, and
+-- ---- A loop is uneven where its last iteration may take the variable less far than its stride: the outer loop of a shifted split, and
 -- both loops that an uneven one is split into.
 
 abbrev pub more_uneven : (LoopId → Bool) → ℕ → Split → LoopId → Bool
@@ -93,7 +93,7 @@ uneven_from uneven place (split ∷ others) = uneven_from (more_uneven uneven pl
 abbrev pub is_uneven : List Split → LoopId → Bool
 is_uneven splits = uneven_from (λ id. false) 0 splits
 
--- ---- A shifted split needs a loop of at least one whole round: its extent is not below the factor.
+-- ---- A shifted split needs a loop of at least one whole iteration: its extent is not below the factor.
 
 abbrev pub shift_fits : Values → Split → Bool
 shift_fits counts split = not (is_shift split.tail) || nat_le split.factor (counts split.of)
@@ -117,20 +117,20 @@ pub record AreSplits (splits : List Split) : Type 0 where
 
 -- ---- nests
 
--- what the turns 0 to n - 1 list, one after the other
+-- what the iterations 0 to n - 1 list, one after the other
 unfoldable pub upto : {A : Type 0} → ℕ → (ℕ → List A) → List A
 upto zero list = []
 upto (suc n) list = upto n list ++ list n
 
--- what a body lists under all turns of the loops
+-- what a body lists under all iterations of the loops
 abbrev pub nest : {A : Type 0} → Values → List Loop → (Values → List A) → Values → List A
 nest counts [] body values = body values
 nest counts (own ∷ outside) body values =
-    nest counts outside (λ outer. upto (counts own.id) (λ turn. body (with own.id turn outer))) values
+    nest counts outside (λ outer. upto (counts own.id) (λ iteration. body (with own.id iteration outer))) values
 
 -- ---- splits
 
--- where a turn of the outer loop begins
+-- where an iteration of the outer loop begins
 abbrev pub begin_of : Tail → ℕ → ℕ → ℕ → ℕ
 begin_of tails.Guard factor extent outer = outer * factor
 begin_of tails.Shift factor extent outer = min (outer * factor) (extent - factor)
@@ -207,21 +207,21 @@ count_of counts (Some own) = counts own.id
 abbrev pub iteration_count : Extents → Stage → ℕ
 iteration_count extents stage = count_of (counts extents stage.splits) (parallel stage)
 
-abbrev pub is_turn : Option Loop → ℕ → Values → Bool
-is_turn None iteration values = iteration == 0
-is_turn (Some own) iteration values = values own.id == iteration
+abbrev pub is_iteration_of : Option Loop → ℕ → Values → Bool
+is_iteration_of None iteration values = iteration == 0
+is_iteration_of (Some own) iteration values = values own.id == iteration
 
 -- what the iteration with this number visits, in order: that of the stage's visits where the parallel loop has this value
-abbrev pub iteration : Extents → Stage → ℕ → List Visit
-iteration extents stage number =
+abbrev pub visits_in : Extents → Stage → ℕ → List Visit
+visits_in extents stage number =
     nest (counts extents stage.splits) stage.loops
-    (λ values. if is_turn (parallel stage) number values then over_loops extents stage.splits (λ whole. visit_of extents whole ∷ []) values else [])
+    (λ values. if is_iteration_of (parallel stage) number values then over_loops extents stage.splits (λ whole. visit_of extents whole ∷ []) values else [])
     zeros
 
 -- The points that an iteration writes, where the left side names this point at a visit. Of a pure definition that is the visit's own
 -- point.
 abbrev pub points_written : (Visit → ℕ × ℕ) → Extents → Stage → ℕ → List (ℕ × ℕ)
-points_written left extents stage number = map left (iteration extents stage number)
+points_written left extents stage number = map left (visits_in extents stage number)
 
 abbrev pub own_point : Visit → ℕ × ℕ
 own_point visit = (visit.x, visit.y)
@@ -229,9 +229,9 @@ own_point visit = (visit.x, visit.y)
 -- ---- iterations in any order
 
 -- what the iterations of a list visit, one after the other
-abbrev pub in_turn : {A : Type 0} → (ℕ → List A) → List ℕ → List A
-in_turn task [] = []
-in_turn task (first ∷ others) = task first ++ in_turn task others
+abbrev pub in_order : {A : Type 0} → (ℕ → List A) → List ℕ → List A
+in_order task [] = []
+in_order task (first ∷ others) = task first ++ in_order task others
 
 abbrev pub times : ℕ → List ℕ → ℕ
 times n [] = 0
@@ -250,4 +250,4 @@ pub record HasOwner (count : ℕ) (iteration : ℕ → List Visit) (x y : ℕ) :
 
 -- The task with this number owns the point: its iteration visits it.
 abbrev pub owns : Extents → Stage → ℕ → ℕ → ℕ → Bool
-owns extents stage number x y = list_any (is_slice x y) (iteration extents stage number)
+owns extents stage number x y = list_any (is_slice x y) (visits_in extents stage number)

@@ -44,9 +44,9 @@ pub fn iterations_are_all()
     ensures { law.IterationsAreAll }
 {}
 
-/// An iteration of the parallel loop is what the loops inside it list in one of its turns.
-pub fn iterations_are_turns()
-    ensures { law.IterationsAreTurns }
+/// A task is what the loops inside the parallel one list in one of its iterations.
+pub fn iterations_are_nests()
+    ensures { law.IterationsAreNests }
 {}
 
 /// Iterations of the parallel loop of an accepted stage visit slices apart: of a pure definition, points apart.
@@ -70,7 +70,7 @@ pub fn variables_are_reached()
     ensures { law.VariablesAreReached }
 {}
 
-/// A turn of a loop that is not uneven takes its variable its stride further.
+/// An iteration of a loop that is not uneven takes its variable its stride further.
 pub fn even_loops_step()
     ensures { law.EvenLoopsStep }
 {}
@@ -80,7 +80,7 @@ pub fn visits_are_of_wholes()
     ensures { law.VisitsAreOfWholes }
 {}
 
-/// Each visit is one that the loops inside make while those outside are in some turns.
+/// Each visit is one that the loops inside make while those outside are in some iterations.
 pub fn visits_are_made()
     ensures { law.VisitsAreMade }
 {}
@@ -90,7 +90,7 @@ pub fn visits_are_made()
 pub fn worked_rows()
     ensures guarded { row.first_values 5 4 Tail.Guard ≡ 0 ∷ 1 ∷ 2 ∷ 3 ∷ 4 ∷ [] }
     ensures shifted { row.first_values 8 3 Tail.Shift ≡ 0 ∷ 1 ∷ 2 ∷ 3 ∷ 4 ∷ 5 ∷ 5 ∷ 6 ∷ 7 ∷ [] }
-    ensures turned { visits row.turned_extents row.turned
+    ensures reordered { visits row.reordered_extents row.reordered
         ≡ row.visit 0 0 ∷ row.visit 1 0 ∷ row.visit 0 1 ∷ row.visit 1 1 ∷ row.visit 0 2 ∷ row.visit 1 2 ∷ [] }
 {}
 

@@ -1,8 +1,8 @@
-//! What the loops of a stage do: how many turns each has and how far a turn goes, what they visit and in which
-//! order, and what each iteration of the parallel loop visits.
+//! What the loops of a stage do: how many iterations each has and how far an iteration goes, what they visit and in
+//! which order, and what each iteration of the parallel loop visits.
 //!
 //! - [`extents`]: how many values each variable takes.
-//! - [`sizes`]: turns and strides of the loops (`specs/Visits.antt`, `specs/Sizes.antt`).
+//! - [`sizes`]: iterations and strides of the loops (`specs/Visits.antt`, `specs/Sizes.antt`).
 //! - [`reach`]: how far loops take a variable (`specs/Reach.antt`).
 //! - [`laws`]: what holds of every stage that lines make, and of every accepted one (`specs/Laws.antt`, over
 //!   `specs/Visits.antt`, `specs/Reach.antt` and `specs/Stages.antt`), and which line a fault names

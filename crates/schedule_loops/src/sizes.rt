@@ -1,4 +1,4 @@
-//! How many turns the loops of a stage have, and how far these go.
+//! How many iterations the loops of a stage have, and how far these go.
 
 ghost use Rattle.std.specs.Prelude.{◌≡◌, ◌≤◌, ◌<◌, ◌*◌, ◌^◌, ◌&&◌, ◌||◌, IfOk};
 ghost use Rattle.std.specs.List.{list_all};
@@ -15,14 +15,14 @@ use sqlite_items::Items;
 use std::alloc::{AllocError, Global};
 use std::marker::Model;
 
-/// How many turns a loop has, and how far each takes its variable.
+/// How many iterations a loop has, and how far each takes its variable.
 #[derive(Clone, Copy, Debug, PartialEq, Eq)]
 pub struct LoopSize {
-    /// How many turns it has.
+    /// How many iterations it has.
     pub count: u32,
-    /// How far a turn takes the variable.
+    /// How far an iteration takes the variable.
     pub stride: u32,
-    /// Whether its last turn may take the variable less far: the outer loop of a shifted split, and both loops of
+    /// Whether its last iteration may take the variable less far: the outer loop of a shifted split, and both loops of
     /// a split of such a one.
     pub is_uneven: bool,
 }
@@ -31,7 +31,7 @@ pub struct LoopSize {
 #[derive(Clone, Copy)]
 struct SizedSplit {
     split: Split,
-    /// How many turns the loop has that is split.
+    /// How many iterations the loop has that is split.
     extent: u32,
     outer: LoopSize,
     inner: LoopSize,
@@ -57,9 +57,9 @@ impl Model for LoopSizes {
 
 /// How often a factor goes into an extent, rounded up.
 #[tactic(auto, using(crate::proofs::Tables::ceiling))]
-fn rounds(extent: u32, factor: u32) -> u32
+fn outer_extent(extent: u32, factor: u32) -> u32
     requires { 1 ≤ factor }
-    ensures { result ≡ counts.rounds extent factor }
+    ensures { result ≡ counts.outer_extent extent factor }
 {
     extent.div_ceil(factor)
 }
@@ -106,7 +106,7 @@ impl SizedSplit {
             split,
             extent: whole.count,
             outer: LoopSize {
-                count: rounds(whole.count, split.factor),
+                count: outer_extent(whole.count, split.factor),
                 stride: whole.stride * split.factor,
                 is_uneven: whole.is_uneven || is_shift(split.tail),
             },
@@ -118,7 +118,7 @@ impl SizedSplit {
         }
     }
 
-    /// Whether the split is not shifted, or its loop has a whole round.
+    /// Whether the split is not shifted, or its loop has a whole iteration.
     fn fits(&self) -> bool
         ensures { result ≡ table.row_fits self.now }
     {
@@ -154,7 +154,7 @@ impl LoopSizes {
         Ok(LoopSizes { extents, rows })
     }
 
-    /// The size of a loop; no turn, and no stride, where the splits leave none of this identity.
+    /// The size of a loop; no iteration, and no stride, where the splits leave none of this identity.
     pub fn size(&self, id: LoopId) -> LoopSize
         ensures is { result ≡ spec.size self.now id }
         ensures few { result.stride ≤ 64 ^ 4 }

@@ -21,7 +21,7 @@ module _ (image : ImageContents) (log : LogState) (limit : ℕ) (one : log.harts
     there : 0 < length (after_turns machine 0 (made - 1)).harts
     there = let l = length-run machine (replicate (made - 1) 0) in omega (arith, l, all, one)
 
-    -- the state behind the last turn
+    -- the state after the last turn
     behind : state_after image log.harts (with_turns log 0 made).turns ≡ turn (after_turns machine 0 (made - 1)) 0
     behind =
         run-append (machine_of image log.harts) log.turns (replicate made 0)

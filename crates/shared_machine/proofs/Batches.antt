@@ -15,7 +15,7 @@ use Rattle.turn_log.specs.TurnLog.{LogState, IsLog, count_of, most_turns}
 use Rattle.loader.specs.Image.{ImageContents}
 use Rattle.loader.specs.Loading.{machine_of}
 use Rattle.shared_machine.specs.Log.{BeginsWith, after_turns, code_of, state_after, tally, tally_from, with_turns}
-use Rattle.multi_hart.specs.Stretches.{StepsOn}
+use Rattle.multi_hart.specs.TurnsInARow.{StepsOn}
 use Rattle.shared_machine.proofs.Pushing.{tally-push-here}
 use Rattle.shared_machine.proofs.Stopping.{idle-after}
 

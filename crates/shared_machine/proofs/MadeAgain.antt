@@ -10,7 +10,7 @@ use Rattle.rv_insn.specs.declared.outcomes.Outcome.{Outcome}
 use Rattle.rv_insn.specs.declared.outcomes.Outcome.TheVariants.{Stepped, Finished, Trapped, Idle}
 use Rattle.hart_core.specs.declared.harts.Status.TheVariants.{Running}
 use Rattle.multi_hart.specs.Run.{State, turn, outcome, run, hart_at}
-use Rattle.multi_hart.specs.Stretches.{IsStretch}
+use Rattle.multi_hart.specs.TurnsInARow.{AreTurnsMade}
 use Rattle.multi_hart.proofs.Resting.{run-same-more, run-stayed, turn-resting}
 use Rattle.turn_log.specs.TurnLog.{LogState, IsLog, count_of}
 use Rattle.turn_log.specs.RunAt.{Stand, run_at}
@@ -34,7 +34,7 @@ tally-resting state hart made turns within below rests =
     let e = ap (λ ts. tally_from state ts hart) whole in omega (arith, a, z, e)
 
 -- all turns of a hart come to those up to the first that isn't a step
-pub stretch-made : (state : State) (hart turns made : ℕ) (last : Outcome) → hart < length state.harts → IsStretch state hart turns made last
+pub stretch-made : (state : State) (hart turns made : ℕ) (last : Outcome) → hart < length state.harts → AreTurnsMade state hart turns made last
     → (after_turns state hart turns ≡ after_turns state hart made) × (tally_more state hart turns ≡ 16 * (made - 1) + code_of last)
 stretch-made state hart turns made last below is = by last refl
   where

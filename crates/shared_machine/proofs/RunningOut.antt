@@ -8,7 +8,7 @@ use Rattle.turn_log.specs.TurnLog.{LogState, IsLog, count_of, most_turns}
 use Rattle.loader.specs.Image.{ImageContents}
 use Rattle.board.specs.Tokens.{BoardId}
 use Rattle.shared_machine.specs.declared.origins.Origin.{Ghosts}
-use Rattle.shared_machine.specs.declared.refusals.Refusal.TheVariants.{OutOfMemory, TurnsSpent, StopAsked}
+use Rattle.shared_machine.specs.declared.refusals.TurnRefusal.TheVariants.{OutOfMemory, TurnsSpent, StopAsked}
 use Rattle.shared_machine.specs.declared.seats.Ended.{Ended}
 use Rattle.shared_machine.specs.declared.seats.Ended.TheVariants.{Halted, Limit, Shut, Refused}
 use Rattle.shared_machine.specs.declared.seats.Seat.{Seat}

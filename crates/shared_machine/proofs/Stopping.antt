@@ -219,7 +219,7 @@ code-steps Finished code = absurd (omega (arith, code))
 code-steps (Trapped trap) code = let few = trap-few trap in absurd (omega (arith, code, few))
 code-steps Idle code = absurd (omega (arith, code))
 
--- a hart whose turn isn't a step doesn't run behind it
+-- a hart whose turn isn't a step doesn't run after it
 pub stops-behind : (state : State) (hart : ℕ) → hart < length state.harts → outcome state hart ≢ Stepped → (hart_at (turn state hart) hart).status ≢ Running
 stops-behind state hart below apart = go (hart_at state hart).status refl
   where

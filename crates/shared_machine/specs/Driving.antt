@@ -8,13 +8,13 @@ use Rattle.shared_machine.specs.declared.origins.Origin.{Ghosts}
 use Rattle.shared_machine.specs.declared.seats.Seat.{Seat}
 use Rattle.shared_machine.specs.declared.seats.Ended.{Ended}
 use Rattle.shared_machine.specs.declared.seats.Ended.TheVariants.{Halted, Limit, Shut, Refused}
-use Rattle.shared_machine.specs.declared.refusals.Refusal.{Refusal}
-use Rattle.shared_machine.specs.declared.refusals.Refusal.TheVariants.{OutOfMemory, TurnsSpent, StopAsked}
+use Rattle.shared_machine.specs.declared.refusals.TurnRefusal.{TurnRefusal}
+use Rattle.shared_machine.specs.declared.refusals.TurnRefusal.TheVariants.{OutOfMemory, TurnsSpent, StopAsked}
 use Rattle.shared_machine.specs.Refusals.{number_of}
 use Rattle.shared_machine.specs.Seats.{IsSeatOf, hart, number, tally}
 
 -- a seat whose turns are spent has made 2^40, and one that was told of a stop has found it
-abbrev pub RefusedSo : {O F : Type 0} {G : Ghosts O} → Seat O F G → Refusal → Type 0
+abbrev pub RefusedSo : {O F : Type 0} {G : Ghosts O} → Seat O F G → TurnRefusal → Type 0
 RefusedSo seat OutOfMemory = Unit {0}
 RefusedSo seat TurnsSpent = most_turns ≤ number seat
 RefusedSo seat StopAsked = has_seen_stop seat.glance ≡ true

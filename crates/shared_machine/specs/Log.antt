@@ -6,7 +6,7 @@ use Rattle.rv_insn.specs.declared.outcomes.Outcome.{Outcome}
 use Rattle.rv_insn.specs.declared.outcomes.Outcome.TheVariants.{Stepped, Finished, Trapped, Idle}
 use Rattle.rv_insn.specs.Trap.{trap_number}
 use Rattle.multi_hart.specs.Run.{State, turn, outcome, run}
-use Rattle.multi_hart.specs.Stretches.{StepsOn}
+use Rattle.multi_hart.specs.TurnsInARow.{StepsOn}
 use Rattle.turn_log.specs.TurnLog.{LogState, IsLog, count_of}
 use Rattle.loader.specs.Image.{ImageContents}
 use Rattle.loader.specs.Loading.{machine_of}

@@ -1,11 +1,11 @@
 -- The numbers of the refusals and of a drive's faults. This project's own.
 use Rattle.std.specs.Prelude.{ℕ}
-use Rattle.shared_machine.specs.declared.refusals.Refusal.{Refusal}
-use Rattle.shared_machine.specs.declared.refusals.Refusal.TheVariants.{OutOfMemory, TurnsSpent, StopAsked}
+use Rattle.shared_machine.specs.declared.refusals.TurnRefusal.{TurnRefusal}
+use Rattle.shared_machine.specs.declared.refusals.TurnRefusal.TheVariants.{OutOfMemory, TurnsSpent, StopAsked}
 use Rattle.shared_machine.specs.declared.refusals.DriveFault.{DriveFault}
 use Rattle.shared_machine.specs.declared.refusals.DriveFault.TheVariants as fault
 
-abbrev pub number_of : Refusal → ℕ
+abbrev pub number_of : TurnRefusal → ℕ
 number_of OutOfMemory = 1
 number_of TurnsSpent = 2
 number_of StopAsked = 3

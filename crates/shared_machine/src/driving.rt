@@ -7,7 +7,7 @@ ghost use Rattle.shared_machine.specs.Driving.{IsDriven, AreDriven, IsStopped, A
 ghost use Rattle.shared_machine.specs.Log.{most_batch};
 ghost use Rattle.shared_machine.specs.Seats.{IsSeatOf, hart, number};
 ghost use Rattle.shared_machine.specs.declared.refusals.DriveFault.TheVariants.{NoThread};
-ghost use Rattle.shared_machine.specs.declared.refusals.Refusal.TheVariants.{StopAsked};
+ghost use Rattle.shared_machine.specs.declared.refusals.TurnRefusal.TheVariants.{StopAsked};
 ghost use Rattle.shared_machine.specs.declared.seats.Ended.TheVariants.{Refused};
 
 use crate::gates::Gate;

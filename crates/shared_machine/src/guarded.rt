@@ -6,13 +6,13 @@ ghost use Rattle.turn_log.specs.TurnLog.{IsLog, count_of, most_turns};
 ghost use Rattle.shared_machine.specs.Log.{BeginsWith, CameSo, code_of, most_batch, state_after, tally};
 ghost use Rattle.shared_machine.specs.Refusals.{number_of};
 ghost use Rattle.shared_machine.specs.Tallies.{each, hart_of, number_in, tally_in, numbers_of, tallies_of};
-ghost use Rattle.shared_machine.specs.declared.refusals.Refusal.TheVariants.{TurnsSpent};
+ghost use Rattle.shared_machine.specs.declared.refusals.TurnRefusal.TheVariants.{TurnsSpent};
 
 use crate::books::{Books, Shares};
 use crate::ledgers::Ledgers;
 use crate::locked::Locked;
 use crate::origins::Origin;
-use crate::refusals::Refusal;
+use crate::refusals::TurnRefusal;
 use crate::seats::Batch;
 use crate::waiting::Stance;
 use multi_hart::Machine;
@@ -22,22 +22,22 @@ use turn_log::TurnLog;
 /// A machine beside its log, and beside the books of all harts, which say how often the log has each hart and what
 /// the tally of its turns is.
 #[derive(Drop)]
-pub(crate) struct Guarded<O: Origin, F: Ledgers> {
+pub(crate) struct GuardedMachine<O: Origin, F: Ledgers> {
     locked: Locked<O>,
     books: Books<F>,
-    /// How often turns were made behind which their hart did not wait.
+    /// How often turns were made after which their hart did not wait.
     worked: u64,
     ghost numbers: { numbers_of books ≡ each (count_of locked.log.turns) },
     ghost tallies: { tallies_of books ≡ each (tally O.image O.harts locked.log.turns) },
 }
 
-impl<O: Origin, F: Ledgers> Guarded<O, F> {
+impl<O: Origin, F: Ledgers> GuardedMachine<O, F> {
     /// A machine with its log, beside books that say the same.
-    pub(crate) fn new(locked: Locked<O>, books: Books<F>) -> Guarded<O, F>
+    pub(crate) fn new(locked: Locked<O>, books: Books<F>) -> GuardedMachine<O, F>
         requires numbers { numbers_of books ≡ each (count_of locked.log.turns) }
         requires tallies { tallies_of books ≡ each (tally O.image O.harts locked.log.turns) }
     {
-        Guarded {
+        GuardedMachine {
             locked,
             books,
             worked: 0,
@@ -46,7 +46,7 @@ impl<O: Origin, F: Ledgers> Guarded<O, F> {
 
     /// Turns of the hart whose shares these are, one after the other, until one doesn't step, so many are made, or the
     /// hart has made 2^40 in all.
-    pub(crate) fn turns(&mut self, shares: &mut Shares<F>, most: u64) -> Result<Batch, Refusal>
+    pub(crate) fn turns(&mut self, shares: &mut Shares<F>, most: u64) -> Result<Batch, TurnRefusal>
         requires there { hart_of shares.old < O.harts }
         requires some { 1 ≤ most }
         requires few { most ≤ most_batch }
@@ -67,14 +67,14 @@ impl<O: Origin, F: Ledgers> Guarded<O, F> {
         ensures spent { (result ≡ Err TurnsSpent) ↔ (most_turns ≤ number_in shares.old) }
         ensures refused { IfErr result (λ why. number_of why ≤ 2) }
     {
-        let Guarded { locked, books, .. } = self;
+        let GuardedMachine { locked, books, .. } = self;
         books.agree(shares);
         let batch = locked.turns(shares.hart(), most)?;
         books.count(shares, batch.made, 16 * (batch.made - 1) + code(batch.last));
         Ok(batch)
     }
 
-    /// Looks at the hart of these shares behind its turns, of which the last came to this. Whether its thread is to
+    /// Looks at the hart of these shares after its turns, of which the last came to this. Whether its thread is to
     /// give way.
     pub(crate) fn gives_way(
         &mut self,
@@ -114,7 +114,7 @@ impl<O: Origin, F: Ledgers> Guarded<O, F> {
         ensures log { IsLog result.1 }
         ensures same { (result.0 ≡ self.locked.machine) × (result.1 ≡ self.locked.log) }
     {
-        let Guarded { locked, .. } = self;
+        let GuardedMachine { locked, .. } = self;
         locked.into_parts()
     }
 }

@@ -7,7 +7,7 @@
 //! - [`driving`], [`gates`]: a thread for each seat ([`drive`], [`Gate`]).
 //! - [`running`]: a machine made, driven and closed in one call ([`run`]).
 //! - [`seats`]: a hart of it ([`Seat`]).
-//! - [`refusals`]: why a turn is refused ([`Refusal`]).
+//! - [`refusals`]: why a turn is refused ([`TurnRefusal`]).
 #![tactic(auto)]
 
 mod books;
@@ -33,7 +33,7 @@ pub use crate::gates::{AlwaysOpen, Gate};
 pub use crate::ledgers::Ledgers;
 pub use crate::locked::Locked;
 pub use crate::origins::Origin;
-pub use crate::refusals::{DriveFault, Refusal};
+pub use crate::refusals::{DriveFault, TurnRefusal};
 pub use crate::running::run;
 pub use crate::seats::{Batch, Ended, Report, Seat};
 pub use crate::shared::Shared;

@@ -6,14 +6,14 @@ ghost use Rattle.rv_insn.specs.declared.outcomes.Outcome.TheVariants.{Stepped};
 ghost use Rattle.multi_hart.specs.Run.{turn, outcome};
 ghost use Rattle.turn_log.specs.TurnLog.{IsLog, count_of, most_turns};
 ghost use Rattle.shared_machine.specs.Log.{BeginsWith, after_turns, state_after, with_turn, with_turns};
-ghost use Rattle.multi_hart.specs.Stretches.{StepsOn};
+ghost use Rattle.multi_hart.specs.TurnsInARow.{StepsOn};
 ghost use Rattle.shared_machine.specs.Refusals.{number_of};
-ghost use Rattle.shared_machine.specs.declared.refusals.Refusal.TheVariants.{TurnsSpent};
+ghost use Rattle.shared_machine.specs.declared.refusals.TurnRefusal.TheVariants.{TurnsSpent};
 
 use crate::origins::Origin;
-use crate::refusals::Refusal;
+use crate::refusals::TurnRefusal;
 use crate::seats::Batch;
-use multi_hart::{Machine, Stretch};
+use multi_hart::{Machine, TurnsMade};
 use rv_insn::Outcome;
 use std::marker::PhantomData;
 use turn_log::{MOST_TURNS, TurnLog};
@@ -50,7 +50,7 @@ impl<O: Origin> Locked<O> {
     }
 
     /// One turn of a hart, which the log then tells. A hart that has stopped makes one too.
-    pub fn turn(&mut self, hart: usize) -> Result<Outcome, Refusal>
+    pub fn turn(&mut self, hart: usize) -> Result<Outcome, TurnRefusal>
         requires { hart < O.harts }
         ensures outcome { IfOk result (λ came. came ≡ outcome self.old.machine hart) }
         ensures machine { OnOk result (self.new.machine ≡ turn self.old.machine hart) }
@@ -61,7 +61,7 @@ impl<O: Origin> Locked<O> {
     {
         let Locked { machine, log, .. } = self;
         if log.count_of(hart) >= MOST_TURNS {
-            return Err(Refusal::TurnsSpent);
+            return Err(TurnRefusal::TurnsSpent);
         }
         log.push(hart)?;
         Ok(machine.turn(hart))
@@ -69,7 +69,7 @@ impl<O: Origin> Locked<O> {
 
     /// Turns of a hart one after the other, which the log then tells: until one doesn't step, so many are made, or the
     /// hart has made 2^40 in all. It makes at least one.
-    pub fn turns(&mut self, hart: usize, most: u64) -> Result<Batch, Refusal>
+    pub fn turns(&mut self, hart: usize, most: u64) -> Result<Batch, TurnRefusal>
         requires there { hart < O.harts }
         requires some { 1 ≤ most }
         ensures first { IfOk result (λ batch. batch.first ≡ count_of self.old.log.turns hart + 1) }
@@ -89,10 +89,10 @@ impl<O: Origin> Locked<O> {
         let Locked { machine, log, .. } = self;
         let before = log.count_of(hart);
         if before >= MOST_TURNS {
-            return Err(Refusal::TurnsSpent);
+            return Err(TurnRefusal::TurnsSpent);
         }
         log.push(hart)?;
-        let Stretch { made, last } = machine.step_on(hart, most.min(MOST_TURNS - before));
+        let TurnsMade { made, last } = machine.step_on(hart, most.min(MOST_TURNS - before));
         push_more(log, hart, made - 1);
         Ok(Batch {
             first: before + 1,

@@ -9,7 +9,7 @@ ghost use Rattle.shared_machine.specs.Tallies.{AreNamed, AreSharesAt, each, numb
 ghost use Rattle.turn_log.specs.TurnLog.{IsLog, count_of};
 
 use crate::books::{Blanks, Books, Shares, open_all};
-use crate::guarded::Guarded;
+use crate::guarded::GuardedMachine;
 use crate::ledgers::Ledgers;
 use crate::locked::Locked;
 use crate::origins::Origin;
@@ -69,7 +69,7 @@ impl<O: Origin, F: Ledgers> Shared<O, F> {
         let (board, places, glances) = Board::new(alloc, harts)?;
         let mut shares = Vec::from_array(alloc, shares)?;
         shares.truncate(harts);
-        let parts = Parts {
+        let parts = SeatParts {
             shares,
             places,
             glances,
@@ -77,7 +77,7 @@ impl<O: Origin, F: Ledgers> Shared<O, F> {
         let seats = take_seats(alloc, &board, &log, &tallies, &mut books, parts)?;
         let locked = Locked::new(machine, log);
         let shared = Shared {
-            guarded: Mutex::new(Guarded::new(locked, books)),
+            guarded: Mutex::new(GuardedMachine::new(locked, books)),
             board,
             glances_left: 8,
         };
@@ -87,7 +87,7 @@ impl<O: Origin, F: Ledgers> Shared<O, F> {
 
 /// What seats are made of: what each knows of its hart's turns, its place on the board, and a glance.
 #[derive(Drop)]
-struct Parts<F: Ledgers> {
+struct SeatParts<F: Ledgers> {
     shares: Vec<Shares<F>>,
     places: Vec<BoardSeat>,
     glances: Vec<Glance>,
@@ -101,7 +101,7 @@ fn take_seats<O: Origin, F: Ledgers>(
     log: &TurnLog,
     tallies: &[u64; 8],
     books: &mut Books<F>,
-    parts: Parts<F>,
+    parts: SeatParts<F>,
 ) -> Result<Vec<Seat<O, F>>, AllocError>
     requires shares { AreSharesAt (λ hart. 0) (λ hart. 0) 0 parts.shares.items }
     requires log { IsLog log.now }
@@ -121,7 +121,7 @@ fn take_seats<O: Origin, F: Ledgers>(
     ensures sums { OnOk result (tallies_of books.new ≡ each (tally O.image O.harts log.now.turns)) }
 {
     let mut seats = Vec::new(alloc);
-    let Parts {
+    let SeatParts {
         mut shares,
         mut places,
         mut glances,

@@ -3,14 +3,14 @@
 ghost use Rattle.std.specs.Prelude.{◌≡◌};
 ghost use Rattle.shared_machine.specs.Refusals.{drive_number, number_of};
 ghost use Rattle.shared_machine.specs.declared.refusals.DriveFault.TheVariants as fault;
-ghost use Rattle.shared_machine.specs.declared.refusals.Refusal.TheVariants.{OutOfMemory};
+ghost use Rattle.shared_machine.specs.declared.refusals.TurnRefusal.TheVariants.{OutOfMemory};
 
 use std::alloc::{AllocError, AllocFailed};
 use thiserror::Error;
 
 /// Why a turn is refused. Machine and log are then unchanged.
 #[derive(Clone, Copy, Debug, PartialEq, Eq, Error)]
-pub enum Refusal {
+pub enum TurnRefusal {
     /// 1: memory ran out.
     #[error("out of memory")]
     OutOfMemory,
@@ -22,32 +22,32 @@ pub enum Refusal {
     StopAsked,
 }
 
-impl Refusal {
+impl TurnRefusal {
     /// The refusal's number, from 1 on.
     pub fn number(self) -> u8
         ensures { result ≡ number_of self }
     {
         match self {
-            Refusal::OutOfMemory => 1,
-            Refusal::TurnsSpent => 2,
-            Refusal::StopAsked => 3,
+            TurnRefusal::OutOfMemory => 1,
+            TurnRefusal::TurnsSpent => 2,
+            TurnRefusal::StopAsked => 3,
         }
     }
 }
 
-impl From<AllocError> for Refusal {
+impl From<AllocError> for TurnRefusal {
     ghost from_gives = { λ _ e. e ≡ OutOfMemory };
 
-    fn from(_e: AllocError) -> Refusal {
-        Refusal::OutOfMemory
+    fn from(_e: AllocError) -> TurnRefusal {
+        TurnRefusal::OutOfMemory
     }
 }
 
-impl<T: Drop> From<AllocFailed<T>> for Refusal {
+impl<T: Drop> From<AllocFailed<T>> for TurnRefusal {
     ghost from_gives = { λ _ e. e ≡ OutOfMemory };
 
-    fn from(_e: AllocFailed<T>) -> Refusal {
-        Refusal::OutOfMemory
+    fn from(_e: AllocFailed<T>) -> TurnRefusal {
+        TurnRefusal::OutOfMemory
     }
 }
 

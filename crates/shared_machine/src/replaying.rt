@@ -7,7 +7,7 @@ ghost use Rattle.shared_machine.specs.Log.{after_turns, tally_more, tally_from};
 ghost use Rattle.shared_machine.specs.Tallies.{each};
 
 use crate::guarded::code;
-use multi_hart::{Machine, Stretch};
+use multi_hart::{Machine, TurnsMade};
 use rv_insn::Outcome;
 use turn_log::TurnLog;
 
@@ -39,6 +39,6 @@ fn replay_run(machine: &mut Machine, hart: usize, turns: u64) -> u64
     if turns == 0 {
         return 0;
     }
-    let Stretch { made, last } = machine.step_on(hart, turns);
+    let TurnsMade { made, last } = machine.step_on(hart, turns);
     code(Outcome::Stepped) * (made - 1) + code(last)
 }

@@ -16,7 +16,7 @@ use crate::gates::AlwaysOpen;
 use crate::ledgers::Ledgers;
 use crate::locked::Locked;
 use crate::origins::Origin;
-use crate::refusals::{DriveFault, Refusal};
+use crate::refusals::{DriveFault, TurnRefusal};
 use crate::replaying::replay;
 use crate::seats::{Ended, Seat};
 use crate::shared::Shared;
@@ -88,7 +88,7 @@ fn run_on<O: Origin>(locked: &mut Locked<O>, limit: u64) -> Result<(), AllocErro
     }
     match locked.turns(FIRST, limit) {
         Ok(_) => Ok(()),
-        Err(Refusal::OutOfMemory) => Err(AllocError),
+        Err(TurnRefusal::OutOfMemory) => Err(AllocError),
         // The hart has made as many turns as it may.
         Err(_) => Ok(()),
     }
@@ -157,10 +157,10 @@ fn check_ended<O: Origin, F: Ledgers>(seats: &[Seat<O, F>]) -> Result<(), DriveF
     ensures memory { OnOk result (has_refused 1 seats.now ≡ false) }
     ensures stopped { OnOk result (has_refused 3 seats.now ≡ false) }
 {
-    if has_refused(seats, Refusal::OutOfMemory.number()) {
+    if has_refused(seats, TurnRefusal::OutOfMemory.number()) {
         return Err(DriveFault::OutOfMemory);
     }
-    if has_refused(seats, Refusal::StopAsked.number()) {
+    if has_refused(seats, TurnRefusal::StopAsked.number()) {
         return Err(DriveFault::NoThread);
     }
     Ok(())

@@ -7,7 +7,7 @@ ghost use Rattle.shared_machine.specs.Tallies.{hart_of, number_in};
 use crate::books::Shares;
 use crate::ledgers::Ledgers;
 use crate::origins::Origin;
-use crate::refusals::Refusal;
+use crate::refusals::TurnRefusal;
 use crate::waiting::Stance;
 use board::{BoardSeat, Glance};
 use rv_insn::Outcome;
@@ -57,7 +57,7 @@ pub enum Ended {
     /// The gate didn't let it go on.
     Shut,
     /// A turn was refused.
-    Refused(Refusal),
+    Refused(TurnRefusal),
 }
 
 impl<O: Origin, F: Ledgers> Seat<O, F> {

@@ -7,13 +7,13 @@ ghost use Rattle.board.specs.Closing.{IsNewGlance};
 ghost use Rattle.board.specs.Tokens.{name_of, has_asked, has_seen_stop};
 ghost use Rattle.shared_machine.specs.Log.{Came, CameSo, code_of, most_batch};
 ghost use Rattle.shared_machine.specs.Seats.{IsSeatOf, hart, number, tally};
-ghost use Rattle.shared_machine.specs.declared.refusals.Refusal.TheVariants.{TurnsSpent, StopAsked};
+ghost use Rattle.shared_machine.specs.declared.refusals.TurnRefusal.TheVariants.{TurnsSpent, StopAsked};
 ghost use Rattle.rv_insn.specs.declared.outcomes.Outcome.TheVariants.{Stepped, Idle};
 
-use crate::guarded::Guarded;
+use crate::guarded::GuardedMachine;
 use crate::ledgers::Ledgers;
 use crate::origins::Origin;
-use crate::refusals::Refusal;
+use crate::refusals::TurnRefusal;
 use crate::seats::{Batch, Report, Seat};
 use board::{Board, Glance};
 use std::hint;
@@ -34,7 +34,7 @@ const NAPS: u32 = 1_000;
 /// A machine under one lock, with its log, and a board beside it.
 #[derive(Drop)]
 pub struct Shared<O: Origin, F: Ledgers> {
-    pub(crate) guarded: Mutex<Guarded<O, F>>,
+    pub(crate) guarded: Mutex<GuardedMachine<O, F>>,
     pub(crate) board: Board,
     pub(crate) glances_left: u8,
     ghost same: { board.harts ≡ O.harts },
@@ -67,7 +67,7 @@ impl<O: Origin, F: Ledgers> Shared<O, F> {
     /// A thread that finds the lock held naps, and does not queue: the one that has it then takes it again without a
     /// call of the system, which would cost more than a batch of turns. So that none waits for ever where others always
     /// come first, it queues after so many naps.
-    fn locked<R: Wait>(&self, rt: &R) -> MutexGuard<'_, Guarded<O, F>> {
+    fn locked<R: Wait>(&self, rt: &R) -> MutexGuard<'_, GuardedMachine<O, F>> {
         for _nap in 0..NAPS {
             for _look in 0..LOOKS {
                 if let Some(guard) = self.guarded.try_lock() {
@@ -84,7 +84,7 @@ impl<O: Origin, F: Ledgers> Shared<O, F> {
     ///
     /// A call that finds a stop asked makes no turn and says so, and so does each later call by this seat. One that
     /// comes after a stop was asked by the seat finds it.
-    pub fn turn<R: Wait>(&self, rt: &R, seat: &mut Seat<O, F>) -> Result<Report, Refusal>
+    pub fn turn<R: Wait>(&self, rt: &R, seat: &mut Seat<O, F>) -> Result<Report, TurnRefusal>
         requires { IsSeatOf (name_of self.now.board) seat.old }
         ensures of { IsSeatOf (name_of self.now.board) seat.new × (hart seat.new ≡ hart seat.old) }
         ensures number { IfOk result (λ report. (report.number ≡ number seat.old + 1)
@@ -113,7 +113,12 @@ impl<O: Origin, F: Ledgers> Shared<O, F> {
 
     /// Turns of the seat's hart, one after the other, under one lock: until one doesn't step, so many are made, or the
     /// seat's number is 2^40. It makes at least one. Waits for the lock. A stop is told as by [`turn`](Shared::turn).
-    pub fn turns<R: Wait>(&self, rt: &R, seat: &mut Seat<O, F>, most: u64) -> Result<Batch, Refusal>
+    pub fn turns<R: Wait>(
+        &self,
+        rt: &R,
+        seat: &mut Seat<O, F>,
+        most: u64,
+    ) -> Result<Batch, TurnRefusal>
         requires of { IsSeatOf (name_of self.now.board) seat.old }
         requires some { 1 ≤ most }
         requires few { most ≤ most_batch }
@@ -144,10 +149,10 @@ impl<O: Origin, F: Ledgers> Shared<O, F> {
             ..
         } = seat;
         if self.board.own(place) >= MOST_TURNS {
-            return Err(Refusal::TurnsSpent);
+            return Err(TurnRefusal::TurnsSpent);
         }
         if self.board.stop_asked(glance) {
-            return Err(Refusal::StopAsked);
+            return Err(TurnRefusal::StopAsked);
         }
         let mut guarded = self.locked(rt);
         let batch = guarded.turns(shares, most)?;

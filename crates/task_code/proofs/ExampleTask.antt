@@ -20,15 +20,15 @@ use Rattle.loop_ir.specs.Counters.{Values}
 use Rattle.loop_ir.specs.Expressions.{value, value_at, loads, seen, seen_at, linear_value}
 use Rattle.loop_ir.specs.Running.{run_task, stored, task_values}
 use Rattle.loop_ir.proofs.Folds.{at_number, at_linear}
-use Rattle.loop_ir.specs.Rounds.{Rounds}
-use Rattle.loop_ir.proofs.Rounds.{rounds_store}
+use Rattle.loop_ir.specs.LoopLanes.{LoopLanes}
+use Rattle.loop_ir.proofs.LoopLanes.{lanes_store}
 use Rattle.loop_ir.proofs.Sound.{sound_store}
 use Rattle.loop_ir.proofs.Trees.{run_store}
-use Rattle.multi_hart_logic.specs.LaneMemory.{firsts}
-use Rattle.multi_hart_logic.specs.Alone.{World}
-use Rattle.multi_hart_logic.specs.Paths.{Line, end, update}
-use Rattle.multi_hart_logic.proofs.Paths.{block-then, line-then, stand-back, stand-front, update-other, update-same, writes-first, writes-later}
-use Rattle.multi_hart_logic.proofs.Rows as rows
+use Rattle.multi_hart_laws.specs.LaneMemory.{firsts}
+use Rattle.multi_hart_laws.specs.Alone.{World}
+use Rattle.multi_hart_laws.specs.Paths.{Line, end, update}
+use Rattle.multi_hart_laws.proofs.Paths.{block-then, line-then, stand-back, stand-front, update-other, update-same, writes-first, writes-later}
+use Rattle.multi_hart_laws.proofs.Rows as rows
 use Rattle.task_code_scalar.specs.Evaluation.{IsPlace, ArePlaces}
 use Rattle.task_code_scalar.specs.Layout.{func_point, address_of, size_of, AreWords, IsAt, MayStore, MayLoad, Laid}
 use Rattle.task_code_scalar.specs.Doing.{Setting, IsSetting, MayBeWrittenAtOnce, SoundIn, RunsIn, HoldsFuncs}
@@ -37,7 +37,7 @@ use Rattle.task_code_scalar.proofs.Tracing.{hit-store}
 use Rattle.task_code_scalar.proofs.Values.{Sets, alu-sets, imm-sets, shift-sets}
 use Rattle.task_code_registers.proofs.Going.{Does}
 use Rattle.task_code_values.proofs.Saving.{equal-parts, is-single, saved}
-use Rattle.task_code_runs.specs.AtOnce.{AtOnceIn}
+use Rattle.task_code_vector_loops.specs.AtOnce.{AtOnceIn}
 use Rattle.task_code_statements.specs.Tasks.{EachTaskEnds, restored}
 use Rattle.task_code_statements.proofs.Tasking.{restores}
 use Rattle.task_code.specs.Example.{example_counter, counted, example_store, example_phase, example_place, example_places, example_ticket, example_text}
@@ -237,7 +237,7 @@ module _ (task : ℕ) (small : task < 2) where
   good = record { are_places = are-places; laid = laid-is; have = λ func x y is. is; are_words = λ place x y lx ly. omega arith; at_once = at-once-are }
 
   once-is : AtOnceIn (example_setting task) example_phase.body (task_values (Some example_counter) task)
-  once-is funcs are = ap (λ (r : Rounds). r.may_be_at_once (task_values (Some example_counter) task)) (rounds_store (reads_of nothing funcs) example_store)
+  once-is funcs are = ap (λ (r : LoopLanes). r.may_be_at_once (task_values (Some example_counter) task)) (lanes_store (reads_of nothing funcs) example_store)
 
   holds-nothing : HoldsFuncs (example_setting task) example_data nothing
   holds-nothing = record {

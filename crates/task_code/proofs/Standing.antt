@@ -2,7 +2,7 @@
 use Rattle.std.proofs.Common.{◌≡◌, ◌+◌, ◌*◌, ◌≤◌, length, ◌++◌, ap, ◌∙◌, sym, subst, arith, length-append, append_assoc}
 use Rattle.task_code_scalar.proofs.Looping.{end-length}
 use Rattle.task_code_scalar.proofs.Spelling.{stand-spelled, spell-length}
-use Rattle.multi_hart_logic.specs.Paths.{Stand}
+use Rattle.multi_hart_laws.specs.Paths.{Stand}
 use Rattle.task_code.specs.Tasks.{AppendedWordsStand}
 
 pub appended-stand : AppendedWordsStand

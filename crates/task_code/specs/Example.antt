@@ -1,7 +1,7 @@
 -- One phase of two tasks, each with one store, and a text that spells code of it: the premises of what is promised of tasks, all met
 -- at once, and a run from there. There is no loop, no run and no frame in it. This project's own.
 --
--- Task t stores 7 + t at column t of the only buffer, which lies behind the phase's two words.
+-- Task t stores 7 + t at column t of the only buffer, which lies after the phase's two words.
 use Rattle.std.specs.Prelude.{◌%◌, ◌≡◌, ◌<◌, ℕ, ◌+◌, ◌*◌, ◌-◌, ◌/◌, ◌==◌, ◌&&◌, nat_lt, if◌then◌else◌, Bool, false, List, [], ◌∷◌, length, replicate, Some}
 use Rattle.std.specs.Prelude.{None}
 use Rattle.memory.specs.Access.{text_start, word_at}
@@ -17,14 +17,14 @@ use Rattle.loop_ir.specs.declared.statements.Store.{Store}
 use Rattle.loop_ir.specs.declared.statements.Stmt.TheVariants as s
 use Rattle.loop_ir.specs.Buffers.{Points}
 use Rattle.loop_ir.specs.Running.{task_values}
-use Rattle.multi_hart_logic.specs.Uses.{Use, Control, Fixed, Owned, Task}
-use Rattle.multi_hart_logic.specs.Alone.{World}
-use Rattle.multi_hart_logic.specs.Paths.{Path}
-use Rattle.task_code_scalar.specs.declared.places.Pixels.TheVariants as pixels
-use Rattle.task_code_scalar.specs.declared.places.Place.{Place}
-use Rattle.task_code_scalar.specs.declared.places.Places.{Places}
+use Rattle.multi_hart_laws.specs.Uses.{Use, Control, Fixed, Owned, Task}
+use Rattle.multi_hart_laws.specs.Alone.{World}
+use Rattle.multi_hart_laws.specs.Paths.{Path}
+use Rattle.task_code_scalar.specs.declared.layouts.Pixels.TheVariants as pixels
+use Rattle.task_code_scalar.specs.declared.layouts.BufferLayout.{BufferLayout}
+use Rattle.task_code_scalar.specs.declared.layouts.Places.{Places}
 use Rattle.task_code_scalar.specs.Doing.{Setting, IsSetting, SoundIn, RunsIn, HoldsFuncs}
-use Rattle.task_code_runs.specs.AtOnce.{AtOnceIn}
+use Rattle.task_code_vector_loops.specs.AtOnce.{AtOnceIn}
 use Rattle.task_code_statements.specs.Tasks.{HasDrawn}
 
 -- ---- the phase
@@ -44,7 +44,7 @@ example_phase = record { tasks = 2; counter = Some example_counter; body = s.Sto
 
 -- ---- where it runs
 
-abbrev pub example_place : Place
+abbrev pub example_place : BufferLayout
 example_place = record { start = 0x00200008; width = 2; distance = 0; pixels = pixels.Words }
 
 abbrev pub example_places : Places
@@ -123,7 +123,7 @@ example_setting task = record {
 
 -- ---- what it comes to
 
--- The setting is one, the phase's statement may run there, and memory holds the buffers; behind its code the task's number and 7 stand in the
+-- The setting is one, the phase's statement may run there, and memory holds the buffers; after its code the task's number and 7 stand in the
 -- task's word.
 pub record ExampleEnds (task : ℕ) (f : ℕ → ℕ) : Type 0 where
   pub good : IsSetting (example_setting task)

@@ -4,7 +4,7 @@ use Rattle.loop_ir.specs.declared.statements.Phase.{Phase}
 use Rattle.loop_ir.specs.Depths.{task_depth}
 use Rattle.loop_ir.specs.Needs.{greatest_need}
 use Rattle.task_code_scalar.specs.declared.CodeFault.{CodeFault}
-use Rattle.task_code_scalar.specs.declared.places.Places.{Places}
+use Rattle.task_code_scalar.specs.declared.layouts.Places.{Places}
 use Rattle.task_code_scalar.specs.Faults.{IsFault, LieLow, HasRoom}
 use Rattle.task_code.specs.Tasks.{task_size}
 

@@ -5,8 +5,8 @@ use Rattle.rv_insn.specs.declared.instructions.Insn.{Insn}
 use Rattle.memory.specs.Access.{text_start, most_words}
 use Rattle.loop_ir.specs.declared.statements.Phase.{Phase}
 use Rattle.loop_ir.specs.Sizes.{whole_size}
-use Rattle.multi_hart_logic.specs.Paths.{Stand, end}
-use Rattle.task_code_scalar.specs.declared.places.Places.{Places}
+use Rattle.multi_hart_laws.specs.Paths.{Stand, end}
+use Rattle.task_code_scalar.specs.declared.layouts.Places.{Places}
 use Rattle.task_code_scalar.specs.Words.{Emits}
 use Rattle.task_code_statements.specs.Tasks.{DoesTask}
 

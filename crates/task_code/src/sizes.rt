@@ -78,7 +78,7 @@ fn store_size(store: &Store) -> u32
     )
 }
 
-/// Whether a loop of this kind is laid out, one copy of its body a round.
+/// Whether a loop of this kind is laid out, one copy of its body an iteration.
 fn is_laid_out(kind: LoopKind) -> bool
     ensures { result ≡ spec.is_laid_out kind }
 {
@@ -89,7 +89,7 @@ fn is_laid_out(kind: LoopKind) -> bool
     }
 }
 
-/// Whether there is a copy of a loop's body for each round.
+/// Whether there is a copy of a loop's body for each iteration.
 fn are_copies(is_laid: bool, count: u32) -> bool
     ensures { result ≡ spec.are_copies is_laid count }
 {

@@ -8,7 +8,7 @@ ghost use Rattle.task_code.specs.inner.Emitting.{EmitsTaskIf};
 use crate::sizes::task_size;
 use loop_ir::statements::Phase;
 use std::alloc::{AllocError, Global};
-use task_code_scalar::places::Places;
+use task_code_scalar::layouts::Places;
 use task_code_scalar::{CodeFault, append};
 use task_code_statements::stages::{CodeStage, add_moved};
 use task_code_statements::tasks as forms;
@@ -48,9 +48,9 @@ fn emit_by_forms(
 
 /// Appends the code of one task of a phase.
 ///
-/// It finds the task's number in x12 and the hart's in x10, and ends behind its last word, with the addresses of the
-/// ticket word and of the gate word behind it in x13 and x14, 1 in x15 and the number of tasks in x16; x10 and x11
-/// stay. Wherever it stands it does each task of the phase to the buffers in memory, in turns that hang on the task
+/// It finds the task's number in x12 and the hart's in x10, and ends after its last word, with the addresses of the
+/// ticket word and of the gate word after it in x13 and x14, 1 in x15 and the number of tasks in x16; x10 and x11
+/// stay. Wherever it stands it does each task of the phase to the buffers in memory, in turns that depend on the task
 /// alone (`DoesTask` of `task_code_statements/specs/Tasks.antt`), and it has no more words than the phase asks for. It
 /// also adds which of the words it takes for the code of stages inside the phase; no clause speaks of that.
 ///

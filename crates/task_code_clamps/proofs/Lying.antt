@@ -6,7 +6,7 @@ use Rattle.halide_pipeline.specs.Words.{add, less, minimum, maximum, subtract}
 use Rattle.loop_ir.specs.declared.expressions.Linear.{Linear}
 use Rattle.loop_ir.specs.Counters.{Values}
 use Rattle.loop_ir.specs.Expressions.{linear_value, sum_of}
-use Rattle.task_code_clamps.specs.declared.ranges.Range.{Range}
+use Rattle.task_code_clamps.specs.declared.ranges.LevelRange.{LevelRange}
 use Rattle.task_code_clamps.specs.Ranges.{level, LiesIn}
 
 -- the lesser's level is the lesser level, and so it is with the greater
@@ -24,14 +24,14 @@ level-maximum v w = elim (cases_lt (level v) (level w)) [
   | inr l ↦ rw (le-ltb (level v) (level w) l) (omega arith)
 ]
 
-pub lesser-lies : (a b made : Range) (v w : ℕ) → made.low ≡ min a.low b.low → made.high ≡ min a.high b.high → LiesIn a v → LiesIn b w
+pub lesser-lies : (a b made : LevelRange) (v w : ℕ) → made.low ≡ min a.low b.low → made.high ≡ min a.high b.high → LiesIn a v → LiesIn b w
     → LiesIn made (minimum v w)
 lesser-lies a b made v w el eh x y =
     let e = level-minimum v w in
     let xl = x.low in let xh = x.high in let yl = y.low in let yh = y.high in
     record { low = omega (arith, e, el, xl, yl); high = omega (arith, e, eh, xh, yh) }
 
-pub greater-lies : (a b made : Range) (v w : ℕ) → made.low ≡ max a.low b.low → made.high ≡ max a.high b.high → LiesIn a v → LiesIn b w
+pub greater-lies : (a b made : LevelRange) (v w : ℕ) → made.low ≡ max a.low b.low → made.high ≡ max a.high b.high → LiesIn a v → LiesIn b w
     → LiesIn made (maximum v w)
 greater-lies a b made v w el eh x y =
     let e = level-maximum v w in
@@ -57,7 +57,7 @@ maximum-second v w l = rw (lt-ltb (level v) (level w) l) refl
 
 -- ---- sums
 
-pub up-lies : (first most more low : ℕ) (made : Range) → low ≡ level first → made.low ≡ low → made.high ≡ low + most → low + most < 2 ^ 32 → more ≤ most
+pub up-lies : (first most more low : ℕ) (made : LevelRange) → low ≡ level first → made.low ≡ low → made.high ≡ low + most → low + most < 2 ^ 32 → more ≤ most
     → LiesIn made (add first more)
 unfolding add
 up-lies first most more low made e el eh small l =

@@ -15,13 +15,13 @@ use Rattle.loop_ir.specs.declared.expressions.Linear.{Linear}
 use Rattle.loop_ir.specs.Counters.{Values}
 use Rattle.loop_ir.specs.Expressions.{linear_value, value, loads, seen, seen_at}
 use Rattle.loop_ir.proofs.Folds.{at_number, at_linear}
-use Rattle.task_code_scalar.specs.declared.places.Places.{Places}
+use Rattle.task_code_scalar.specs.declared.layouts.Places.{Places}
 use Rattle.task_code_loops.specs.declared.bounds.Bound.{Bound}
 use Rattle.task_code_loops.specs.Bounds.{AreBelow}
 use Rattle.task_code_values.proofs.Evaluating.{value_number, value_linear, value_binary, value_divide, value_remainder, value_select, value_load}
 use Rattle.task_code_values.proofs.Evaluating.{loads_binary, loads_divide, loads_remainder, loads_select, loads_load}
 use Rattle.task_code_clamps.specs.declared.clamps.Ranged.{Ranged}
-use Rattle.task_code_clamps.specs.declared.ranges.Range.{Range}
+use Rattle.task_code_clamps.specs.declared.ranges.LevelRange.{LevelRange}
 use Rattle.task_code_clamps.specs.Clamps.{AreBytesAt, IsSame, IsRanged}
 use Rattle.task_code_clamps.specs.Ranges.{IsByte, LiesIn}
 use Rattle.task_code_clamps.specs.Steps.{IsTested}
@@ -51,7 +51,7 @@ module _ (places : Places) (bounds : List Bound) where
     loads_are = λ reads values below bytes. ap (λ x. loads reads values x) (sym is);
   }
 
-  pub ranged-number : (own : Expr) (n : ℕ) (range : Range) → own ≡ e.Number n → n < 2 ^ 32 → LiesIn range n
+  pub ranged-number : (own : Expr) (n : ℕ) (range : LevelRange) → own ≡ e.Number n → n < 2 ^ 32 → LiesIn range n
       → IsRanged places bounds own (record { e = e.Number n; range = range; is_word = true })
   ranged-number own n range is small l = record {
     same = same-itself own (e.Number n) is;
@@ -59,7 +59,7 @@ module _ (places : Places) (bounds : List Bound) where
     word = λ reads values below bytes w. subst (λ k. k < 2 ^ 32) (sym (ap (λ x. value reads values x) is ∙ value_number reads values n)) small;
   }
 
-  pub ranged-linear : (own : Expr) (sum made : Linear) (range : Range) → own ≡ e.Linear sum → made ≡ sum
+  pub ranged-linear : (own : Expr) (sum made : Linear) (range : LevelRange) → own ≡ e.Linear sum → made ≡ sum
       → ((values : Values) → AreBelow bounds values → LiesIn range (linear_value values sum))
       → IsRanged places bounds own (record { e = e.Linear made; range = range; is_word = true })
   ranged-linear own sum made range is same l = record {
@@ -160,7 +160,7 @@ module _ (places : Places) (bounds : List Bound) where
           (ry.word reads values below (parts o x y a b rx ry reads values below bytes).1 w);
     }
 
-    pub taken-both : (first second : Expr) (range : Range) (is_word is_choice : Bool) → first ≡ a.e → second ≡ b.e
+    pub taken-both : (first second : Expr) (range : LevelRange) (is_word is_choice : Bool) → first ≡ a.e → second ≡ b.e
         → ((v w : ℕ) → LiesIn a.range v → LiesIn b.range w → LiesIn range (word.applied o v w))
         → is_word ≡ ((a.is_word && b.is_word) && is_choice)
         → (is_choice ≡ true → (v w : ℕ) → v < 2 ^ 32 → w < 2 ^ 32 → word.applied o v w < 2 ^ 32)
@@ -207,7 +207,7 @@ module _ (places : Places) (bounds : List Bound) where
             subst (λ l. AreBytesAt places reads l) (sym (el reads values ∙ both-loads o x y a b rx ry reads values below bytes)) bytes
 
     -- by a test
-    pub by-test : (made : Expr) (range : Range) (is_word is_choice : Bool) → IsTested o a b made
+    pub by-test : (made : Expr) (range : LevelRange) (is_word is_choice : Bool) → IsTested o a b made
         → ((v w : ℕ) → LiesIn a.range v → LiesIn b.range w → LiesIn range (word.applied o v w))
         → is_word ≡ ((a.is_word && b.is_word) && is_choice)
         → (is_choice ≡ true → (v w : ℕ) → v < 2 ^ 32 → w < 2 ^ 32 → word.applied o v w < 2 ^ 32)
@@ -248,7 +248,7 @@ module _ (places : Places) (bounds : List Bound) where
     word = λ reads values below bytes w. absurd (true≢false (sym w ∙ none));
   }
 
-  pub ranged-divide : (own x gx made : Expr) (c : ℕ) (range : Range) → own ≡ e.Divide x c → gx ≡ x → IsSame places bounds gx made
+  pub ranged-divide : (own x gx made : Expr) (c : ℕ) (range : LevelRange) → own ≡ e.Divide x c → gx ≡ x → IsSame places bounds gx made
       → ((v : ℕ) → LiesIn range v) → IsRanged places bounds own (record { e = e.Divide made c; range = range; is_word = false })
   ranged-divide own x gx made c range is ex same l =
       subst (λ t. IsRanged places bounds t (record { e = e.Divide made c; range = range; is_word = false })) (sym (is ∙ ap (λ t. e.Divide t c) (sym ex)))
@@ -265,7 +265,7 @@ module _ (places : Places) (bounds : List Bound) where
         word = λ reads values below bytes w. absurd (true≢false (sym w));
       })
 
-  pub ranged-remainder : (own x gx made : Expr) (c : ℕ) (range : Range) → own ≡ e.Remainder x c → gx ≡ x → IsSame places bounds gx made
+  pub ranged-remainder : (own x gx made : Expr) (c : ℕ) (range : LevelRange) → own ≡ e.Remainder x c → gx ≡ x → IsSame places bounds gx made
       → ((v : ℕ) → LiesIn range v) → IsRanged places bounds own (record { e = e.Remainder made c; range = range; is_word = false })
   ranged-remainder own x gx made c range is ex same l =
       subst (λ t. IsRanged places bounds t (record { e = e.Remainder made c; range = range; is_word = false })) (sym (is ∙ ap (λ t. e.Remainder t c) (sym ex)))
@@ -317,7 +317,7 @@ module _ (places : Places) (bounds : List Bound) where
         ∙ ap (λ l. lc ++ (l ++ loads reads values my)) (sx.loads_are reads values below three.1.0)
         ∙ ap (λ l. lc ++ (lx ++ l)) (sy.loads_are reads values below three.1.1) ∙ sym (loads_select reads values c x y)
 
-  pub ranged-select : (own c x y gc gx gy mc mx my : Expr) (range : Range) → own ≡ e.Select c x y → gc ≡ c → gx ≡ x → gy ≡ y
+  pub ranged-select : (own c x y gc gx gy mc mx my : Expr) (range : LevelRange) → own ≡ e.Select c x y → gc ≡ c → gx ≡ x → gy ≡ y
       → IsSame places bounds gc mc → IsSame places bounds gx mx → IsSame places bounds gy my → ((v : ℕ) → LiesIn range v)
       → IsRanged places bounds own (record { e = e.Select mc mx my; range = range; is_word = false })
   ranged-select own c x y gc gx gy mc mx my range is ec ex ey sc sx sy l =
@@ -369,7 +369,7 @@ module _ (places : Places) (bounds : List Bound) where
     load-byte : IsByte places source (value reads values (e.Load source x y))
     load-byte = subst (λ n. IsByte places source n) (sym (value_load reads values source x y)) two.1.0
 
-  pub ranged-load : (own x y gx gy mx my : Expr) (source : Source) (range : Range) (is_word : Bool) → own ≡ e.Load source x y → gx ≡ x → gy ≡ y
+  pub ranged-load : (own x y gx gy mx my : Expr) (source : Source) (range : LevelRange) (is_word : Bool) → own ≡ e.Load source x y → gx ≡ x → gy ≡ y
       → IsSame places bounds gx mx → IsSame places bounds gy my → ((v : ℕ) → IsByte places source v → LiesIn range v)
       → (is_word ≡ true → (v : ℕ) → IsByte places source v → v < 256)
       → IsRanged places bounds own (record { e = e.Load source mx my; range = range; is_word = is_word })

@@ -12,7 +12,7 @@ use Rattle.loop_ir.specs.declared.expressions.Linear.{Linear}
 use Rattle.loop_ir.specs.Expressions.{linear_value, value, loads}
 use Rattle.task_code_values.proofs.Evaluating.{value_number, value_linear, value_binary, loads_binary}
 use Rattle.task_code_clamps.specs.declared.clamps.Ranged.{Ranged}
-use Rattle.task_code_clamps.specs.declared.ranges.Range.{Range}
+use Rattle.task_code_clamps.specs.declared.ranges.LevelRange.{LevelRange}
 use Rattle.task_code_clamps.specs.Ranges.{level, LiesIn}
 use Rattle.task_code_clamps.specs.Steps.{IsGreater, IsLesser, IsMore, IsSteppedDown, IsSteppedUp, IsTested}
 use Rattle.task_code_clamps.proofs.Lying.{sum-word}
@@ -113,7 +113,7 @@ module _ (own first second : Linear) (number : ℕ) (bound third test last : Exp
 
 -- ---- clamps
 
-module _ (own : Linear) (range : Range) (number : ℕ) (small : number < 2 ^ 32) where
+module _ (own : Linear) (range : LevelRange) (number : ℕ) (small : number < 2 ^ 32) where
   pub greater-up : (made : Expr) → level number ≤ range.low + 1 → IsSteppedUp own number made → IsGreater own range number made
   greater-up made l up = record {
     value_is = λ reads values lies.

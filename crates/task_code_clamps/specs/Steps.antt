@@ -8,7 +8,7 @@ use Rattle.loop_ir.specs.declared.expressions.Linear.{Linear}
 use Rattle.loop_ir.specs.Counters.{Values}
 use Rattle.loop_ir.specs.Expressions.{linear_value, value, loads}
 use Rattle.task_code_clamps.specs.declared.clamps.Ranged.{Ranged}
-use Rattle.task_code_clamps.specs.declared.ranges.Range.{Range}
+use Rattle.task_code_clamps.specs.declared.ranges.LevelRange.{LevelRange}
 use Rattle.task_code_clamps.specs.Ranges.{LiesIn}
 
 -- a sum is so much more
@@ -27,12 +27,12 @@ pub record IsSteppedDown (own : Linear) (number : ℕ) (made : Expr) : Type 0 wh
   pub none : (reads : Reads) (values : Values) → loads reads values made ≡ []
 
 -- it is the greater of a sum and a number, or the lesser, where the sum lies in a range
-pub record IsGreater (own : Linear) (range : Range) (number : ℕ) (made : Expr) : Type 0 where
+pub record IsGreater (own : Linear) (range : LevelRange) (number : ℕ) (made : Expr) : Type 0 where
   pub value_is : (reads : Reads) (values : Values) → LiesIn range (linear_value values own)
       → value reads values made ≡ word.maximum (linear_value values own) number
   pub none : (reads : Reads) (values : Values) → loads reads values made ≡ []
 
-pub record IsLesser (own : Linear) (range : Range) (number : ℕ) (made : Expr) : Type 0 where
+pub record IsLesser (own : Linear) (range : LevelRange) (number : ℕ) (made : Expr) : Type 0 where
   pub value_is : (reads : Reads) (values : Values) → LiesIn range (linear_value values own)
       → value reads values made ≡ word.minimum (linear_value values own) number
   pub none : (reads : Reads) (values : Values) → loads reads values made ≡ []

@@ -8,30 +8,32 @@ ghost use Rattle.loop_ir.specs.Expressions.{loads};
 ghost use Rattle.loop_ir.specs.declared.expressions.Expr.TheVariants as expressions;
 ghost use Rattle.task_code_clamps.specs.Clamps.{IsRanged, IsSame};
 ghost use Rattle.task_code_loops.specs.declared.bounds.Bound.{Bound};
-ghost use Rattle.task_code_scalar.specs.declared.places.Places.{Places};
+ghost use Rattle.task_code_scalar.specs.declared.layouts.Places.{Places};
 ghost use Rattle.loop_ir.specs.declared.expressions.Expr.{Expr};
 ghost use Rattle.task_code_clamps.specs.Ranges.{LiesIn};
 
-use crate::ranges::{Range, ZERO, any, has_bytes, of_greater, of_lesser, of_pixels, of_sum, only};
+use crate::ranges::{
+    LevelRange, ZERO, any, has_bytes, of_greater, of_lesser, of_pixels, of_sum, only,
+};
 use crate::steps::by_test;
 use halide_pipeline::{Operation, Source};
 use loop_ir::expressions::{Expr, Linear};
 use sqlite_items::Boxed;
 use std::alloc::{AllocError, Global};
 use task_code_loops::bounds::Bound;
-use task_code_scalar::places::Places;
+use task_code_scalar::layouts::Places;
 
 /// An expression, between which numbers its value lies, and whether it is known that it is below 2^32.
 #[derive(Debug, Drop)]
 pub struct Ranged {
     pub e: Expr,
-    pub range: Range,
+    pub range: LevelRange,
     pub is_word: bool,
 }
 
 /// Which of an operation's operands its value always is.
 #[derive(Clone, Copy, Debug)]
-enum Taken {
+enum TakenOperand {
     First,
     Second,
     Either,
@@ -53,58 +55,59 @@ fn is_leaf(e: &Expr) -> bool
 }
 
 /// Whether a range is that of 0 alone.
-fn is_zero(range: Range) -> bool
+fn is_zero(range: LevelRange) -> bool
     ensures { result ≡ true → (v : ℕ) → v < 2 ^ 32 → LiesIn range v → v ≡ 0 }
 {
     range.low == ZERO && range.high == ZERO
 }
 
 /// Which of two operands an operation takes wherever they lie in these ranges, and are words, if so.
-fn taken_of(operation: Operation, a: Range, b: Range, are_words: bool) -> Taken
+fn taken_of(operation: Operation, a: LevelRange, b: LevelRange, are_words: bool) -> TakenOperand
     ensures first { (v w : ℕ) → LiesIn a v → LiesIn b w → (are_words ≡ true → (v < 2 ^ 32) × (w < 2 ^ 32))
-        → result ≡ Taken.First
+        → result ≡ TakenOperand.First
         → word.applied operation v w ≡ v }
-    ensures second { (v w : ℕ) → LiesIn a v → LiesIn b w → result ≡ Taken.Second → word.applied operation v w ≡ w }
+    ensures second { (v w : ℕ) → LiesIn a v → LiesIn b w → result ≡ TakenOperand.Second
+        → word.applied operation v w ≡ w }
 {
     match operation {
         Operation::Minimum => {
             if a.high <= b.low {
-                Taken::First
+                TakenOperand::First
             } else if b.high < a.low {
-                Taken::Second
+                TakenOperand::Second
             } else {
-                Taken::Either
+                TakenOperand::Either
             }
         }
         Operation::Maximum => {
             if b.high <= a.low {
-                Taken::First
+                TakenOperand::First
             } else if a.high < b.low {
-                Taken::Second
+                TakenOperand::Second
             } else {
-                Taken::Either
+                TakenOperand::Either
             }
         }
         Operation::Add => {
             if are_words && is_zero(b) {
-                Taken::First
+                TakenOperand::First
             } else {
-                Taken::Either
+                TakenOperand::Either
             }
         }
         Operation::Subtract => {
             if are_words && is_zero(b) {
-                Taken::First
+                TakenOperand::First
             } else {
-                Taken::Either
+                TakenOperand::Either
             }
         }
-        _ => Taken::Either,
+        _ => TakenOperand::Either,
     }
 }
 
 /// Between which numbers lies what an operation makes.
-fn range_of_both(operation: Operation, a: Range, b: Range) -> Range
+fn range_of_both(operation: Operation, a: LevelRange, b: LevelRange) -> LevelRange
     ensures { (v w : ℕ) → LiesIn a v → LiesIn b w → LiesIn result (word.applied operation v w) }
 {
     match operation {
@@ -151,17 +154,17 @@ pub fn of_both(
     let first_is_leaf = is_leaf(&a.e);
     let second_is_leaf = is_leaf(&b.e);
     match own {
-        Taken::First => {
+        TakenOperand::First => {
             if second_is_leaf {
                 return Ok(a);
             }
         }
-        Taken::Second => {
+        TakenOperand::Second => {
             if first_is_leaf {
                 return Ok(b);
             }
         }
-        Taken::Either => {}
+        TakenOperand::Either => {}
     }
     let range = range_of_both(operation, a.range, b.range);
     let stays = is_choice(operation);
@@ -179,7 +182,7 @@ pub fn of_both(
 }
 
 /// An expression whose value is a word in this range.
-fn word_in(e: Expr, range: Range) -> Ranged
+fn word_in(e: Expr, range: LevelRange) -> Ranged
     ensures { result ≡ record { e = e; range = range; is_word = true } }
 {
     Ranged {

@@ -11,11 +11,11 @@ ghost use Rattle.task_code_clamps.specs.Ranges.{IsByte, LiesIn};
 use halide_pipeline::Source;
 use loop_ir::expressions::Linear;
 use task_code_loops::bounds::{Bound, most_of};
-use task_code_scalar::places::{Pixels, Places, place_of};
+use task_code_scalar::layouts::{Pixels, Places, place_of};
 
 /// Between which levels a word lies; its level is how far it lies above -2^31, as a signed number.
 #[derive(Clone, Copy, Debug)]
-pub struct Range {
+pub struct LevelRange {
     pub low: u32,
     pub high: u32,
 }
@@ -31,33 +31,33 @@ pub fn level(word: u32) -> u32
 }
 
 /// That of every word.
-pub fn any() -> Range
+pub fn any() -> LevelRange
     ensures { (v : ℕ) → LiesIn result v }
 {
-    Range {
+    LevelRange {
         low: 0,
         high: u32::MAX,
     }
 }
 
 /// That of one word.
-pub fn only(word: u32) -> Range
+pub fn only(word: u32) -> LevelRange
     ensures { LiesIn result word }
 {
     let own = level(word);
-    Range {
+    LevelRange {
         low: own,
         high: own,
     }
 }
 
 /// Words that are so much more than one at most.
-fn up_from(first: u32, most: u64) -> Range
+fn up_from(first: u32, most: u64) -> LevelRange
     ensures { (more : ℕ) → more ≤ most → LiesIn result (word.add first more) }
 {
     let low = level(first);
     if most < 1 << 32 && u64::from(low) + most < 1 << 32 {
-        return Range {
+        return LevelRange {
             low,
             high: low + most as u32,
         };
@@ -66,7 +66,7 @@ fn up_from(first: u32, most: u64) -> Range
 }
 
 /// That of a sum, where loop variables stay below their bounds.
-pub fn of_sum(own: &Linear, bounds: &[Bound]) -> Range
+pub fn of_sum(own: &Linear, bounds: &[Bound]) -> LevelRange
     ensures { (values : Values) → AreBelow bounds.now values → LiesIn result (linear_value values own.now) }
 {
     match most_of(own.terms.as_slice(), bounds) {
@@ -76,14 +76,14 @@ pub fn of_sum(own: &Linear, bounds: &[Bound]) -> Range
 }
 
 /// That of a source's pixels.
-pub fn of_pixels(places: &Places, source: Source) -> Range
+pub fn of_pixels(places: &Places, source: Source) -> LevelRange
     ensures { (v : ℕ) → IsByte places.now source v → LiesIn result v }
 {
     match source {
         Source::Func(_) => any(),
         Source::Input(_) => match place_of(places, source).pixels {
             Pixels::Words => any(),
-            Pixels::Bytes => Range {
+            Pixels::Bytes => LevelRange {
                 low: ZERO,
                 high: ZERO + 255,
             },
@@ -105,20 +105,20 @@ pub fn has_bytes(places: &Places, source: Source) -> bool
 }
 
 /// That of the lesser of two words.
-pub fn of_lesser(a: Range, b: Range) -> Range
+pub fn of_lesser(a: LevelRange, b: LevelRange) -> LevelRange
     ensures { (v w : ℕ) → LiesIn a v → LiesIn b w → LiesIn result (word.minimum v w) }
 {
-    Range {
+    LevelRange {
         low: a.low.min(b.low),
         high: a.high.min(b.high),
     }
 }
 
 /// That of the greater of two words.
-pub fn of_greater(a: Range, b: Range) -> Range
+pub fn of_greater(a: LevelRange, b: LevelRange) -> LevelRange
     ensures { (v w : ℕ) → LiesIn a v → LiesIn b w → LiesIn result (word.maximum v w) }
 {
-    Range {
+    LevelRange {
         low: a.low.max(b.low),
         high: a.high.max(b.high),
     }

@@ -5,7 +5,7 @@ ghost use Rattle.std.specs.Prelude.{◌≡◌, IfOk, IfSome};
 ghost use Rattle.task_code_clamps.specs.Steps.{IsGreater, IsLesser, IsMore, IsSteppedDown, IsSteppedUp, IsTested};
 
 use crate::clamps::Ranged;
-use crate::ranges::{Range, level};
+use crate::ranges::{LevelRange, level};
 use halide_pipeline::{Operation, words};
 use loop_ir::expressions::{Expr, Linear};
 use sqlite_items::Boxed;
@@ -50,7 +50,7 @@ fn stepped_down(alloc: Global, own: &Linear, number: u32) -> Result<Expr, AllocE
 fn greater_by_test(
     alloc: Global,
     own: &Linear,
-    range: Range,
+    range: LevelRange,
     number: u32,
 ) -> Result<Option<Expr>, AllocError>
     ensures { IfOk result (λ found. IfSome found (IsGreater own.now range number)) }
@@ -72,7 +72,7 @@ fn greater_by_test(
 fn lesser_by_test(
     alloc: Global,
     own: &Linear,
-    range: Range,
+    range: LevelRange,
     number: u32,
 ) -> Result<Option<Expr>, AllocError>
     ensures { IfOk result (λ found. IfSome found (IsLesser own.now range number)) }

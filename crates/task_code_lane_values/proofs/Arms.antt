@@ -14,8 +14,8 @@ use Rattle.loop_ir.specs.declared.expressions.Expr.TheVariants as e
 use Rattle.loop_ir.specs.declared.expressions.Linear.{Linear}
 use Rattle.loop_ir.specs.Counters.{Values, with}
 use Rattle.loop_ir.specs.Expressions.{value, loads, linear_value}
-use Rattle.multi_hart_logic.specs.Alone.{World}
-use Rattle.task_code_scalar.specs.declared.places.Places.{Places}
+use Rattle.multi_hart_laws.specs.Alone.{World}
+use Rattle.task_code_scalar.specs.declared.layouts.Places.{Places}
 use Rattle.task_code_scalar.specs.Code.{place_of}
 use Rattle.task_code_scalar.specs.Evaluation.{Loads, LoadsAt}
 use Rattle.task_code_scalar.specs.Words.{Emits}
@@ -24,14 +24,14 @@ use Rattle.task_code_values.specs.Operands.{IsSum}
 use Rattle.task_code_values.proofs.Evaluating.{value_binary, value_divide, value_remainder, value_select, value_load}
 use Rattle.task_code_values.proofs.Evaluating.{loads_binary, loads_divide, loads_remainder, loads_select, loads_load}
 use Rattle.task_code_lanes.specs.Groups.{slots, slot}
-use Rattle.task_code_lane_values.specs.declared.vectorized.Lanes.{Lanes}
+use Rattle.task_code_lane_values.specs.declared.vectorized.VectorLanes.{VectorLanes}
 use Rattle.task_code_lane_values.specs.Leaving.{MakesLanes}
 use Rattle.task_code_lane_values.specs.inner.Parts.{IsSteady, MakesScalar, MakesSteady, MakesEach, MakesPoint, Nothing}
-use Rattle.task_code_lane_values.specs.inner.Parts.{TurnsOne, TurnsBy, TurnsTwo, TurnsThree, AnyWord, LoadsPoint, Chooses}
+use Rattle.task_code_lane_values.specs.inner.Parts.{ComputesOne, ComputesBy, ComputesTwo, ComputesThree, AnyWord, LoadsPoint, Chooses}
 use Rattle.task_code_lane_values.proofs.Choosing.{by-condition, by-one, by-other}
 use Rattle.task_code_lane_values.proofs.Composing.{each-spread, each-one, each-by, each-two, each-three}
 
-module _ (places : Places) (scope : List Held) (own : Lanes) (k : ℕ) (in-stack : k < slots own.group) where
+module _ (places : Places) (scope : List Held) (own : VectorLanes) (k : ℕ) (in-stack : k < slots own.group) where
   abbrev at : ℕ → Values → Values
   at i values = with own.counter i values
 
@@ -97,7 +97,7 @@ module _ (places : Places) (scope : List Held) (own : Lanes) (k : ℕ) (in-stack
       (subst (AllByRecursion (Loads w places m reads)) (loads_binary reads (at i values) o a b) all)
 
   pub two-arm : (x a b p q : Expr) (o : Operation) (c0 c1 c2 c3 : List ℕ) → x ≡ e.Binary o a b → p ≡ a → q ≡ b → Left c0 c1 k p → Left c1 c2 (k + 1) q
-      → TurnsTwo c2 c3 own.group k (word.applied o) → Left c0 c3 k x
+      → ComputesTwo c2 c3 own.group k (word.applied o) → Left c0 c3 k x
   two-arm x a b p q o c0 c1 c2 c3 eo ep eq first second z =
       lanes-as c0 c3 x (e.Binary o a b) eo
       (lanes-of c0 c3 (e.Binary o a b) (λ w m reads values i. May a w m reads values i × May b w m reads values i)
@@ -109,14 +109,14 @@ module _ (places : Places) (scope : List Held) (own : Lanes) (k : ℕ) (in-stack
 
   pub two-next : (x a b p q : Expr) (o : Operation) (next : ℕ) (c0 c1 c2 c3 : List ℕ) → x ≡ e.Binary o a b → p ≡ a → q ≡ b → next ≡ k + 1
       → Left c0 c1 k p → Left c1 c2 next q
-      → TurnsTwo c2 c3 own.group k (word.applied o) → Left c0 c3 k x
+      → ComputesTwo c2 c3 own.group k (word.applied o) → Left c0 c3 k x
   two-next x a b p q o next c0 c1 c2 c3 eo ep eq en first second z = two-arm x a b p q o c0 c1 c2 c3 eo ep eq first (subst (λ j. Left c1 c2 j q) en second) z
 
   -- the second operand is made first
-  pub turned-next : (x a b p q : Expr) (o : Operation) (next : ℕ) (c0 c1 c2 c3 : List ℕ) → x ≡ e.Binary o a b → p ≡ a → q ≡ b → next ≡ k + 1
+  pub swapped-next : (x a b p q : Expr) (o : Operation) (next : ℕ) (c0 c1 c2 c3 : List ℕ) → x ≡ e.Binary o a b → p ≡ a → q ≡ b → next ≡ k + 1
       → Left c0 c1 k q → Left c1 c2 next p
-      → TurnsTwo c2 c3 own.group k (λ y z. word.applied o z y) → Left c0 c3 k x
-  turned-next x a b p q o next c0 c1 c2 c3 eo ep eq en second first z =
+      → ComputesTwo c2 c3 own.group k (λ y z. word.applied o z y) → Left c0 c3 k x
+  swapped-next x a b p q o next c0 c1 c2 c3 eo ep eq en second first z =
       let beside = subst (λ j. Left c1 c2 j p) en first in
       lanes-as c0 c3 x (e.Binary o a b) eo
       (lanes-of c0 c3 (e.Binary o a b) (λ w m reads values i. May b w m reads values i × May a w m reads values i)
@@ -130,7 +130,7 @@ module _ (places : Places) (scope : List Held) (own : Lanes) (k : ℕ) (in-stack
   -- the second operand is a scalar
   pub second-arm : (x a b p q : Expr) (o : Operation) (s : ℕ) (c0 c1 c2 c3 : List ℕ) → x ≡ e.Binary o a b → p ≡ a → q ≡ b → IsSteady own.counter q
       → Left c0 c1 k p
-      → MakesSteady c1 c2 places scope own s q → TurnsBy c2 c3 own.group k s AnyWord (word.applied o) → Left c0 c3 k x
+      → MakesSteady c1 c2 places scope own s q → ComputesBy c2 c3 own.group k s AnyWord (word.applied o) → Left c0 c3 k x
   second-arm x a b p q o s c0 c1 c2 c3 eo ep eq steady first second z =
       let still = subst (IsSteady own.counter) eq steady in
       lanes-as c0 c3 x (e.Binary o a b) eo
@@ -151,7 +151,7 @@ module _ (places : Places) (scope : List Held) (own : Lanes) (k : ℕ) (in-stack
   -- or the first
   pub first-arm : (x a b p q : Expr) (o : Operation) (s : ℕ) (c0 c1 c2 c3 : List ℕ) → x ≡ e.Binary o a b → p ≡ a → q ≡ b → IsSteady own.counter p
       → Left c0 c1 k q
-      → MakesSteady c1 c2 places scope own s p → TurnsBy c2 c3 own.group k s AnyWord (λ y c. word.applied o c y) → Left c0 c3 k x
+      → MakesSteady c1 c2 places scope own s p → ComputesBy c2 c3 own.group k s AnyWord (λ y c. word.applied o c y) → Left c0 c3 k x
   first-arm x a b p q o s c0 c1 c2 c3 eo ep eq steady second first z =
       let still = subst (IsSteady own.counter) ep steady in
       lanes-as c0 c3 x (e.Binary o a b) eo
@@ -176,7 +176,7 @@ module _ (places : Places) (scope : List Held) (own : Lanes) (k : ℕ) (in-stack
   part-of-divide a c w m reads values i all = subst (AllByRecursion (Loads w places m reads)) (loads_divide reads (at i values) a c) all
 
   pub divide-arm : (x a p : Expr) (c s : ℕ) (c0 c1 c2 c3 : List ℕ) → x ≡ e.Divide a c → p ≡ a → Left c0 c1 k p
-      → MakesScalar c1 c2 scope own s Nothing (λ hart reads values. c) → TurnsBy c2 c3 own.group k s (λ d. d ≡ c) (λ y d. word.divide y c) → Left c0 c3 k x
+      → MakesScalar c1 c2 scope own s Nothing (λ hart reads values. c) → ComputesBy c2 c3 own.group k s (λ d. d ≡ c) (λ y d. word.divide y c) → Left c0 c3 k x
   divide-arm x a p c s c0 c1 c2 c3 eo ep first second z =
       lanes-as c0 c3 x (e.Divide a c) eo
       (lanes-of c0 c3 (e.Divide a c) (λ w m reads values i. May a w m reads values i × Nothing w m reads values) (λ reads values i. word.divide
@@ -187,7 +187,7 @@ module _ (places : Places) (scope : List Held) (own : Lanes) (k : ℕ) (in-stack
       (λ d. d ≡ c) (λ y d. word.divide y c)
       (each-of c0 c1 k a (subst (Left c0 c1 k) ep first)) second z (λ reads values small. refl)))
 
-  pub shift-arm : (x a p : Expr) (c : ℕ) (c0 c1 c2 : List ℕ) → x ≡ e.Divide a c → p ≡ a → Left c0 c1 k p → TurnsOne c1 c2 own.group k
+  pub shift-arm : (x a p : Expr) (c : ℕ) (c0 c1 c2 : List ℕ) → x ≡ e.Divide a c → p ≡ a → Left c0 c1 k p → ComputesOne c1 c2 own.group k
       (λ y. word.divide y c) → Left c0 c2 k x
   shift-arm x a p c c0 c1 c2 eo ep first z =
       lanes-as c0 c2 x (e.Divide a c) eo
@@ -204,7 +204,7 @@ module _ (places : Places) (scope : List Held) (own : Lanes) (k : ℕ) (in-stack
 
   -- of a register that holds what such an operation wants
   pub remainder-arm : (x a p : Expr) (c d s : ℕ) (c0 c1 c2 c3 : List ℕ) → x ≡ e.Remainder a c → p ≡ a → Left c0 c1 k p
-      → MakesScalar c1 c2 scope own s Nothing (λ hart reads values. d) → TurnsBy c2 c3 own.group k s (λ n. n ≡ d) (λ y n. word.remainder y c) → Left c0 c3 k x
+      → MakesScalar c1 c2 scope own s Nothing (λ hart reads values. d) → ComputesBy c2 c3 own.group k s (λ n. n ≡ d) (λ y n. word.remainder y c) → Left c0 c3 k x
   remainder-arm x a p c d s c0 c1 c2 c3 eo ep first second z =
       lanes-as c0 c3 x (e.Remainder a c) eo
       (lanes-of c0 c3 (e.Remainder a c) (λ w m reads values i. May a w m reads values i × Nothing w m reads values) (λ reads values i. word.remainder
@@ -238,7 +238,7 @@ module _ (places : Places) (scope : List Held) (own : Lanes) (k : ℕ) (in-stack
       → May y1 w m reads values i × (May y2 w m reads values i × May y3 w m reads values i))
       → ((reads : Reads) (values : Values) (i : ℕ) → says (worth y1 reads values i) (worth y2 reads values i) (worth y3 reads values i)
       ≡ worth x reads values i)
-      → Left c0 c1 k p1 → Left c1 c2 next p2 → Left c2 c3 last p3 → TurnsThree c3 c4 own.group k says → Left c0 c4 k x
+      → Left c0 c1 k p1 → Left c1 c2 next p2 → Left c2 c3 last p3 → ComputesThree c3 c4 own.group k says → Left c0 c4 k x
   three-arm x y1 y2 y3 p1 p2 p3 says next last c0 c1 c2 c3 c4 e1 e2 e3 en el room can is first second third z =
       let elast : last ≡ k + 2 = omega (arith, en, el) in
       lanes-of c0 c4 x (λ w m reads values i. May y1 w m reads values i × (May y2 w m reads values i × May y3 w m reads values i))

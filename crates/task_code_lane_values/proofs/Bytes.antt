@@ -1,4 +1,4 @@
--- Bytes that lie one behind the other, or at distances, from a register on: of the word that holds one, the bytes before and behind it are cut off.
+-- Bytes that lie one after the other, or at distances, from a register on: of the word that holds one, the bytes before and after it are cut off.
 use Rattle.std.proofs.Common.{◌≡◌, ℕ, zero, suc, ◌+◌, ◌*◌, ◌/◌, ◌%◌, ◌^◌, ◌<◌, ◌≤◌, List}
 use Rattle.std.proofs.Common.{[], ◌∷◌, ◌++◌, length, true, ap, ◌∙◌, refl, sym, subst, arith, inl, inr}
 use Rattle.std.specs.Prelude.{◌≢◌, ◌⊎◌, bit_and, negsuc}
@@ -16,24 +16,24 @@ use Rattle.rv_insn.specs.declared.vector_operations.ShiftViOp.TheVariants as shi
 use Rattle.memory.specs.Access.{Byte, Word, number_in, byte_at, AreBytes}
 use Rattle.hart_core.specs.Scalar.{load_size}
 use Rattle.lanes.specs.Words as lanes
-use Rattle.multi_hart_logic.specs.Alone.{World}
-use Rattle.multi_hart_logic.specs.Paths.{Line, lane, bit, vl_number, vtype_number, byte_of, write_bytes, Readable}
-use Rattle.multi_hart_logic.specs.LaneMemory.{AllReadable}
-use Rattle.multi_hart_logic.specs.FirstGroup.{held}
-use Rattle.multi_hart_logic.proofs.Paths.{line-then}
-use Rattle.multi_hart_logic.proofs.ByteLoads.{loads-bytes, byte-written, bytes-apart}
-use Rattle.multi_hart_logic.proofs.ByteRows.{extends}
-use Rattle.multi_hart_logic.proofs.VectorRows as vector
-use Rattle.multi_hart_logic.proofs.FirstRows as firsts
-use Rattle.multi_hart_logic.proofs.LaneLoads as memory
-use Rattle.task_code_scalar.specs.declared.places.Pixels.TheVariants as pixels
-use Rattle.task_code_scalar.specs.declared.places.Place.{Place}
+use Rattle.multi_hart_laws.specs.Alone.{World}
+use Rattle.multi_hart_laws.specs.Paths.{Line, lane, bit, vl_number, vtype_number, byte_of, write_bytes, Readable}
+use Rattle.multi_hart_laws.specs.LaneMemory.{AllReadable}
+use Rattle.multi_hart_laws.specs.FirstGroup.{held}
+use Rattle.multi_hart_laws.proofs.Paths.{line-then}
+use Rattle.multi_hart_laws.proofs.ByteLoads.{loads-bytes, byte-written, bytes-apart}
+use Rattle.multi_hart_laws.proofs.ByteRows.{extends}
+use Rattle.multi_hart_laws.proofs.VectorRows as vector
+use Rattle.multi_hart_laws.proofs.FirstRows as firsts
+use Rattle.multi_hart_laws.proofs.LaneLoads as memory
+use Rattle.task_code_scalar.specs.declared.layouts.Pixels.TheVariants as pixels
+use Rattle.task_code_scalar.specs.declared.layouts.BufferLayout.{BufferLayout}
 use Rattle.task_code_scalar.specs.Code.{address}
 use Rattle.task_code_scalar.specs.Evaluation.{LoadsAt, load_op, word_start}
 use Rattle.task_code_scalar.specs.Words.{Emits}
 use Rattle.task_code_scalar.proofs.Spelling.{emits_then}
 use Rattle.task_code_registers.specs.Emitting.{Makes}
-use Rattle.task_code_lanes.specs.declared.groups.Group.{Group}
+use Rattle.task_code_lanes.specs.declared.groups.LaneGroup.{LaneGroup}
 use Rattle.task_code_lanes.specs.Groups.{registers, slots, slot, spare}
 use Rattle.task_code_lanes.specs.Leaving.{HasLanes}
 use Rattle.task_code_lanes.proofs.Slots.{SlotLies, slot-lies, stack-low, any-group, spare-is}
@@ -72,7 +72,7 @@ byte-in text m c (suc (suc (suc zero))) are l =
     (c + 3) are in omega (arith, b0, b1, b2, b3)
 byte-in text m c (suc (suc (suc (suc q)))) are l = absurd (omega (arith, l))
 
-module _ (w : World) (m : List ℕ) (l : length m ≡ w.size) (group : Group) (n k : ℕ) (lies : SlotLies group k) (place : Place)
+module _ (w : World) (m : List ℕ) (l : length m ≡ w.size) (group : LaneGroup) (n k : ℕ) (lies : SlotLies group k) (place : BufferLayout)
     (bytes : place.pixels ≡ pixels.Bytes) (x y pixel : ℕ → ℕ)
     (can : (i : ℕ) → i < n → LoadsAt w place m (x i) (y i) (pixel i)) where
   abbrev g : ℕ
@@ -90,7 +90,7 @@ module _ (w : World) (m : List ℕ) (l : length m ≡ w.size) (group : Group) (n
   holds : (i : ℕ) → i < n → number_in w.text m Byte (spot i) ≡ pixel i
   holds i b = subst (λ p. number_in w.text m (load_size (load_op p)) (spot i) ≡ pixel i) bytes (can i b).holds
 
-  -- ---- one behind the other
+  -- ---- one after the other
 
   readable : (i : ℕ) → i < n → Readable w Byte (spot i)
   readable i b = subst (λ p. Readable w (load_size (load_op p)) (spot i)) bytes (can i b).may
@@ -116,7 +116,7 @@ module _ (w : World) (m : List ℕ) (l : length m ≡ w.size) (group : Group) (n
       → LeavesLanes w m (Vector (v.LoadElements Bits8 1 b addressings.UnitStride true) ∷ Vector (v.ExtendBytes r 1 true) ∷ []) f group k n pixel
   bytes-loaded f b has lb far =
       let count = has.count in
-      let few = rows.few-rounds w m l group n f has in
+      let few = rows.few-lanes w m l group n f has in
       let most = lies.most in
       let found : ℕ → ℕ = (λ i. number_in w.text m Byte (spot i) % 256) in
       let f1 = write_bytes f 1 (f vl_number) found in
@@ -186,7 +186,7 @@ module _ (w : World) (m : List ℕ) (l : length m ≡ w.size) (group : Group) (n
   addressed : (f offset : ℕ → ℕ) (b : ℕ) → HasLanes group n f → b < 32 → f 0 ≡ 0 → ((i : ℕ) → i < n → f (lane r i) ≡ offset i)
       → ((i : ℕ) → i < n → (f b + offset i) % 2 ^ 32 ≡ spot i) → Halfway (to_bits b) f spot
   addressed f offset b has lb none hx reach =
-      let few = rows.few-rounds w m l group n f has in
+      let few = rows.few-lanes w m l group n f has in
       let low = lies.low in
       let high = lies.high in
       let i1 : rows.Writes w m l group n (Vector (v.ArithmeticVx vxs.Vadd r r b true) ∷ []) f r spot =
@@ -217,7 +217,7 @@ module _ (w : World) (m : List ℕ) (l : length m ≡ w.size) (group : Group) (n
   fetched : (f : ℕ → ℕ) → HasLanes group n f → f 0 ≡ 0 → ((i : ℕ) → i < n → f (lane r i) ≡ spot i) → ((i : ℕ) → i < n → held f u i ≡ spot i * 8 % 2 ^ 32)
       → Halfway to_words f word_at
   fetched f has none hx hu =
-      let few = rows.few-rounds w m l group n f has in
+      let few = rows.few-lanes w m l group n f has in
       let aside : rows.Aside w m l group n k lies u = inr refl in
       let i3 : rows.Writes w m l group n (Vector (v.ArithmeticVi vis.Vand r r (negsuc 3) true) ∷ []) f r a =
       rows.writes w m l group n a (λ i. bit_and (f (lane r i)) (lanes.wrapped 32 (negsuc 3))) has (vector.arithmetic-vi w f m l g has.configured vis.Vand r
@@ -298,7 +298,7 @@ module _ (w : World) (m : List ℕ) (l : length m ≡ w.size) (group : Group) (n
 
 -- ---- as the emitters call it
 
-pub bytes-along : (group : Group) (k b a : ℕ) (c0 c1 : List ℕ) → k < slots group → b < 32 → a ≡ slot group k
+pub bytes-along : (group : LaneGroup) (k b a : ℕ) (c0 c1 : List ℕ) → k < slots group → b < 32 → a ≡ slot group k
     → Emits c0 c1 (Vector (v.LoadElements Bits8 1 b addressings.UnitStride true) ∷ Vector (v.ExtendBytes a 1 true) ∷ [])
     → LoadsAlong c0 c1 group k b pixels.Bytes
 bytes-along group k b a c0 c1 in-stack lb ea z = record {
@@ -309,7 +309,7 @@ bytes-along group k b a c0 c1 in-stack lb ea z = record {
       (λ i lt. let one : i * 1 ≡ i = omega arith in ap (λ q. (f b + q) % 2 ^ 32) (sym one) ∙ reach i lt);
 }
 
-pub bytes-from : (group : Group) (k b a u : ℕ) (c0 c1 c2 c3 c4 c5 c6 c7 : List ℕ) → k < slots group → b < 32 → a ≡ slot group k → u ≡ spare group
+pub bytes-from : (group : LaneGroup) (k b a u : ℕ) (c0 c1 c2 c3 c4 c5 c6 c7 : List ℕ) → k < slots group → b < 32 → a ≡ slot group k → u ≡ spare group
     → Emits c0 c1 (Vector (v.ArithmeticVx vxs.Vadd a a b true) ∷ []) → Emits c1 c2 (Vector (v.ShiftVi shifts.Vsll u a 3 true) ∷ [])
     → Emits c2 c3 (Vector (v.ArithmeticVi vis.Vand a a (negsuc 3) true) ∷ []) → Emits c3 c4 (Vector (v.LoadElements Bits32 a 0
     (addressings.Indexed a) true) ∷ [])

@@ -7,22 +7,22 @@ use Rattle.rv_insn.specs.declared.vector_instructions.VectorInsn.TheVariants as 
 use Rattle.rv_insn.specs.declared.vector_operations.CompareViOp.TheVariants as compare_vis
 use Rattle.hart_core.specs.Scalar.{one_if}
 use Rattle.lanes.specs.Words as lanes
-use Rattle.multi_hart_logic.specs.Alone.{World}
-use Rattle.multi_hart_logic.specs.Paths.{lane, bit, IsGroup}
-use Rattle.multi_hart_logic.proofs.MaskRows as masks
+use Rattle.multi_hart_laws.specs.Alone.{World}
+use Rattle.multi_hart_laws.specs.Paths.{lane, bit, IsGroup}
+use Rattle.multi_hart_laws.proofs.MaskRows as masks
 use Rattle.task_code_scalar.specs.Words.{Emits}
 use Rattle.task_code_scalar.proofs.Spelling.{emits_then}
 use Rattle.task_code_scalar.proofs.Evaluation.{chosen-below}
-use Rattle.task_code_lanes.specs.declared.groups.Group.{Group}
+use Rattle.task_code_lanes.specs.declared.groups.LaneGroup.{LaneGroup}
 use Rattle.task_code_lanes.specs.Groups.{registers, slots, slot}
 use Rattle.task_code_lanes.proofs.Slots.{SlotLies, slot-lies}
 use Rattle.task_code_lanes.proofs.Rows as rows
 use Rattle.task_code_lanes.proofs.Operations.{Hold, bit-is}
-use Rattle.task_code_lane_values.specs.inner.Parts.{Chooses, TurnsThree}
+use Rattle.task_code_lane_values.specs.inner.Parts.{Chooses, ComputesThree}
 use Rattle.task_code_lane_values.proofs.Composing.{left-of}
 
 -- what is tested in group c, and merged from groups a and b into group k
-abbrev choice : Group → ℕ → ℕ → ℕ → ℕ → List Insn
+abbrev choice : LaneGroup → ℕ → ℕ → ℕ → ℕ → List Insn
 choice group k c a b = Vector (v.CompareVi compare_vis.Vmsne 0 (slot group c) (pos 0) true) ∷ Vector (v.MergeVv (slot group k) (slot group b)
     (slot group a)) ∷ []
 
@@ -33,14 +33,14 @@ chosen-is c x y = by-test (c == 0)
     by-test true = refl
     by-test false = refl
 
-module _ (w : World) (m : List ℕ) (l : length m ≡ w.size) (group : Group) (n k : ℕ) (lies : SlotLies group k) where
+module _ (w : World) (m : List ℕ) (l : length m ≡ w.size) (group : LaneGroup) (n k : ℕ) (lies : SlotLies group k) where
   choice-leaves : (c a b : ℕ) (f t x y : ℕ → ℕ) → IsGroup (registers group) (slot group c) → IsGroup (registers group) (slot group a)
       → IsGroup (registers group) (slot group b) → rows.Lanes w m l group n f → Hold w m l group n f (slot group c) t → Hold w m l group n f (slot group a) x
       → Hold w m l group n f (slot group b) y
       → rows.Leaves w m l group n (choice group k c a b) f k (λ i. if t i == 0 then y i else x i)
   choice-leaves c a b f t x y ic ia ib has hc ha hb =
       let r = slot group k in
-      let few = rows.few-rounds w m l group n f has in
+      let few = rows.few-lanes w m l group n f has in
       let high = lies.high in
       let test : rows.Writes w m l group n (Vector (v.CompareVi compare_vis.Vmsne 0 (slot group c) (pos 0) true) ∷ []) f 32 (λ i. one_if (not (t i == 0))) =
       rows.writes w m l group n (λ i. one_if (not (t i == 0))) (λ i. one_if (not (f (lane (slot group c) i) == lanes.wrapped 32 (pos 0)))) has
@@ -61,7 +61,7 @@ module _ (w : World) (m : List ℕ) (l : length m ≡ w.size) (group : Group) (n
       ∙ ap (λ z. if one_if (not (t i == 0)) == 0 then y i else z) (ea i lt) ∙ chosen-is (t i) (x i) (y i)) in
       rows.slot-first w m l group n k lies test (omega (arith, high)) (rows.last w m l group n k lies merged)
 
-pub choice-as : (group : Group) (k c a b : ℕ) → k < slots group → c < slots group → a < slots group → b < slots group → (r q s t : ℕ) (c0 c1 c2 : List ℕ)
+pub choice-as : (group : LaneGroup) (k c a b : ℕ) → k < slots group → c < slots group → a < slots group → b < slots group → (r q s t : ℕ) (c0 c1 c2 : List ℕ)
     → r ≡ slot group k → q ≡ slot group c → s ≡ slot group a → t ≡ slot group b
     → Emits c0 c1 (Vector (v.CompareVi compare_vis.Vmsne 0 q (pos 0) true) ∷ []) → Emits c1 c2 (Vector (v.MergeVv r t s) ∷ [])
     → Chooses c0 c2 group k c a b
@@ -78,24 +78,24 @@ choice-as group k c a b lk lc la lb r q s t c0 c1 c2 er eq es et x y = record {
       (slot-lies group b lb).is_group has hc ha hb);
 }
 
--- ---- by which part stands in group k, and which behind it
+-- ---- by which part stands in group k, and which after it
 
-module _ (group : Group) (k : ℕ) (c0 c1 : List ℕ) where
-  pub by-condition : Chooses c0 c1 group k k (k + 1) (k + 2) → TurnsThree c0 c1 group k (λ c a b. if c == 0 then b else a)
+module _ (group : LaneGroup) (k : ℕ) (c0 c1 : List ℕ) where
+  pub by-condition : Chooses c0 c1 group k k (k + 1) (k + 2) → ComputesThree c0 c1 group k (λ c a b. if c == 0 then b else a)
   by-condition z = record {
     insns = z.insns;
     emits = z.emits;
     does = λ w m n f c a b l has hc ha hb lc la lb. z.does w m n f c a b l has hc ha hb la lb;
   }
 
-  pub by-one : Chooses c0 c1 group k (k + 1) k (k + 2) → TurnsThree c0 c1 group k (λ a c b. if c == 0 then b else a)
+  pub by-one : Chooses c0 c1 group k (k + 1) k (k + 2) → ComputesThree c0 c1 group k (λ a c b. if c == 0 then b else a)
   by-one z = record {
     insns = z.insns;
     emits = z.emits;
     does = λ w m n f a c b l has ha hc hb la lc lb. z.does w m n f c a b l has hc ha hb la lb;
   }
 
-  pub by-other : Chooses c0 c1 group k (k + 1) (k + 2) k → TurnsThree c0 c1 group k (λ b c a. if c == 0 then b else a)
+  pub by-other : Chooses c0 c1 group k (k + 1) (k + 2) k → ComputesThree c0 c1 group k (λ b c a. if c == 0 then b else a)
   by-other z = record {
     insns = z.insns;
     emits = z.emits;

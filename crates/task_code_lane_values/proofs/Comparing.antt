@@ -10,19 +10,19 @@ use Rattle.vector_unit.specs.Operations.{compare_vx}
 use Rattle.halide_pipeline.specs.declared.expressions.Operation.{Operation}
 use Rattle.halide_pipeline.specs.declared.expressions.Operation.TheVariants as op
 use Rattle.halide_pipeline.specs.Words as word
-use Rattle.multi_hart_logic.specs.Paths.{lane}
-use Rattle.multi_hart_logic.proofs.MaskRows as masks
+use Rattle.multi_hart_laws.specs.Paths.{lane}
+use Rattle.multi_hart_laws.proofs.MaskRows as masks
 use Rattle.task_code_scalar.specs.Words.{Emits}
 use Rattle.task_code_scalar.proofs.Spelling.{emits_then}
 use Rattle.task_code_scalar.proofs.Evaluation.{applied-below}
 use Rattle.task_code_scalar.proofs.Numbers.{less-is}
-use Rattle.task_code_lanes.specs.declared.groups.Group.{Group}
+use Rattle.task_code_lanes.specs.declared.groups.LaneGroup.{LaneGroup}
 use Rattle.task_code_lanes.specs.Groups.{registers, slots, slot}
 use Rattle.task_code_lanes.specs.Lanes.{flagged}
 use Rattle.task_code_lanes.proofs.Slots.{slot-lies}
 use Rattle.task_code_lanes.proofs.Rows as rows
 use Rattle.task_code_lanes.proofs.Operations.{bit-is, flagged-leaves}
-use Rattle.task_code_lane_values.specs.inner.Parts.{TurnsBy, AnyWord, IsComparedBy}
+use Rattle.task_code_lane_values.specs.inner.Parts.{ComputesBy, AnyWord, IsComparedBy}
 use Rattle.task_code_lane_values.proofs.Composing.{left-of}
 
 pub compared-less : IsComparedBy op.Less compares.Vmslt
@@ -43,9 +43,9 @@ compared-not-equal x c lx lc = refl
 pub compared-as-is : (o other : Operation) (own : CompareVxOp) → o ≡ other → IsComparedBy other own → IsComparedBy o own
 compared-as-is o other own e is = subst (λ z. IsComparedBy z own) (sym e) is
 
-pub compared-by : (group : Group) (k : ℕ) → k < slots group → (o : Operation) (s : ℕ) → s < 32 → (own : CompareVxOp) → IsComparedBy o own → (a : ℕ)
+pub compared-by : (group : LaneGroup) (k : ℕ) → k < slots group → (o : Operation) (s : ℕ) → s < 32 → (own : CompareVxOp) → IsComparedBy o own → (a : ℕ)
     (c0 c1 c2 : List ℕ) → a ≡ slot group k
-    → Emits c0 c1 (Vector (v.CompareVx own 0 a s true) ∷ []) → Emits c1 c2 (flagged a) → TurnsBy c0 c2 group k s AnyWord (word.applied o)
+    → Emits c0 c1 (Vector (v.CompareVx own 0 a s true) ∷ []) → Emits c1 c2 (flagged a) → ComputesBy c0 c2 group k s AnyWord (word.applied o)
 compared-by group k in-stack o s low own is a c0 c1 c2 ea x y = record {
   insns = Vector (v.CompareVx own 0 (slot group k) s true) ∷ flagged (slot group k);
   emits = emits_then (subst (λ q. Emits c0 c1 (Vector (v.CompareVx own 0 q s true) ∷ [])) ea x) (subst (λ q. Emits c1 c2 (flagged q)) ea y);

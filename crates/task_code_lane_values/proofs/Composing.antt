@@ -1,4 +1,4 @@
--- Code over lanes that goes on behind other code.
+-- Code over lanes that goes on after other code.
 use Rattle.std.proofs.Common.{◌≡◌, ℕ, ◌+◌, ◌*◌, ◌^◌, ◌<◌, ◌≤◌, List, [], ◌∷◌, ◌++◌, length, refl, ◌∙◌, sym, subst, arith, inl, inr}
 use Rattle.std.specs.Prelude.{◌≢◌, ◌⊎◌, ◌%◌}
 use Rattle.std.proofs.lemmas.Bool.{cases_lt}
@@ -7,11 +7,11 @@ use Rattle.rv_insn.specs.declared.instructions.Insn.TheVariants.{Vector}
 use Rattle.rv_insn.specs.declared.vector_instructions.VectorInsn.TheVariants as v
 use Rattle.halide_pipeline.specs.Pixel.{Reads}
 use Rattle.loop_ir.specs.Counters.{Values, with}
-use Rattle.multi_hart_logic.specs.Alone.{World}
-use Rattle.multi_hart_logic.specs.Paths.{lane, vl_number, vtype_number}
-use Rattle.multi_hart_logic.proofs.Paths.{line-then}
-use Rattle.multi_hart_logic.proofs.VectorRows as vector
-use Rattle.task_code_scalar.specs.declared.places.Places.{Places}
+use Rattle.multi_hart_laws.specs.Alone.{World}
+use Rattle.multi_hart_laws.specs.Paths.{lane, vl_number, vtype_number}
+use Rattle.multi_hart_laws.proofs.Paths.{line-then}
+use Rattle.multi_hart_laws.proofs.VectorRows as vector
+use Rattle.task_code_scalar.specs.declared.layouts.Places.{Places}
 use Rattle.task_code_scalar.specs.Words.{Emits}
 use Rattle.task_code_scalar.proofs.Spelling.{emits_then}
 use Rattle.task_code_registers.specs.declared.scopes.Held.{Held}
@@ -20,33 +20,33 @@ use Rattle.task_code_registers.specs.Scopes.{Knows, AreHolders, IsHolder, IsKept
 use Rattle.task_code_registers.proofs.Knowing.{may-hold, knows-still, working-free}
 use Rattle.task_code_values.specs.Making.{IsBelow, MakesHeld}
 use Rattle.task_code_values.proofs.Standing.{below-apart}
-use Rattle.task_code_lanes.specs.declared.groups.Group.{Group}
+use Rattle.task_code_lanes.specs.declared.groups.LaneGroup.{LaneGroup}
 use Rattle.task_code_lanes.specs.Groups.{registers, slots, slot}
 use Rattle.task_code_lanes.specs.Leaving.{HasLanes, IsKept as IsLaneKept, LeavesLanes as LeavesSlot}
 use Rattle.task_code_lanes.proofs.Slots.{slot-lies}
 use Rattle.task_code_lanes.proofs.Rows as rows
-use Rattle.task_code_lane_values.specs.declared.vectorized.Lanes.{Lanes}
+use Rattle.task_code_lane_values.specs.declared.vectorized.VectorLanes.{VectorLanes}
 use Rattle.task_code_lane_values.specs.Leaving.{IsUnder, LeavesLanes}
-use Rattle.task_code_lane_values.specs.inner.Parts.{MakesScalar, MakesEach, TurnsOne, TurnsBy, TurnsTwo, TurnsThree, Nothing}
+use Rattle.task_code_lane_values.specs.inner.Parts.{MakesScalar, MakesEach, ComputesOne, ComputesBy, ComputesTwo, ComputesThree, Nothing}
 
 -- ---- what stays
 
 apart : (q : ℕ) → q ≢ scratch → q ≢ second_scratch → q ≢ address_register → (q < scratch) ⊎ (address_register < q)
 apart q a b c = elim (cases_lt q 13) [ inl x ↦ inl x | inr x ↦ inr (omega (arith, a, b, c, x)) ]
 
-holder-under : (group : Group) (k q : ℕ) → IsHolder q → IsUnder group k q
+holder-under : (group : LaneGroup) (k q : ℕ) → IsHolder q → IsUnder group k q
 holder-under group k q (inl may) = let m = may-hold q may in inl (m.high, apart q m.first m.second m.third)
 holder-under group k q (inr o) = inr (inl o)
 
 -- the scope's registers stay
-pub kept-under : (group : Group) (k : ℕ) (scope : List Held) (q : ℕ) → AreHolders scope → IsKept scope q → IsUnder group k q
+pub kept-under : (group : LaneGroup) (k : ℕ) (scope : List Held) (q : ℕ) → AreHolders scope → IsKept scope q → IsUnder group k q
 kept-under group k [] q holders (inl e) = inl (omega (arith, e), inl (omega (arith, e)))
 kept-under group k [] q holders (inr o) = inl (omega (arith, o), inl (omega (arith, o)))
 kept-under group k (own ∷ others) q holders (inl e) = subst (IsUnder group k) (sym e) (holder-under group k own.register holders.0)
 kept-under group k (own ∷ others) q holders (inr h) = kept-under group k others q holders.1.1 h
 
 -- and so does all that stays, where a scalar is made
-pub under-below : (group : Group) (k q : ℕ) → IsUnder group k q → IsBelow first_value q
+pub under-below : (group : LaneGroup) (k q : ℕ) → IsUnder group k q → IsBelow first_value q
 under-below group k q (inl h) = (h.1, inl h.0)
 under-below group k q (inr (inl o)) = (inr (omega (arith, o)), inr (omega (arith, o)))
 under-below group k q (inr (inr h)) = let a = h.0 in (inr (omega (arith, a)), inr (omega (arith, a)))
@@ -54,34 +54,34 @@ under-below group k q (inr (inr h)) = let a = h.0 in (inr (omega (arith, a)), in
 pub lane-below : (r i : ℕ) → IsBelow first_value (lane r i)
 lane-below r i = (inr (omega arith), inr (omega arith))
 
-pub under-kept : (group : Group) (k q : ℕ) → IsUnder group k q → IsLaneKept group k q
+pub under-kept : (group : LaneGroup) (k q : ℕ) → IsUnder group k q → IsLaneKept group k q
 under-kept group k q (inl h) = inl (h.0, elim h.1 [ inl a ↦ inl a | inr a ↦ inr (omega (arith, a)) ])
 under-kept group k q (inr h) = inr h
 
-pub under-next : (group : Group) (k q : ℕ) → k < slots group → IsUnder group k q → IsUnder group (k + 1) q
+pub under-next : (group : LaneGroup) (k q : ℕ) → k < slots group → IsUnder group k q → IsUnder group (k + 1) q
 under-next group k q l (inl h) = inl h
 under-next group k q l (inr (inl o)) = inr (inl o)
 under-next group k q l (inr (inr h)) = let s = slot-lies group k l in let e = s.next in let b = h.1 in inr (inr (h.0, omega (arith, b, e)))
 
 -- a group's lanes stay where the next one is made
-pub slot-under : (group : Group) (k i n : ℕ) → k < slots group → n ≤ 4 * registers group → i < n → IsUnder group (k + 1) (lane (slot group k) i)
+pub slot-under : (group : LaneGroup) (k i n : ℕ) → k < slots group → n ≤ 4 * registers group → i < n → IsUnder group (k + 1) (lane (slot group k) i)
 slot-under group k i n l few b = let s = slot-lies group k l in let e = s.next in let low = s.low in inr (inr (omega (arith, low), omega (arith, e, b, few)))
 
 -- two groups further
-pub under-two : (group : Group) (k q : ℕ) → k + 1 < slots group → IsUnder group (k + 1) q → IsUnder group (k + 2) q
+pub under-two : (group : LaneGroup) (k q : ℕ) → k + 1 < slots group → IsUnder group (k + 1) q → IsUnder group (k + 2) q
 under-two group k q l h = let e : k + 1 + 1 ≡ k + 2 = omega arith in subst (λ j. IsUnder group j q) e (under-next group (k + 1) q l h)
 
-pub slot-under-two : (group : Group) (k i n : ℕ) → k + 1 < slots group → n ≤ 4 * registers group → i < n → IsUnder group (k + 2) (lane (slot group (k + 1)) i)
+pub slot-under-two : (group : LaneGroup) (k i n : ℕ) → k + 1 < slots group → n ≤ 4 * registers group → i < n → IsUnder group (k + 2) (lane (slot group (k + 1)) i)
 slot-under-two group k i n l few b = let e : k + 1 + 1 ≡ k + 2 = omega arith in subst (λ j. IsUnder group j (lane (slot group (k + 1)) i)) e
     (slot-under group (k + 1) i n l few b)
 
-pub vl-under : (group : Group) (k : ℕ) → IsUnder group k vl_number
+pub vl-under : (group : LaneGroup) (k : ℕ) → IsUnder group k vl_number
 vl-under group k = inr (inl (inl refl))
 
-pub vtype-under : (group : Group) (k : ℕ) → IsUnder group k vtype_number
+pub vtype-under : (group : LaneGroup) (k : ℕ) → IsUnder group k vtype_number
 vtype-under group k = inr (inl (inr refl))
 
-module _ (w : World) (m : List ℕ) (l : length m ≡ w.size) (group : Group) (n : ℕ) where
+module _ (w : World) (m : List ℕ) (l : length m ≡ w.size) (group : LaneGroup) (n : ℕ) where
   pub lanes-under : (k : ℕ) (f g : ℕ → ℕ) → ((q : ℕ) → IsUnder group k q → g q ≡ f q) → HasLanes group n f → HasLanes group n g
   lanes-under k f g same has = rows.lanes-kept w m l group n f g (same vl_number (vl-under group k)) (same vtype_number (vtype-under group k)) has
 
@@ -98,7 +98,7 @@ module _ (w : World) (m : List ℕ) (l : length m ≡ w.size) (group : Group) (n
 -- ---- scalars
 
 -- a number or a form is one that a register holds or gets
-pub scalar-held : (scope : List Held) (own : Lanes) (most s : ℕ) (c0 c1 : List ℕ) (says : ℕ → Values → ℕ) → ((hart : ℕ) (values : Values)
+pub scalar-held : (scope : List Held) (own : VectorLanes) (most s : ℕ) (c0 c1 : List ℕ) (says : ℕ → Values → ℕ) → ((hart : ℕ) (values : Values)
     → says hart values < 2 ^ 32)
     → MakesHeld c0 c1 most scope address_register s says → MakesScalar c0 c1 scope own s Nothing (λ hart reads values. says hart (with own.counter 0 values))
 scalar-held scope own most s c0 c1 says small x = record {
@@ -116,7 +116,7 @@ scalar-held scope own most s c0 c1 says small x = record {
       };
 }
 
-pub scalar-as : (scope : List Held) (own : Lanes) (s : ℕ) (c0 c1 : List ℕ) (may : World → List ℕ → Reads → Values → Type 0) (says other : ℕ → Reads
+pub scalar-as : (scope : List Held) (own : VectorLanes) (s : ℕ) (c0 c1 : List ℕ) (may : World → List ℕ → Reads → Values → Type 0) (says other : ℕ → Reads
     → Values → ℕ)
     → ((hart : ℕ) (reads : Reads) (values : Values) → says hart reads values ≡ other hart reads values) → MakesScalar c0 c1 scope own s may says
     → MakesScalar c0 c1 scope own s may other
@@ -130,10 +130,10 @@ scalar-as scope own s c0 c1 may says other same x = record {
       record { after = a.after; line = a.line; value = a.value ∙ e; small = subst (λ z. z < 2 ^ 32) e a.small; keeps = a.keeps };
 }
 
--- ---- one part behind another
+-- ---- one part after another
 
 -- the same of what has as much of memory
-pub each-as : (places : Places) (scope : List Held) (own : Lanes) (k : ℕ) (c0 c1 : List ℕ) (may other : World → List ℕ → Reads → Values → ℕ → Type 0)
+pub each-as : (places : Places) (scope : List Held) (own : VectorLanes) (k : ℕ) (c0 c1 : List ℕ) (may other : World → List ℕ → Reads → Values → ℕ → Type 0)
     (says : Reads → Values → ℕ → ℕ)
     → ((w : World) (m : List ℕ) (reads : Reads) (values : Values) (n : ℕ) → 1 ≤ n → ((i : ℕ) → i < n → other w m reads values i) → (i : ℕ) → i < n
     → may w m reads values i)
@@ -145,7 +145,7 @@ each-as places scope own k c0 c1 may other says can a = record {
       (can w m reads values n some all);
 }
 
-module _ (places : Places) (scope : List Held) (own : Lanes) (k : ℕ) (in-stack : k < slots own.group) where
+module _ (places : Places) (scope : List Held) (own : VectorLanes) (k : ℕ) (in-stack : k < slots own.group) where
   abbrev MayEach : Type 1
   MayEach = World → List ℕ → Reads → Values → ℕ → Type 0
 
@@ -184,7 +184,7 @@ module _ (places : Places) (scope : List Held) (own : Lanes) (k : ℕ) (in-stack
   }
 
   pub each-one : (c0 c1 c2 : List ℕ) (ma : MayEach) (xa : Reads → Values → ℕ → ℕ) (says : ℕ → ℕ) → MakesEach c0 c1 places scope own k ma xa
-      → TurnsOne c1 c2 own.group k says
+      → ComputesOne c1 c2 own.group k says
       → MakesEach c0 c2 places scope own k ma (λ reads values i. says (xa reads values i))
   each-one c0 c1 c2 ma xa says x z = record {
     insns = x.insns ++ z.insns;
@@ -206,7 +206,7 @@ module _ (places : Places) (scope : List Held) (own : Lanes) (k : ℕ) (in-stack
   pub each-by : (s : ℕ) (c0 c1 c2 c3 : List ℕ) (ma : MayEach) (mb : MayOnce) (xa : Reads → Values → ℕ → ℕ) (xb : Reads → Values → ℕ) (fits : ℕ → Type 0)
       (says : ℕ → ℕ → ℕ)
       → MakesEach c0 c1 places scope own k ma xa → MakesScalar c1 c2 scope own s mb (λ hart reads values. xb reads values)
-      → TurnsBy c2 c3 own.group k s fits says
+      → ComputesBy c2 c3 own.group k s fits says
       → ((reads : Reads) (values : Values) → xb reads values < 2 ^ 32 → fits (xb reads values))
       → MakesEach c0 c3 places scope own k (λ w m reads values i. ma w m reads values i × mb w m reads values) (λ reads values i. says (xa reads values i)
       (xb reads values))
@@ -234,7 +234,7 @@ module _ (places : Places) (scope : List Held) (own : Lanes) (k : ℕ) (in-stack
 
   -- an operation on two groups
   pub each-two : (c0 c1 c2 c3 : List ℕ) (ma mb : MayEach) (xa xb : Reads → Values → ℕ → ℕ) (says : ℕ → ℕ → ℕ) → MakesEach c0 c1 places scope own k ma xa
-      → MakesEach c1 c2 places scope own (k + 1) mb xb → TurnsTwo c2 c3 own.group k says
+      → MakesEach c1 c2 places scope own (k + 1) mb xb → ComputesTwo c2 c3 own.group k says
       → MakesEach c0 c3 places scope own k (λ w m reads values i. ma w m reads values i × mb w m reads values i) (λ reads values i. says
       (xa reads values i) (xb reads values i))
   each-two c0 c1 c2 c3 ma mb xa xb says x y z = record {
@@ -262,7 +262,7 @@ module _ (places : Places) (scope : List Held) (own : Lanes) (k : ℕ) (in-stack
   -- an operation on three groups
   pub each-three : k + 2 < slots own.group → (c0 c1 c2 c3 c4 : List ℕ) (mc ma mb : MayEach) (xc xa xb : Reads → Values → ℕ → ℕ) (says : ℕ → ℕ → ℕ → ℕ)
       → MakesEach c0 c1 places scope own k mc xc
-      → MakesEach c1 c2 places scope own (k + 1) ma xa → MakesEach c2 c3 places scope own (k + 2) mb xb → TurnsThree c3 c4 own.group k says
+      → MakesEach c1 c2 places scope own (k + 1) ma xa → MakesEach c2 c3 places scope own (k + 2) mb xb → ComputesThree c3 c4 own.group k says
       → MakesEach c0 c4 places scope own k (λ w m reads values i. mc w m reads values i × (ma w m reads values i × mb w m reads values i))
       (λ reads values i. says (xc reads values i) (xa reads values i) (xb reads values i))
   each-three room c0 c1 c2 c3 c4 mc ma mb xc xa xb says o x y z = record {

@@ -17,20 +17,20 @@ use Rattle.loop_ir.specs.declared.expressions.Expr.TheVariants as e
 use Rattle.loop_ir.specs.declared.expressions.Linear.{Linear}
 use Rattle.loop_ir.specs.Counters.{Values, with}
 use Rattle.loop_ir.specs.Expressions.{value, loads, linear_value, sum_of}
-use Rattle.multi_hart_logic.specs.Alone.{World}
-use Rattle.multi_hart_logic.specs.Paths.{lane}
-use Rattle.multi_hart_logic.proofs.Paths.{line-then, stay}
-use Rattle.multi_hart_logic.proofs.VectorRows as vector
-use Rattle.task_code_scalar.specs.declared.places.Pixels.{Pixels}
-use Rattle.task_code_scalar.specs.declared.places.Pixels.TheVariants as pixels
-use Rattle.task_code_scalar.specs.declared.places.Place.{Place}
-use Rattle.task_code_scalar.specs.declared.places.Places.{Places}
+use Rattle.multi_hart_laws.specs.Alone.{World}
+use Rattle.multi_hart_laws.specs.Paths.{lane}
+use Rattle.multi_hart_laws.proofs.Paths.{line-then, stay}
+use Rattle.multi_hart_laws.proofs.VectorRows as vector
+use Rattle.task_code_scalar.specs.declared.layouts.Pixels.{Pixels}
+use Rattle.task_code_scalar.specs.declared.layouts.Pixels.TheVariants as pixels
+use Rattle.task_code_scalar.specs.declared.layouts.BufferLayout.{BufferLayout}
+use Rattle.task_code_scalar.specs.declared.layouts.Places.{Places}
 use Rattle.task_code_scalar.specs.Code.{address, place_of, pixel_bytes}
 use Rattle.task_code_scalar.specs.Evaluation.{Loads, LoadsAt}
 use Rattle.task_code_scalar.specs.Words.{Emits}
 use Rattle.task_code_scalar.proofs.Spelling.{emits_then, emits-none}
 use Rattle.task_code_scalar.proofs.Values.{alu-sets}
-use Rattle.task_code_registers.specs.declared.scopes.Form.{Form}
+use Rattle.task_code_registers.specs.declared.scopes.AffineForm.{AffineForm}
 use Rattle.task_code_registers.specs.declared.scopes.Held.{Held}
 use Rattle.task_code_registers.specs.Emitting.{Makes}
 use Rattle.task_code_registers.specs.Holding.{IsAt}
@@ -43,21 +43,21 @@ use Rattle.task_code_registers.proofs.Striding.{linear-with}
 use Rattle.task_code_values.specs.Making.{IsBelow, MakesHeld}
 use Rattle.task_code_values.specs.Operands.{IsSum}
 use Rattle.task_code_values.proofs.Standing.{kept-below, below-apart}
-use Rattle.task_code_lanes.specs.declared.groups.Group.{Group}
+use Rattle.task_code_lanes.specs.declared.groups.LaneGroup.{LaneGroup}
 use Rattle.task_code_lanes.specs.Groups.{registers, slots, slot}
 use Rattle.task_code_lanes.proofs.Slots.{slot-lies}
 use Rattle.task_code_lanes.proofs.Rows as rows
-use Rattle.task_code_lane_values.specs.declared.vectorized.Lanes.{Lanes}
+use Rattle.task_code_lane_values.specs.declared.vectorized.VectorLanes.{VectorLanes}
 use Rattle.task_code_lane_values.specs.Leaving.{MakesDistances, MakesLanes, distance}
 use Rattle.task_code_lane_values.specs.inner.Parts.{IsSteady, LoadsAlong, LoadsFrom, MakesEach, MakesScalar, MakesSteady}
-use Rattle.task_code_lane_values.specs.inner.Parts.{Nothing, AnyWord, TurnsOne, TurnsBy, TurnsTwo, MakesRowPointer}
+use Rattle.task_code_lane_values.specs.inner.Parts.{Nothing, AnyWord, ComputesOne, ComputesBy, ComputesTwo, MakesRowPointer}
 use Rattle.task_code_lane_values.proofs.Arms.{May, each-of, lanes-of, load-has, load-first, load-second, load-value}
 use Rattle.task_code_lane_values.proofs.Composing.{each-one, each-by, each-two, left-of, scalar-as}
 use Rattle.task_code_lane_values.proofs.Loading.{pointer-scalar, each-dense, each-gathered}
 
 -- ---- arithmetic
 
-row-number : (place b x y hart : ℕ) (p : Place) → pixel_bytes p.pixels ≡ b
+row-number : (place b x y hart : ℕ) (p : BufferLayout) → pixel_bytes p.pixels ≡ b
     → (address p hart x 0 % 2 ^ 32 + (y * ((b * p.width) % 2 ^ 32)) % 2 ^ 32) % 2 ^ 32 ≡ address p hart x y % 2 ^ 32
 row-number place b x y hart p eb =
     let s = p.start + p.distance * hart in
@@ -90,17 +90,17 @@ all-number pixels.Words s q x low = omega (arith, low)
 all-number pixels.Bytes s q x low = omega (arith, low)
 
 -- a pixel's distance from the beginning of its row
-pub column-reaches : (p : Place) (hart x y : ℕ) → address p hart x y < 2 ^ 32
+pub column-reaches : (p : BufferLayout) (hart x y : ℕ) → address p hart x y < 2 ^ 32
     → (address p hart 0 y % 2 ^ 32 + (x * pixel_bytes p.pixels) % 2 ^ 32) % 2 ^ 32 ≡ address p hart x y
 column-reaches p hart x y low = column-number p.pixels (p.start + p.distance * hart) (y * p.width) x low
 
 -- and where it goes on from pixel to pixel
-pub row-reaches : (p : Place) (hart x c y i : ℕ) → c ≡ (x + i) % 2 ^ 32 → address p hart c y < 2 ^ 32
+pub row-reaches : (p : BufferLayout) (hart x c y i : ℕ) → c ≡ (x + i) % 2 ^ 32 → address p hart c y < 2 ^ 32
     → (address p hart x y % 2 ^ 32 + i * pixel_bytes p.pixels) % 2 ^ 32 ≡ address p hart c y
 row-reaches p hart x c y i ec low = row-number-goes p.pixels (p.start + p.distance * hart) (y * p.width) x c i ec low
 
 -- from numbers of pixels
-pub number-reaches : (p : Place) (hart x y : ℕ) → address p hart x y < 2 ^ 32
+pub number-reaches : (p : BufferLayout) (hart x y : ℕ) → address p hart x y < 2 ^ 32
     → (address p hart 0 0 % 2 ^ 32 + ((x + (y * p.width) % 2 ^ 32) % 2 ^ 32 * pixel_bytes p.pixels) % 2 ^ 32) % 2 ^ 32 ≡ address p hart x y
 number-reaches p hart x y low =
     let s = p.start + p.distance * hart in
@@ -110,11 +110,11 @@ number-reaches p hart x y low =
 
 -- ---- pointers to a column of the first iteration and a row
 
-module _ (places : Places) (scope : List Held) (own : Lanes) (place : Place) (x : Linear) (y : Expr) where
+module _ (places : Places) (scope : List Held) (own : VectorLanes) (place : BufferLayout) (x : Linear) (y : Expr) where
   abbrev spot : ℕ → Reads → Values → ℕ
   spot hart reads values = address place hart (linear_value (with own.counter 0 values) x) (value reads (with own.counter 0 values) y) % 2 ^ 32
 
-  pub pointer-sum : (row : Linear) (form start : Form) (most s : ℕ) (c0 c1 : List ℕ) → IsSum y row → IsPoint place x row form → IsAt own.counter 0 form start
+  pub pointer-sum : (row : Linear) (form start : AffineForm) (most s : ℕ) (c0 c1 : List ℕ) → IsSum y row → IsPoint place x row form → IsAt own.counter 0 form start
       → MakesHeld c0 c1 most scope address_register s (λ hart values. form_value hart values start) → MakesRowPointer c0 c1 places scope own s place x y
   pointer-sum row form start most s c0 c1 sum point at p =
       let a = scalar-as scope own s c0 c1 Nothing (λ hart reads values. form_value hart (with own.counter 0 values) form) spot
@@ -128,7 +128,7 @@ module _ (places : Places) (scope : List Held) (own : Lanes) (place : Place) (x 
         does = λ w m values reads f l holders knows may. a.does w m values reads f l holders knows tt;
       }
 
-  pub pointer-register : (zero : Linear) (form start : Form) (bytes row most t b : ℕ) (c0 c1 c2 c3 c4 : List ℕ) → ((values : Values)
+  pub pointer-register : (zero : Linear) (form start : AffineForm) (bytes row most t b : ℕ) (c0 c1 c2 c3 c4 : List ℕ) → ((values : Values)
       → linear_value values zero ≡ 0) → bytes ≡ pixel_bytes place.pixels
       → row ≡ word.multiply bytes place.width → IsPoint place x zero form → IsAt own.counter 0 form start → MakesSteady c0 c1 places scope own t y
       → Makes c1 c2 3 first_value (λ f. (f t * row) % 2 ^ 32) → MakesHeld c2 c3 most scope address_register b (λ hart values. form_value hart values start)
@@ -175,9 +175,9 @@ module _ (places : Places) (scope : List Held) (own : Lanes) (place : Place) (x 
 
 -- ---- lanes
 
-pub times-four-made : (group : Group) (k : ℕ) → k < slots group → (c0 c1 : List ℕ) → Emits c0 c1 (Vector (v.ShiftVi shifts.Vsll (slot group k)
+pub times-four-made : (group : LaneGroup) (k : ℕ) → k < slots group → (c0 c1 : List ℕ) → Emits c0 c1 (Vector (v.ShiftVi shifts.Vsll (slot group k)
     (slot group k) 2 true) ∷ [])
-    → TurnsOne c0 c1 group k (λ x. (x * 4) % 2 ^ 32)
+    → ComputesOne c0 c1 group k (λ x. (x * 4) % 2 ^ 32)
 times-four-made group k in-stack c0 c1 z = record {
   insns = Vector (v.ShiftVi shifts.Vsll (slot group k) (slot group k) 2 true) ∷ [];
   emits = z;
@@ -189,14 +189,14 @@ times-four-made group k in-stack c0 c1 z = record {
       (y * 4) % 2 ^ 32) (hx i b))));
 }
 
-pub offsets-words : (group : Group) (k : ℕ) → k < slots group → (own : Pixels) (a : ℕ) (c0 c1 : List ℕ) → own ≡ pixels.Words → a ≡ slot group k
-    → Emits c0 c1 (Vector (v.ShiftVi shifts.Vsll a a 2 true) ∷ []) → TurnsOne c0 c1 group k (λ x. (x * pixel_bytes own) % 2 ^ 32)
+pub offsets-words : (group : LaneGroup) (k : ℕ) → k < slots group → (own : Pixels) (a : ℕ) (c0 c1 : List ℕ) → own ≡ pixels.Words → a ≡ slot group k
+    → Emits c0 c1 (Vector (v.ShiftVi shifts.Vsll a a 2 true) ∷ []) → ComputesOne c0 c1 group k (λ x. (x * pixel_bytes own) % 2 ^ 32)
 offsets-words group k in-stack own a c0 c1 is ea z =
-    subst (λ p. TurnsOne c0 c1 group k (λ x. (x * pixel_bytes p) % 2 ^ 32)) (sym is)
+    subst (λ p. ComputesOne c0 c1 group k (λ x. (x * pixel_bytes p) % 2 ^ 32)) (sym is)
     (times-four-made group k in-stack c0 c1 (subst (λ y. Emits c0 c1 (Vector (v.ShiftVi shifts.Vsll y y 2 true) ∷ [])) ea z))
 
-pub offsets-bytes : (group : Group) (k : ℕ) (own : Pixels) (c : List ℕ) → own ≡ pixels.Bytes → TurnsOne c c group k (λ x. (x * pixel_bytes own) % 2 ^ 32)
-offsets-bytes group k own c is = subst (λ p. TurnsOne c c group k (λ x. (x * pixel_bytes p) % 2 ^ 32)) (sym is) (record {
+pub offsets-bytes : (group : LaneGroup) (k : ℕ) (own : Pixels) (c : List ℕ) → own ≡ pixels.Bytes → ComputesOne c c group k (λ x. (x * pixel_bytes own) % 2 ^ 32)
+offsets-bytes group k own c is = subst (λ p. ComputesOne c c group k (λ x. (x * pixel_bytes p) % 2 ^ 32)) (sym is) (record {
   insns = [];
   emits = emits-none c;
   does = λ w m n f x l has hx lx.
@@ -211,7 +211,7 @@ offsets-bytes group k own c is = subst (λ p. TurnsOne c c group k (λ x. (x * p
 
 -- ---- how far points lie from the first one
 
-module _ (places : Places) (scope : List Held) (own : Lanes) (k : ℕ) (place : Place) (x y : Expr) where
+module _ (places : Places) (scope : List Held) (own : VectorLanes) (k : ℕ) (place : BufferLayout) (x y : Expr) where
   -- distances are numbers in lanes
   pub distances-each : (c0 c1 : List ℕ) → MakesDistances c0 c1 places scope own k place x y
       → MakesEach c0 c1 places scope own k
@@ -228,8 +228,8 @@ module _ (places : Places) (scope : List Held) (own : Lanes) (k : ℕ) (place : 
   -- from columns and rows in lanes
   pub distances-made : (s : ℕ) (c0 c1 c2 c3 c4 c5 c6 : List ℕ) → k + 1 < slots own.group
       → MakesScalar c2 c3 scope own s Nothing (λ hart reads values. place.width)
-      → TurnsBy c3 c4 own.group (k + 1) s AnyWord (word.applied op.Multiply) → TurnsTwo c4 c5 own.group k (word.applied op.Add)
-      → TurnsOne c5 c6 own.group k (λ x. (x * pixel_bytes place.pixels) % 2 ^ 32)
+      → ComputesBy c3 c4 own.group (k + 1) s AnyWord (word.applied op.Multiply) → ComputesTwo c4 c5 own.group k (word.applied op.Add)
+      → ComputesOne c5 c6 own.group k (λ x. (x * pixel_bytes place.pixels) % 2 ^ 32)
       → MakesLanes c0 c1 places scope own k x → MakesLanes c1 c2 places scope own (k + 1) y → MakesDistances c0 c6 places scope own k place x y
   unfolding word.add word.multiply
   distances-made s c0 c1 c2 c3 c4 c5 c6 next width product plus four first second =
@@ -254,7 +254,7 @@ module _ (places : Places) (scope : List Held) (own : Lanes) (k : ℕ) (place : 
             a.does w m values reads n f l are holders knows has some few (λ i lt. (may-x i lt, (may-y i lt, tt)));
       }
 
-module _ (places : Places) (scope : List Held) (own : Lanes) (k : ℕ) (in-stack : k < slots own.group) (source : Source) (place : Place)
+module _ (places : Places) (scope : List Held) (own : VectorLanes) (k : ℕ) (in-stack : k < slots own.group) (source : Source) (place : BufferLayout)
     (ep : place ≡ place_of places source)
   where
     abbrev Left : List ℕ → List ℕ → ℕ → Expr → Type 0
@@ -270,7 +270,7 @@ module _ (places : Places) (scope : List Held) (own : Lanes) (k : ℕ) (in-stack
 
     -- columns in lanes, of a row that all iterations have
     pub gather-made : (zero : Linear) (b : ℕ) (c1 c2 c3 c4 : List ℕ) (y : Expr) → ((values : Values) → linear_value values zero ≡ 0) → IsSteady own.counter y
-        → TurnsOne c1 c2 own.group k (λ x. (x * pixel_bytes place.pixels) % 2 ^ 32) → MakesRowPointer c2 c3 places scope own b place zero y
+        → ComputesOne c1 c2 own.group k (λ x. (x * pixel_bytes place.pixels) % 2 ^ 32) → MakesRowPointer c2 c3 places scope own b place zero y
         → LoadsFrom c3 c4 own.group k b place.pixels
         → (c0 : List ℕ) (x : Expr) → Left c0 c1 k x → Left c0 c4 k (e.Load source x y)
     gather-made zero b c1 c2 c3 c4 y none steady t p z c0 x first =
@@ -341,7 +341,7 @@ module _ (places : Places) (scope : List Held) (own : Lanes) (k : ℕ) (in-stack
         (sum.value_is reads (with own.counter i values) ∙ goes values i) low) p z)
 
     -- columns and rows in lanes
-    pub scattered-made : (zero : Linear) (form start : Form) (most b : ℕ) (c6 c7 c8 : List ℕ) → ((values : Values) → linear_value values zero ≡ 0)
+    pub scattered-made : (zero : Linear) (form start : AffineForm) (most b : ℕ) (c6 c7 c8 : List ℕ) → ((values : Values) → linear_value values zero ≡ 0)
         → IsPoint place zero zero form → IsAt own.counter 0 form start
         → MakesHeld c6 c7 most scope address_register b (λ hart values. form_value hart values start)
         → LoadsFrom c7 c8 own.group k b place.pixels

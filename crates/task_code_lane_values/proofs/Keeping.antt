@@ -18,10 +18,10 @@ use Rattle.loop_ir.specs.declared.expressions.Expr.{Expr}
 use Rattle.loop_ir.specs.declared.expressions.Expr.TheVariants as e
 use Rattle.loop_ir.specs.Counters.{Values, with}
 use Rattle.loop_ir.specs.Expressions.{value, loads}
-use Rattle.multi_hart_logic.specs.Alone.{World}
-use Rattle.multi_hart_logic.specs.Paths.{lane}
-use Rattle.multi_hart_logic.proofs.Paths.{line-then, stay}
-use Rattle.task_code_scalar.specs.declared.places.Places.{Places}
+use Rattle.multi_hart_laws.specs.Alone.{World}
+use Rattle.multi_hart_laws.specs.Paths.{lane}
+use Rattle.multi_hart_laws.proofs.Paths.{line-then, stay}
+use Rattle.task_code_scalar.specs.declared.layouts.Places.{Places}
 use Rattle.task_code_scalar.specs.Evaluation.{Loads}
 use Rattle.task_code_scalar.specs.Words.{Emits}
 use Rattle.task_code_scalar.proofs.Evaluation.{applied-below}
@@ -30,15 +30,15 @@ use Rattle.task_code_scalar.proofs.Spelling.{emits_then, emits-none}
 use Rattle.task_code_registers.specs.declared.scopes.Held.{Held}
 use Rattle.task_code_registers.proofs.Knowing.{knows-still}
 use Rattle.task_code_values.proofs.Evaluating.{value_binary, loads_binary}
-use Rattle.task_code_lanes.specs.declared.groups.Group.{Group}
-use Rattle.task_code_lanes.specs.declared.groups.Group.TheVariants as groups
+use Rattle.task_code_lanes.specs.declared.groups.LaneGroup.{LaneGroup}
+use Rattle.task_code_lanes.specs.declared.groups.LaneGroup.TheVariants as groups
 use Rattle.task_code_lanes.specs.Groups.{registers, slots, slot}
 use Rattle.task_code_lanes.proofs.Slots.{slot-lies}
 use Rattle.task_code_lanes.proofs.Rows as rows
 use Rattle.task_code_lanes.proofs.Operations.{arithmetic-writes}
 use Rattle.task_code_lane_values.specs.declared.sharing.Sharing.{Sharing}
 use Rattle.task_code_lane_values.specs.declared.vectorized.LaneSite.{LaneSite}
-use Rattle.task_code_lane_values.specs.declared.vectorized.Lanes.{Lanes}
+use Rattle.task_code_lane_values.specs.declared.vectorized.VectorLanes.{VectorLanes}
 use Rattle.task_code_lane_values.specs.Leaving.{IsUnder, LeavesLanes, MakesLanes}
 use Rattle.task_code_lane_values.specs.inner.Sharing.{AreParts, Begins, HoldsKept, HoldsValue, IsKeptAt, IsPart, IsTwo, Keeps, Leads, MakesOperand, MakesShared}
 use Rattle.task_code_lane_values.specs.inner.Sharing.{MayLoad, StandAmong}
@@ -110,22 +110,22 @@ part-all P all points among each =
 
 -- ---- what stays
 
-slot-up : (group : Group) (a b : ℕ) → a ≤ b → lane (slot group a) 0 ≤ lane (slot group b) 0
+slot-up : (group : LaneGroup) (a b : ℕ) → a ≤ b → lane (slot group a) 0 ≤ lane (slot group b) 0
 slot-up groups.One a b l = omega (arith, l)
 slot-up groups.Two a b l = omega (arith, l)
 slot-up groups.Four a b l = omega (arith, l)
 
-under-up : (group : Group) (a b q : ℕ) → a ≤ b → IsUnder group a q → IsUnder group b q
+under-up : (group : LaneGroup) (a b q : ℕ) → a ≤ b → IsUnder group a q → IsUnder group b q
 under-up group a b q l (inl h) = inl h
 under-up group a b q l (inr (inl h)) = inr (inl h)
 under-up group a b q l (inr (inr h)) = let s = slot-up group a b l in let high = h.1 in inr (inr (h.0, omega (arith, s, high)))
 
-slot-under : (group : Group) (s k i n : ℕ) → s < k → n ≤ 4 * registers group → i < n → IsUnder group k (lane (slot group s) i)
+slot-under : (group : LaneGroup) (s k i n : ℕ) → s < k → n ≤ 4 * registers group → i < n → IsUnder group k (lane (slot group s) i)
 slot-under groups.One s k i n l few b = inr (inr (omega arith, omega (arith, l, few, b)))
 slot-under groups.Two s k i n l few b = inr (inr (omega arith, omega (arith, l, few, b)))
 slot-under groups.Four s k i n l few b = inr (inr (omega arith, omega (arith, l, few, b)))
 
-value-still : (own : Lanes) (reads : Reads) (values : Values) (n : ℕ) (f g : ℕ → ℕ) (s k : ℕ) (x : Expr) → s < k → n ≤ 4 * registers own.group
+value-still : (own : VectorLanes) (reads : Reads) (values : Values) (n : ℕ) (f g : ℕ → ℕ) (s k : ℕ) (x : Expr) → s < k → n ≤ 4 * registers own.group
     → ((q : ℕ) → IsUnder own.group k q → g q ≡ f q) → HoldsValue own reads values n f s x → HoldsValue own reads values n g s x
 value-still own reads values n f g s k x l few same h = record {
   value_is = λ i b. same (lane (slot own.group s) i) (slot-under own.group s k i n l few b) ∙ h.value_is i b;
@@ -198,7 +198,7 @@ module _ (own : Sharing) (o : Operation) (vv : ArithmeticVvOp) (two : IsTwo o vv
     (in-next : next < slots own.site.lanes.group) (dk : d ≤ k) (a b : Expr) (c0 c1 c2 c3 : List ℕ) (first : MakesOperand c0 c1 own k s a)
     (second : MakesOperand c1 c2 own next t b)
     (last : Emits c2 c3 (Vector (v.ArithmeticVv vv (slot own.site.lanes.group d) (slot own.site.lanes.group s) (slot own.site.lanes.group t) true) ∷ [])) where
-  abbrev group : Group
+  abbrev group : LaneGroup
   group = own.site.lanes.group
 
   abbrev insn : List Insn

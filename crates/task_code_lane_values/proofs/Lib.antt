@@ -12,5 +12,5 @@ pub mod Keeping
 pub mod Signs
 pub mod Sparing
 pub mod Steady
-pub mod Turning
+pub mod Computing
 pub mod Words

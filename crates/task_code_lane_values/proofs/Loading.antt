@@ -2,7 +2,7 @@
 use Rattle.std.proofs.Common.{◌≡◌, ℕ, ◌+◌, ◌*◌, ◌%◌, ◌^◌, ◌<◌, List, ◌++◌, refl, ap, ◌∙◌, sym, subst, arith, inl, inr}
 use Rattle.halide_pipeline.specs.declared.expressions.Operation.TheVariants as op
 use Rattle.halide_pipeline.specs.Words as word
-use Rattle.task_code_scalar.specs.declared.places.Pixels.TheVariants as pixels
+use Rattle.task_code_scalar.specs.declared.layouts.Pixels.TheVariants as pixels
 use Rattle.task_code_registers.specs.Emitting.{Makes}
 use Rattle.task_code_registers.proofs.Knowing.{working-free}
 use Rattle.task_code_values.specs.Making.{IsBelow}
@@ -13,15 +13,15 @@ use Rattle.loop_ir.specs.declared.expressions.Counter.{Counter}
 use Rattle.loop_ir.specs.declared.expressions.Linear.{Linear}
 use Rattle.loop_ir.specs.Counters.{Values, with}
 use Rattle.loop_ir.specs.Expressions.{linear_value, sum_of}
-use Rattle.multi_hart_logic.specs.Alone.{World}
-use Rattle.multi_hart_logic.specs.Paths.{lane}
-use Rattle.multi_hart_logic.proofs.Paths.{line-then}
-use Rattle.task_code_scalar.specs.declared.places.Place.{Place}
-use Rattle.task_code_scalar.specs.declared.places.Places.{Places}
+use Rattle.multi_hart_laws.specs.Alone.{World}
+use Rattle.multi_hart_laws.specs.Paths.{lane}
+use Rattle.multi_hart_laws.proofs.Paths.{line-then}
+use Rattle.task_code_scalar.specs.declared.layouts.BufferLayout.{BufferLayout}
+use Rattle.task_code_scalar.specs.declared.layouts.Places.{Places}
 use Rattle.task_code_scalar.specs.Code.{address, pixel_bytes, place_of}
 use Rattle.task_code_scalar.specs.Evaluation.{LoadsAt}
 use Rattle.task_code_scalar.proofs.Spelling.{emits_then}
-use Rattle.task_code_registers.specs.declared.scopes.Form.{Form}
+use Rattle.task_code_registers.specs.declared.scopes.AffineForm.{AffineForm}
 use Rattle.task_code_registers.specs.declared.scopes.Held.{Held}
 use Rattle.task_code_registers.specs.Holding.{IsAt}
 use Rattle.task_code_registers.specs.Points.{IsPoint}
@@ -32,13 +32,13 @@ use Rattle.task_code_registers.proofs.Knowing.{form-small, knows-still, knows-ze
 use Rattle.task_code_registers.proofs.Striding.{linear-with}
 use Rattle.task_code_values.specs.Making.{MakesHeld}
 use Rattle.task_code_lanes.specs.Groups.{slots, slot}
-use Rattle.task_code_lane_values.specs.declared.vectorized.Lanes.{Lanes}
+use Rattle.task_code_lane_values.specs.declared.vectorized.VectorLanes.{VectorLanes}
 use Rattle.task_code_lane_values.specs.inner.Parts.{LoadsAlong, LoadsFrom, LoadsPoint, LoadsStrided, MakesScalar, MakesEach, MakesPoint, Nothing, NothingEach}
 use Rattle.task_code_lane_values.proofs.Composing.{each-as, kept-under, lane-below, lanes-scalar, lanes-under, scalar-held, scalar-as, under-below}
 
 -- ---- forms that go along with a loop variable
 
-pub form-goes : (counter : Counter) (i stride hart : ℕ) (values : Values) (own : Form) → stride ≡ strides counter own.sum.terms % 2 ^ 32
+pub form-goes : (counter : Counter) (i stride hart : ℕ) (values : Values) (own : AffineForm) → stride ≡ strides counter own.sum.terms % 2 ^ 32
     → (form_value hart (with counter 0 values) own + i * stride) % 2 ^ 32 ≡ form_value hart (with counter i values) own
 unfolding form_value
 form-goes counter i stride hart values own es =
@@ -53,7 +53,7 @@ form-goes counter i stride hart values own es =
 -- ---- pointers
 
 -- a register points where a form stands in the first iteration
-pub pointer-scalar : (scope : List Held) (own : Lanes) (form start : Form) (most s : ℕ) (c0 c1 : List ℕ) → IsAt own.counter 0 form start
+pub pointer-scalar : (scope : List Held) (own : VectorLanes) (form start : AffineForm) (most s : ℕ) (c0 c1 : List ℕ) → IsAt own.counter 0 form start
     → MakesHeld c0 c1 most scope address_register s (λ hart values. form_value hart values start)
     → MakesScalar c0 c1 scope own s Nothing (λ hart reads values. form_value hart (with own.counter 0 values) form)
 pointer-scalar scope own form start most s c0 c1 at x =
@@ -64,7 +64,7 @@ pointer-scalar scope own form start most s c0 c1 at x =
 
 -- ---- pixels from a pointer on
 
-module _ (places : Places) (scope : List Held) (own : Lanes) (k : ℕ) (in-stack : k < slots own.group) (source : Source) (place : Place)
+module _ (places : Places) (scope : List Held) (own : VectorLanes) (k : ℕ) (in-stack : k < slots own.group) (source : Source) (place : BufferLayout)
     (ep : place ≡ place_of places source)
     (xs ys : Reads → Values → ℕ → ℕ) where
   abbrev pixel : Reads → Values → ℕ → ℕ
@@ -83,7 +83,7 @@ module _ (places : Places) (scope : List Held) (own : Lanes) (k : ℕ) (in-stack
       (hart : ℕ) (reads : Reads) (values : Values) (i : ℕ) → address place hart (xs reads values i) (ys reads values i) < 2 ^ 32
       → (pointer hart reads values + offset reads values i) % 2 ^ 32 ≡ address place hart (xs reads values i) (ys reads values i)
 
-  -- one behind the other
+  -- one after the other
   pub each-dense : (b : ℕ) (c0 c1 c2 : List ℕ) (mb : World → List ℕ → Reads → Values → Type 0) (pointer : ℕ → Reads → Values → ℕ)
       → Reaches pointer (λ reads values i. i * pixel_bytes place.pixels) → MakesScalar c0 c1 scope own b mb pointer
       → LoadsAlong c1 c2 own.group k b place.pixels
@@ -142,9 +142,9 @@ module _ (places : Places) (scope : List Held) (own : Lanes) (k : ℕ) (in-stack
 
 -- ---- the point at two sums
 
-module _ (places : Places) (scope : List Held) (own : Lanes) (k : ℕ) (in-stack : k < slots own.group) (source : Source) (x y : Linear) (place : Place)
+module _ (places : Places) (scope : List Held) (own : VectorLanes) (k : ℕ) (in-stack : k < slots own.group) (source : Source) (x y : Linear) (place : BufferLayout)
     (ep : place ≡ place_of places source)
-    (form : Form) (point : IsPoint place x y form) (stride : ℕ) (es : stride ≡ strides own.counter form.sum.terms % 2 ^ 32) where
+    (form : AffineForm) (point : IsPoint place x y form) (stride : ℕ) (es : stride ≡ strides own.counter form.sum.terms % 2 ^ 32) where
   abbrev xs : Reads → Values → ℕ → ℕ
   xs reads values i = linear_value (with own.counter i values) x
 
@@ -161,7 +161,7 @@ module _ (places : Places) (scope : List Held) (own : Lanes) (k : ℕ) (in-stack
       let g : a % 2 ^ 32 ≡ a = omega (arith, low) in
       form-goes own.counter i stride hart values form es ∙ point.value hart (with own.counter i values) ∙ g
 
-  pub dense-made : (most b : ℕ) (start : Form) (c0 c1 c2 : List ℕ) → stride ≡ pixel_bytes place.pixels → IsAt own.counter 0 form start
+  pub dense-made : (most b : ℕ) (start : AffineForm) (c0 c1 c2 : List ℕ) → stride ≡ pixel_bytes place.pixels → IsAt own.counter 0 form start
       → MakesHeld c0 c1 most scope address_register b (λ hart values. form_value hart values start) → LoadsAlong c1 c2 own.group k b place.pixels
       → MakesPoint c0 c2 places scope own k source x y
   dense-made most b start c0 c1 c2 is at p z =
@@ -177,7 +177,7 @@ module _ (places : Places) (scope : List Held) (own : Lanes) (k : ℕ) (in-stack
   far p i = let t = i * stride in let g : (p + t % 2 ^ 32) % 2 ^ 32 ≡ (p + t) % 2 ^ 32 = omega arith in g
 
   -- words at a stride
-  pub strided-made : (most b : ℕ) (start : Form) (c0 c1 c2 c3 : List ℕ) → place.pixels ≡ pixels.Words → IsAt own.counter 0 form start
+  pub strided-made : (most b : ℕ) (start : AffineForm) (c0 c1 c2 c3 : List ℕ) → place.pixels ≡ pixels.Words → IsAt own.counter 0 form start
       → Makes c0 c1 2 first_value (λ f. stride) → MakesHeld c1 c2 most scope address_register b (λ hart values. form_value hart values start)
       → LoadsStrided c2 c3 own.group k b first_value → MakesPoint c0 c3 places scope own k source x y
   strided-made most b start c0 c1 c2 c3 words at s p z = record {
@@ -213,7 +213,7 @@ module _ (places : Places) (scope : List Held) (own : Lanes) (k : ℕ) (in-stack
   }
 
   -- pixels at a stride
-  pub stepped-made : (most b : ℕ) (start : Form) (c0 c1 c2 c3 : List ℕ)
+  pub stepped-made : (most b : ℕ) (start : AffineForm) (c0 c1 c2 c3 : List ℕ)
       → ((all : Places) → MakesEach c0 c1 all scope own k NothingEach (λ reads values i. word.applied op.Multiply i stride)) → IsAt own.counter 0 form start
       → MakesHeld c1 c2 most scope address_register b (λ hart values. form_value hart values start) → LoadsFrom c2 c3 own.group k b place.pixels
       → MakesPoint c0 c3 places scope own k source x y

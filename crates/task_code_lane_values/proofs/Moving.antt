@@ -9,10 +9,10 @@ use Rattle.loop_ir.specs.declared.expressions.Expr.TheVariants as e
 use Rattle.loop_ir.specs.declared.expressions.Linear.{Linear}
 use Rattle.loop_ir.specs.Counters.{Values, with}
 use Rattle.loop_ir.specs.Expressions.{linear_value, sum_of}
-use Rattle.multi_hart_logic.proofs.VectorRows as vector
-use Rattle.task_code_scalar.specs.declared.places.Places.{Places}
+use Rattle.multi_hart_laws.proofs.VectorRows as vector
+use Rattle.task_code_scalar.specs.declared.layouts.Places.{Places}
 use Rattle.task_code_scalar.specs.Words.{Emits}
-use Rattle.task_code_registers.specs.declared.scopes.Form.{Form}
+use Rattle.task_code_registers.specs.declared.scopes.AffineForm.{AffineForm}
 use Rattle.task_code_registers.specs.declared.scopes.Held.{Held}
 use Rattle.task_code_registers.specs.Holding.{IsAt}
 use Rattle.task_code_registers.specs.Registers.{address_register}
@@ -25,15 +25,15 @@ use Rattle.task_code_values.proofs.Evaluating.{value_linear}
 use Rattle.task_code_lanes.specs.Groups.{registers, slots, slot}
 use Rattle.task_code_lanes.proofs.Slots.{slot-lies}
 use Rattle.task_code_lanes.proofs.Rows as rows
-use Rattle.task_code_lane_values.specs.declared.vectorized.Lanes.{Lanes}
+use Rattle.task_code_lane_values.specs.declared.vectorized.VectorLanes.{VectorLanes}
 use Rattle.task_code_lane_values.specs.Leaving.{MakesLanes}
-use Rattle.task_code_lane_values.specs.inner.Parts.{MakesScalar, MakesEach, Nothing, NothingEach, AnyWord, TurnsBy}
+use Rattle.task_code_lane_values.specs.inner.Parts.{MakesScalar, MakesEach, Nothing, NothingEach, AnyWord, ComputesBy}
 use Rattle.task_code_lane_values.proofs.Arms.{lanes-of, lanes-as}
 use Rattle.task_code_lane_values.proofs.Composing.{left-of, each-as, each-by, scalar-as}
 use Rattle.task_code_lane_values.proofs.Loading.{pointer-scalar}
 
 -- the iterations' own numbers
-pub numbers-made : (places : Places) (scope : List Held) (own : Lanes) (k : ℕ) → k < slots own.group → (c0 c1 : List ℕ) → Emits c0 c1 (Vector
+pub numbers-made : (places : Places) (scope : List Held) (own : VectorLanes) (k : ℕ) → k < slots own.group → (c0 c1 : List ℕ) → Emits c0 c1 (Vector
     (v.ElementNumbers (slot own.group k) true) ∷ [])
     → MakesEach c0 c1 places scope own k NothingEach (λ reads values i. i)
 numbers-made places scope own k in-stack c0 c1 z = record {
@@ -48,7 +48,7 @@ numbers-made places scope own k in-stack c0 c1 z = record {
       (λ i b. refl)));
 }
 
-module _ (places : Places) (scope : List Held) (own : Lanes) (k : ℕ) (in-stack : k < slots own.group) where
+module _ (places : Places) (scope : List Held) (own : VectorLanes) (k : ℕ) (in-stack : k < slots own.group) where
   abbrev Steps : List ℕ → List ℕ → ℕ → Type 0
   Steps c0 c1 stride = MakesEach c0 c1 places scope own k NothingEach (λ reads values i. word.applied op.Multiply i stride)
 
@@ -69,7 +69,7 @@ module _ (places : Places) (scope : List Held) (own : Lanes) (k : ℕ) (in-stack
 
   pub steps-more : (stride s : ℕ) (c0 c1 c2 c3 : List ℕ) → Emits c0 c1 (Vector (v.ElementNumbers (slot own.group k) true) ∷ [])
       → MakesScalar c1 c2 scope own s Nothing (λ hart reads values. stride)
-      → TurnsBy c2 c3 own.group k s AnyWord (word.applied op.Multiply) → Steps c0 c3 stride
+      → ComputesBy c2 c3 own.group k s AnyWord (word.applied op.Multiply) → Steps c0 c3 stride
   steps-more stride s c0 c1 c2 c3 x y z =
       each-as places scope own k c0 c3 (λ w m reads values i. NothingEach w m reads values i × Nothing w m reads values) NothingEach
       (λ reads values i. word.applied op.Multiply i stride)
@@ -83,7 +83,7 @@ module _ (places : Places) (scope : List Held) (own : Lanes) (k : ℕ) (in-stack
   steps-one-as stride a c0 c1 one ea z = steps-one stride c0 c1 one (subst (λ y. Emits c0 c1 (Vector (v.ElementNumbers y true) ∷ [])) ea z)
 
   pub steps-more-as : (stride s a : ℕ) (c0 c1 c2 c3 : List ℕ) → a ≡ slot own.group k → Emits c0 c1 (Vector (v.ElementNumbers a true) ∷ [])
-      → MakesScalar c1 c2 scope own s Nothing (λ hart reads values. stride) → TurnsBy c2 c3 own.group k s AnyWord (word.applied op.Multiply)
+      → MakesScalar c1 c2 scope own s Nothing (λ hart reads values. stride) → ComputesBy c2 c3 own.group k s AnyWord (word.applied op.Multiply)
       → Steps c0 c3 stride
   steps-more-as stride s a c0 c1 c2 c3 ea x y z = steps-more stride s c0 c1 c2 c3 (subst (λ u. Emits c0 c1 (Vector (v.ElementNumbers u true) ∷ [])) ea x) y z
 
@@ -98,9 +98,9 @@ module _ (places : Places) (scope : List Held) (own : Lanes) (k : ℕ) (in-stack
       ap (λ n. (p % 2 ^ 32 + n) % 2 ^ 32) (linear-with own.counter 0 stride values sum es ∙ ap (λ n. n % 2 ^ 32) z) ∙ g ∙ sym
       (linear-with own.counter i stride values sum es)
 
-  pub sum-arm : (x : Expr) (sum : Linear) (form start : Form) (stride most s : ℕ) (c0 c1 c2 c3 : List ℕ) → x ≡ e.Linear sum → form.sum ≡ sum → form.per_hart ≡ 0
+  pub sum-arm : (x : Expr) (sum : Linear) (form start : AffineForm) (stride most s : ℕ) (c0 c1 c2 c3 : List ℕ) → x ≡ e.Linear sum → form.sum ≡ sum → form.per_hart ≡ 0
       → stride ≡ strides own.counter sum.terms % 2 ^ 32 → IsAt own.counter 0 form start → Steps c0 c1 stride
-      → MakesHeld c1 c2 most scope address_register s (λ hart values. form_value hart values start) → TurnsBy c2 c3 own.group k s AnyWord (word.applied op.Add)
+      → MakesHeld c1 c2 most scope address_register s (λ hart values. form_value hart values start) → ComputesBy c2 c3 own.group k s AnyWord (word.applied op.Add)
       → MakesLanes c0 c3 places scope own k x
   sum-arm x sum form start stride most s c0 c1 c2 c3 eo same none es at a p z =
       let pointer = scalar-as scope own s c1 c2 Nothing (λ hart reads values. form_value hart (with own.counter 0 values) form)

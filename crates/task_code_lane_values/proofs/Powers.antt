@@ -14,15 +14,15 @@ use Rattle.rv_insn.specs.declared.vector_operations.ArithmeticVxOp.TheVariants a
 use Rattle.rv_insn.specs.declared.vector_operations.ShiftViOp.TheVariants as shifts
 use Rattle.lanes.specs.Words as lanes
 use Rattle.halide_pipeline.specs.Words as word
-use Rattle.multi_hart_logic.specs.Paths.{lane}
-use Rattle.multi_hart_logic.proofs.VectorRows as vector
+use Rattle.multi_hart_laws.specs.Paths.{lane}
+use Rattle.multi_hart_laws.proofs.VectorRows as vector
 use Rattle.task_code_scalar.specs.Words.{Emits}
 use Rattle.task_code_values.proofs.Dividing.{divide-below, remainder-below}
-use Rattle.task_code_lanes.specs.declared.groups.Group.{Group}
+use Rattle.task_code_lanes.specs.declared.groups.LaneGroup.{LaneGroup}
 use Rattle.task_code_lanes.specs.Groups.{registers, slots, slot}
 use Rattle.task_code_lanes.proofs.Slots.{slot-lies}
 use Rattle.task_code_lanes.proofs.Rows as rows
-use Rattle.task_code_lane_values.specs.inner.Parts.{TurnsOne, TurnsBy}
+use Rattle.task_code_lane_values.specs.inner.Parts.{ComputesOne, ComputesBy}
 use Rattle.task_code_lane_values.proofs.Composing.{left-of}
 
 not-none : (c : ℕ) → 0 < c → (c == 0) ≡ false
@@ -109,14 +109,14 @@ remainder-low x k l few =
 
 -- ---- lanes
 
-module _ (group : Group) (k : ℕ) (in-stack : k < slots group) (c e : ℕ) (few : e < 32) (is : c ≡ 2 ^ e) (c0 c1 : List ℕ) where
+module _ (group : LaneGroup) (k : ℕ) (in-stack : k < slots group) (c e : ℕ) (few : e < 32) (is : c ≡ 2 ^ e) (c0 c1 : List ℕ) where
   abbrev r : ℕ
   r = slot group k
 
   some : 0 < c
   some = subst (λ n. 0 < n) (sym is) (pow_pos e)
 
-  pub quotient-shifted : Emits c0 c1 (Vector (v.ShiftVi shifts.Vsra r r e true) ∷ []) → TurnsOne c0 c1 group k (λ x. word.divide x c)
+  pub quotient-shifted : Emits c0 c1 (Vector (v.ShiftVi shifts.Vsra r r e true) ∷ []) → ComputesOne c0 c1 group k (λ x. word.divide x c)
   quotient-shifted z = record {
     insns = Vector (v.ShiftVi shifts.Vsra r r e true) ∷ [];
     emits = z;
@@ -129,7 +129,7 @@ module _ (group : Group) (k : ℕ) (in-stack : k < slots group) (c e : ℕ) (few
   }
 
   -- a register has all bits of a remainder
-  pub remainder-masked : (s : ℕ) → s < 32 → c < 2 ^ 32 → Emits c0 c1 (Vector (v.ArithmeticVx vxs.Vand r r s true) ∷ []) → TurnsBy c0 c1 group k s
+  pub remainder-masked : (s : ℕ) → s < 32 → c < 2 ^ 32 → Emits c0 c1 (Vector (v.ArithmeticVx vxs.Vand r r s true) ∷ []) → ComputesBy c0 c1 group k s
       (λ d. d ≡ c - 1) (λ x d. word.remainder x c)
   remainder-masked s low lc z = record {
     insns = Vector (v.ArithmeticVx vxs.Vand r r s true) ∷ [];
@@ -145,13 +145,13 @@ module _ (group : Group) (k : ℕ) (in-stack : k < slots group) (c e : ℕ) (few
         ∙ ap (word.remainder (x i)) (sym is))));
   }
 
-pub shifted-as : (group : Group) (k : ℕ) → k < slots group → (c e : ℕ) → e < 32 → c ≡ 2 ^ e → (a : ℕ) (c0 c1 : List ℕ) → a ≡ slot group k → Emits c0 c1
+pub shifted-as : (group : LaneGroup) (k : ℕ) → k < slots group → (c e : ℕ) → e < 32 → c ≡ 2 ^ e → (a : ℕ) (c0 c1 : List ℕ) → a ≡ slot group k → Emits c0 c1
     (Vector (v.ShiftVi shifts.Vsra a a e true) ∷ [])
-    → TurnsOne c0 c1 group k (λ x. word.divide x c)
+    → ComputesOne c0 c1 group k (λ x. word.divide x c)
 shifted-as group k in-stack c e few is a c0 c1 ea z = quotient-shifted group k in-stack c e few is c0 c1 (subst (λ y. Emits c0 c1 (Vector
     (v.ShiftVi shifts.Vsra y y e true) ∷ [])) ea z)
 
-pub masked-as : (group : Group) (k : ℕ) → k < slots group → (c e s : ℕ) → e < 32 → c ≡ 2 ^ e → c < 2 ^ 32 → s < 32 → (a : ℕ) (c0 c1 : List ℕ) → a ≡ slot group k
-    → Emits c0 c1 (Vector (v.ArithmeticVx vxs.Vand a a s true) ∷ []) → TurnsBy c0 c1 group k s (λ d. d ≡ c - 1) (λ x d. word.remainder x c)
+pub masked-as : (group : LaneGroup) (k : ℕ) → k < slots group → (c e s : ℕ) → e < 32 → c ≡ 2 ^ e → c < 2 ^ 32 → s < 32 → (a : ℕ) (c0 c1 : List ℕ) → a ≡ slot group k
+    → Emits c0 c1 (Vector (v.ArithmeticVx vxs.Vand a a s true) ∷ []) → ComputesBy c0 c1 group k s (λ d. d ≡ c - 1) (λ x d. word.remainder x c)
 masked-as group k in-stack c e s few is lc ls a c0 c1 ea z =
     remainder-masked group k in-stack c e few is c0 c1 s ls lc (subst (λ y. Emits c0 c1 (Vector (v.ArithmeticVx vxs.Vand y y s true) ∷ [])) ea z)

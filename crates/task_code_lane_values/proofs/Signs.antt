@@ -47,16 +47,16 @@ xor-ones x l =
     (bit_at_not w32 x i l few))
 
 -- a lane, or its complement where it is negative
-abbrev pub turned : Bool → ℕ → ℕ
-turned t x = if t then x else 2 ^ 32 - 1 - x
+abbrev pub swapped : Bool → ℕ → ℕ
+swapped t x = if t then x else 2 ^ 32 - 1 - x
 
-pub turned-is : (t : Bool) (x : ℕ) → x < 2 ^ 32 → bit_xor x (sign_word t) ≡ turned t x
-turned-is true x l = xor-none x
-turned-is false x l = xor-ones x l
+pub swapped-is : (t : Bool) (x : ℕ) → x < 2 ^ 32 → bit_xor x (sign_word t) ≡ swapped t x
+swapped-is true x l = xor-none x
+swapped-is false x l = xor-ones x l
 
-pub turned-below : (t : Bool) (x : ℕ) → x < 2 ^ 32 → turned t x < 2 ^ 32
-turned-below true x l = l
-turned-below false x l = omega arith
+pub swapped-below : (t : Bool) (x : ℕ) → x < 2 ^ 32 → swapped t x < 2 ^ 32
+swapped-below true x l = l
+swapped-below false x l = omega arith
 
 pub not-zero : (c : ℕ) → 0 < c → (c == 0) ≡ false
 not-zero c l = grind (arith, nat_tests, l)
@@ -76,24 +76,24 @@ pub lacking-below : (t : Bool) (c : ℕ) → c < 2 ^ 32 → lacking t c < 2 ^ 32
 lacking-below true c l = omega arith
 lacking-below false c l = l
 
-pub filled-is : (t : Bool) (x c : ℕ) → x < c → c < 2 ^ 32 → lanes.add 32 (turned t x) (lacking t c) ≡ (if t then x else c - 1 - x)
+pub filled-is : (t : Bool) (x c : ℕ) → x < c → c < 2 ^ 32 → lanes.add 32 (swapped t x) (lacking t c) ≡ (if t then x else c - 1 - x)
 filled-is true x c l lc = omega (arith, l, lc)
 filled-is false x c l lc = omega (arith, l, lc)
 
-by-sign : (t : Bool) (x c : ℕ) → turned t (turned t x / c) ≡ (if t then x / c else 2 ^ 32 - 1 - (2 ^ 32 - 1 - x) / c)
+by-sign : (t : Bool) (x c : ℕ) → swapped t (swapped t x / c) ≡ (if t then x / c else 2 ^ 32 - 1 - (2 ^ 32 - 1 - x) / c)
 by-sign true x c = refl
 by-sign false x c = refl
 
-pub quotient-is : (x c : ℕ) → 0 < c → turned (nat_lt x (2 ^ 31)) (turned (nat_lt x (2 ^ 31)) x / c) ≡ word.divide x c
+pub quotient-is : (x c : ℕ) → 0 < c → swapped (nat_lt x (2 ^ 31)) (swapped (nat_lt x (2 ^ 31)) x / c) ≡ word.divide x c
 unfolding word.divide
 quotient-is x c lc = by-sign (nat_lt x (2 ^ 31)) x c ∙ sym (ap (λ b. if b then 0 else (if nat_lt x (2 ^ 31) then x / c else 2 ^ 32 - 1 -
     (2 ^ 32 - 1 - x) / c)) (not-zero c lc))
 
-by-remainder : (t : Bool) (x c : ℕ) → (if t then turned t x % c else c - 1 - turned t x % c) ≡ (if t then x % c else c - 1 - (2 ^ 32 - 1 - x) % c)
+by-remainder : (t : Bool) (x c : ℕ) → (if t then swapped t x % c else c - 1 - swapped t x % c) ≡ (if t then x % c else c - 1 - (2 ^ 32 - 1 - x) % c)
 by-remainder true x c = refl
 by-remainder false x c = refl
 
-pub remainder-is : (x c : ℕ) → 0 < c → (if nat_lt x (2 ^ 31) then turned (nat_lt x (2 ^ 31)) x % c else c - 1 - turned (nat_lt x
+pub remainder-is : (x c : ℕ) → 0 < c → (if nat_lt x (2 ^ 31) then swapped (nat_lt x (2 ^ 31)) x % c else c - 1 - swapped (nat_lt x
     (2 ^ 31)) x % c) ≡ word.remainder x c
 unfolding word.remainder
 remainder-is x c lc = by-remainder (nat_lt x (2 ^ 31)) x c ∙ sym (ap (λ b. if b then 0 else (if nat_lt x (2 ^ 31) then x % c else c - 1 -

@@ -1,4 +1,4 @@
--- Words that lie one behind the other, or at distances, from a register on.
+-- Words that lie one after the other, or at distances, from a register on.
 use Rattle.std.proofs.Common.{◌≡◌, ℕ, ◌+◌, ◌%◌, ◌^◌, ◌<◌, List, [], ◌∷◌, length, true, ap, ◌∙◌, sym, subst, arith}
 use Rattle.rv_insn.specs.declared.instructions.Insn.TheVariants.{Vector}
 use Rattle.rv_insn.specs.declared.vector_instructions.VectorInsn.TheVariants as v
@@ -8,17 +8,17 @@ use Rattle.rv_insn.specs.declared.vector_operations.ElementWidth.TheVariants.{Bi
 use Rattle.memory.specs.Access.{Word, number_in}
 use Rattle.hart_core.specs.Scalar.{load_size}
 use Rattle.lanes.specs.Words as lanes
-use Rattle.multi_hart_logic.specs.Alone.{World}
-use Rattle.multi_hart_logic.specs.Paths.{vl_number, Readable}
-use Rattle.multi_hart_logic.specs.LaneMemory.{AllReadable, offset_at, OffsetsFit}
-use Rattle.multi_hart_logic.proofs.LaneLoads as memory
-use Rattle.task_code_scalar.specs.declared.places.Pixels.{Pixels}
-use Rattle.task_code_scalar.specs.declared.places.Pixels.TheVariants as pixels
-use Rattle.task_code_scalar.specs.declared.places.Place.{Place}
+use Rattle.multi_hart_laws.specs.Alone.{World}
+use Rattle.multi_hart_laws.specs.Paths.{vl_number, Readable}
+use Rattle.multi_hart_laws.specs.LaneMemory.{AllReadable, offset_at, OffsetsFit}
+use Rattle.multi_hart_laws.proofs.LaneLoads as memory
+use Rattle.task_code_scalar.specs.declared.layouts.Pixels.{Pixels}
+use Rattle.task_code_scalar.specs.declared.layouts.Pixels.TheVariants as pixels
+use Rattle.task_code_scalar.specs.declared.layouts.BufferLayout.{BufferLayout}
 use Rattle.task_code_scalar.specs.Code.{address}
 use Rattle.task_code_scalar.specs.Evaluation.{LoadsAt, load_op}
 use Rattle.task_code_scalar.specs.Words.{Emits}
-use Rattle.task_code_lanes.specs.declared.groups.Group.{Group}
+use Rattle.task_code_lanes.specs.declared.groups.LaneGroup.{LaneGroup}
 use Rattle.task_code_lanes.specs.Groups.{registers, slots, slot}
 use Rattle.task_code_lanes.specs.Leaving.{HasLanes}
 use Rattle.task_code_lanes.proofs.Slots.{SlotLies, slot-lies}
@@ -29,7 +29,7 @@ use Rattle.task_code_lane_values.proofs.Composing.{left-of}
 
 -- ---- words from a register on
 
-module _ (w : World) (m : List ℕ) (l : length m ≡ w.size) (group : Group) (n k : ℕ) (lies : SlotLies group k) (place : Place)
+module _ (w : World) (m : List ℕ) (l : length m ≡ w.size) (group : LaneGroup) (n k : ℕ) (lies : SlotLies group k) (place : BufferLayout)
     (words : place.pixels ≡ pixels.Words) (x y pixel : ℕ → ℕ)
     (can : (i : ℕ) → i < n → LoadsAt w place m (x i) (y i) (pixel i)) where
   abbrev spot : ℕ → ℕ
@@ -68,7 +68,7 @@ module _ (w : World) (m : List ℕ) (l : length m ≡ w.size) (group : Group) (n
 
 -- ---- as the emitters call it
 
-pub words-along : (group : Group) (k b a : ℕ) (c0 c1 : List ℕ) → k < slots group → b < 32 → a ≡ slot group k → Emits c0 c1 (Vector
+pub words-along : (group : LaneGroup) (k b a : ℕ) (c0 c1 : List ℕ) → k < slots group → b < 32 → a ≡ slot group k → Emits c0 c1 (Vector
     (v.LoadElements Bits32 a b addressings.UnitStride true) ∷ [])
     → LoadsAlong c0 c1 group k b pixels.Words
 words-along group k b a c0 c1 in-stack lb ea z = record {
@@ -78,7 +78,7 @@ words-along group k b a c0 c1 in-stack lb ea z = record {
       words-loaded w m l group n k (slot-lies group k in-stack) place words x y pixel can f addressings.UnitStride b has lb tt reach;
 }
 
-pub words-strided : (group : Group) (k b s a : ℕ) (c0 c1 : List ℕ) → k < slots group → b < 32 → s < 32 → a ≡ slot group k → Emits c0 c1 (Vector
+pub words-strided : (group : LaneGroup) (k b s a : ℕ) (c0 c1 : List ℕ) → k < slots group → b < 32 → s < 32 → a ≡ slot group k → Emits c0 c1 (Vector
     (v.LoadElements Bits32 a b (addressings.Strided s) true) ∷ [])
     → LoadsStrided c0 c1 group k b s
 words-strided group k b s a c0 c1 in-stack lb ls ea z = record {
@@ -88,7 +88,7 @@ words-strided group k b s a c0 c1 in-stack lb ls ea z = record {
       words-loaded w m l group n k (slot-lies group k in-stack) place words x y pixel can f (addressings.Strided s) b has lb ls reach;
 }
 
-pub words-from : (group : Group) (k b a : ℕ) (c0 c1 : List ℕ) → k < slots group → b < 32 → a ≡ slot group k → Emits c0 c1 (Vector
+pub words-from : (group : LaneGroup) (k b a : ℕ) (c0 c1 : List ℕ) → k < slots group → b < 32 → a ≡ slot group k → Emits c0 c1 (Vector
     (v.LoadElements Bits32 a b (addressings.Indexed a) true) ∷ [])
     → LoadsFrom c0 c1 group k b pixels.Words
 words-from group k b a c0 c1 in-stack lb ea z = record {
@@ -100,8 +100,8 @@ words-from group k b a c0 c1 in-stack lb ea z = record {
       (λ i lt. ap (λ q. (f b + q) % 2 ^ 32) (holds i lt) ∙ reach i lt);
 }
 
-pub along-as : (group : Group) (k b : ℕ) (c0 c1 : List ℕ) (p q : Pixels) → p ≡ q → LoadsAlong c0 c1 group k b q → LoadsAlong c0 c1 group k b p
+pub along-as : (group : LaneGroup) (k b : ℕ) (c0 c1 : List ℕ) (p q : Pixels) → p ≡ q → LoadsAlong c0 c1 group k b q → LoadsAlong c0 c1 group k b p
 along-as group k b c0 c1 p q e a = subst (LoadsAlong c0 c1 group k b) (sym e) a
 
-pub from-as : (group : Group) (k b : ℕ) (c0 c1 : List ℕ) (p q : Pixels) → p ≡ q → LoadsFrom c0 c1 group k b q → LoadsFrom c0 c1 group k b p
+pub from-as : (group : LaneGroup) (k b : ℕ) (c0 c1 : List ℕ) (p q : Pixels) → p ≡ q → LoadsFrom c0 c1 group k b q → LoadsFrom c0 c1 group k b p
 from-as group k b c0 c1 p q e a = subst (LoadsFrom c0 c1 group k b) (sym e) a

@@ -6,30 +6,30 @@ use Rattle.halide_pipeline.specs.Pixel.{Reads}
 use Rattle.loop_ir.specs.declared.expressions.Expr.{Expr}
 use Rattle.loop_ir.specs.Counters.{Values, with}
 use Rattle.loop_ir.specs.Expressions.{value, loads}
-use Rattle.multi_hart_logic.specs.Alone.{World}
-use Rattle.multi_hart_logic.specs.Paths.{Line, lane, vl_number, vtype_number}
-use Rattle.task_code_scalar.specs.declared.places.Place.{Place}
-use Rattle.task_code_scalar.specs.declared.places.Places.{Places}
+use Rattle.multi_hart_laws.specs.Alone.{World}
+use Rattle.multi_hart_laws.specs.Paths.{Line, lane, vl_number, vtype_number}
+use Rattle.task_code_scalar.specs.declared.layouts.BufferLayout.{BufferLayout}
+use Rattle.task_code_scalar.specs.declared.layouts.Places.{Places}
 use Rattle.task_code_scalar.specs.Code.{pixel_bytes}
 use Rattle.task_code_scalar.specs.Evaluation.{ArePlaces, Loads}
 use Rattle.task_code_scalar.specs.Words.{Emits}
 use Rattle.task_code_registers.specs.declared.scopes.Held.{Held}
 use Rattle.task_code_registers.specs.Registers.{scratch, address_register, first_value}
 use Rattle.task_code_registers.specs.Scopes.{Knows, AreHolders}
-use Rattle.task_code_lanes.specs.declared.groups.Group.{Group}
+use Rattle.task_code_lanes.specs.declared.groups.LaneGroup.{LaneGroup}
 use Rattle.task_code_lanes.specs.Groups.{registers, slot}
 use Rattle.task_code_lanes.specs.Leaving.{HasLanes}
-use Rattle.task_code_lane_values.specs.declared.vectorized.Lanes.{Lanes}
+use Rattle.task_code_lane_values.specs.declared.vectorized.VectorLanes.{VectorLanes}
 
 -- What stays while values are made in group k: scalar registers below those of values, but for the scratch registers and the one where
 -- addresses are made; how many lanes there are; and the groups below.
-abbrev pub IsUnder : Group → ℕ → ℕ → Type 0
+abbrev pub IsUnder : LaneGroup → ℕ → ℕ → Type 0
 IsUnder group k q =
     ((q < first_value) × ((q < scratch) ⊎ (address_register < q)))
     ⊎ (((q ≡ vl_number) ⊎ (q ≡ vtype_number)) ⊎ ((lane (slot group 0) 0 ≤ q) × (q < lane (slot group k) 0)))
 
 -- straight code that leaves these words in group k, one for each of so many iterations, and memory as it was
-pub record LeavesLanes (world : World) (memory : List ℕ) (insns : List Insn) (f : ℕ → ℕ) (group : Group) (k count : ℕ) (v : ℕ → ℕ) : Type 0 where
+pub record LeavesLanes (world : World) (memory : List ℕ) (insns : List Insn) (f : ℕ → ℕ) (group : LaneGroup) (k count : ℕ) (v : ℕ → ℕ) : Type 0 where
   pub after : ℕ → ℕ
   pub line : Line world insns f memory after memory
   pub value : (i : ℕ) → i < count → after (lane (slot group k) i) ≡ v i
@@ -38,7 +38,7 @@ pub record LeavesLanes (world : World) (memory : List ℕ) (insns : List Insn) (
 
 -- Appended code leaves an expression's values in so many iterations as lanes are configured for, from what registers hold in the first of them,
 -- wherever memory holds what each iteration loads.
-pub record MakesLanes (old new : List ℕ) (places : Places) (scope : List Held) (own : Lanes) (k : ℕ) (e : Expr) : Type 0 where
+pub record MakesLanes (old new : List ℕ) (places : Places) (scope : List Held) (own : VectorLanes) (k : ℕ) (e : Expr) : Type 0 where
   pub insns : List Insn
   pub emits : Emits old new insns
   pub does : (world : World) (memory : List ℕ) (values : Values) (reads : Reads) (count : ℕ) (f : ℕ → ℕ) → length memory ≡ world.size → ArePlaces places
@@ -46,12 +46,12 @@ pub record MakesLanes (old new : List ℕ) (places : Places) (scope : List Held)
       → ((i : ℕ) → i < count → AllByRecursion (Loads world places memory reads) (loads reads (with own.counter i values) e))
       → LeavesLanes world memory insns f own.group k count (λ i. value reads (with own.counter i values) e)
 
--- how many bytes behind a buffer's first pixel the point at x and y lies, modulo 2 ^ 32
-abbrev pub distance : Place → ℕ → ℕ → ℕ
+-- how many bytes after a buffer's first pixel the point at x and y lies, modulo 2 ^ 32
+abbrev pub distance : BufferLayout → ℕ → ℕ → ℕ
 distance place x y = ((x + (y * place.width) % 2 ^ 32) % 2 ^ 32 * pixel_bytes place.pixels) % 2 ^ 32
 
 -- Appended code leaves these distances of points at two expressions, as it leaves the values of an expression.
-pub record MakesDistances (old new : List ℕ) (places : Places) (scope : List Held) (own : Lanes) (k : ℕ) (place : Place) (x y : Expr) : Type 0 where
+pub record MakesDistances (old new : List ℕ) (places : Places) (scope : List Held) (own : VectorLanes) (k : ℕ) (place : BufferLayout) (x y : Expr) : Type 0 where
   pub insns : List Insn
   pub emits : Emits old new insns
   pub does : (world : World) (memory : List ℕ) (values : Values) (reads : Reads) (count : ℕ) (f : ℕ → ℕ) → length memory ≡ world.size → ArePlaces places

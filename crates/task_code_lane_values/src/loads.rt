@@ -1,29 +1,29 @@
-//! Loads of lanes from an address in a register on: one behind the other, at a stride that a register holds, or at
+//! Loads of lanes from an address in a register on: one after the other, at a stride that a register holds, or at
 //! distances that the lanes hold.
 
 ghost use Rattle.std.specs.Prelude.{◌*◌, ◌%◌, ◌<◌, ◌^◌, OnOk};
-ghost use Rattle.task_code_scalar.specs.declared.places.Pixels.TheVariants.{Bytes as bytes, Words as words};
+ghost use Rattle.task_code_scalar.specs.declared.layouts.Pixels.TheVariants.{Bytes as bytes, Words as words};
 ghost use Rattle.task_code_scalar.specs.Code.{pixel_bytes};
 ghost use Rattle.task_code_lanes.specs.Groups.{slots};
-ghost use Rattle.task_code_lane_values.specs.inner.Parts.{LoadsAlong, LoadsFrom, LoadsStrided, TurnsOne};
+ghost use Rattle.task_code_lane_values.specs.inner.Parts.{LoadsAlong, LoadsFrom, LoadsStrided, ComputesOne};
 
 use rv_insn::{ArithmeticVvOp, ArithmeticVxOp};
 use std::alloc::AllocError;
-use task_code_lanes::groups::{BYTE_SPARE, Group};
+use task_code_lanes::groups::{BYTE_SPARE, LaneGroup};
 use task_code_lanes::vectors::{
     arithmetic, arithmetic_by, clear_low_bits, load_at, load_byte_row, load_row, load_strided,
     times_eight, times_four,
 };
 use task_code_registers::numbers::emit_number;
 use task_code_registers::registers::{SCRATCH, ZERO};
-use task_code_scalar::places::Pixels;
+use task_code_scalar::layouts::Pixels;
 
 /// All bits of a byte.
 const BYTE_MASK: u32 = 255;
 
-// ---- one behind the other
+// ---- one after the other
 
-fn emit_words_along(code: &mut Vec<u32>, group: Group, k: u8, b: u8) -> Result<(), AllocError>
+fn emit_words_along(code: &mut Vec<u32>, group: LaneGroup, k: u8, b: u8) -> Result<(), AllocError>
     requires { (k < slots group) × (b < 32) }
     ensures { OnOk result (LoadsAlong code.old.items code.new.items group k b words) }
 {
@@ -31,7 +31,7 @@ fn emit_words_along(code: &mut Vec<u32>, group: Group, k: u8, b: u8) -> Result<(
     Ok(())
 }
 
-fn emit_bytes_along(code: &mut Vec<u32>, group: Group, k: u8, b: u8) -> Result<(), AllocError>
+fn emit_bytes_along(code: &mut Vec<u32>, group: LaneGroup, k: u8, b: u8) -> Result<(), AllocError>
     requires { (k < slots group) × (b < 32) }
     ensures { OnOk result (LoadsAlong code.old.items code.new.items group k b bytes) }
 {
@@ -39,10 +39,10 @@ fn emit_bytes_along(code: &mut Vec<u32>, group: Group, k: u8, b: u8) -> Result<(
     Ok(())
 }
 
-/// Appends a load of pixels that lie one behind the other.
+/// Appends a load of pixels that lie one after the other.
 pub(crate) fn emit_along(
     code: &mut Vec<u32>,
-    group: Group,
+    group: LaneGroup,
     pixels: Pixels,
     k: u8,
     b: u8,
@@ -67,7 +67,7 @@ pub(crate) fn emit_along(
 /// Appends a load of words that lie as many bytes apart as a register holds.
 pub(crate) fn emit_strided(
     code: &mut Vec<u32>,
-    group: Group,
+    group: LaneGroup,
     k: u8,
     b: u8,
     s: u8,
@@ -84,12 +84,12 @@ pub(crate) fn emit_strided(
 /// Appends what makes of numbers of pixels how many bytes they take.
 pub(crate) fn emit_offsets(
     code: &mut Vec<u32>,
-    group: Group,
+    group: LaneGroup,
     pixels: Pixels,
     k: u8,
 ) -> Result<(), AllocError>
     requires { k < slots group }
-    ensures { OnOk result (TurnsOne code.old.items code.new.items group k (λ x. (x * pixel_bytes pixels) % 2 ^ 32)) }
+    ensures { OnOk result (ComputesOne code.old.items code.new.items group k (λ x. (x * pixel_bytes pixels) % 2 ^ 32)) }
 {
     match pixels {
         Pixels::Words => {
@@ -100,7 +100,7 @@ pub(crate) fn emit_offsets(
     }
 }
 
-fn emit_words_from(code: &mut Vec<u32>, group: Group, k: u8, b: u8) -> Result<(), AllocError>
+fn emit_words_from(code: &mut Vec<u32>, group: LaneGroup, k: u8, b: u8) -> Result<(), AllocError>
     requires { (k < slots group) × (b < 32) }
     ensures { OnOk result (LoadsFrom code.old.items code.new.items group k b words) }
 {
@@ -108,8 +108,8 @@ fn emit_words_from(code: &mut Vec<u32>, group: Group, k: u8, b: u8) -> Result<()
     Ok(())
 }
 
-/// Appends loads of the words that hold bytes, and what cuts off those before and behind them.
-fn emit_bytes_from(code: &mut Vec<u32>, group: Group, k: u8, b: u8) -> Result<(), AllocError>
+/// Appends loads of the words that hold bytes, and what cuts off those before and after them.
+fn emit_bytes_from(code: &mut Vec<u32>, group: LaneGroup, k: u8, b: u8) -> Result<(), AllocError>
     requires { (k < slots group) × (b < 32) }
     ensures { OnOk result (LoadsFrom code.old.items code.new.items group k b bytes) }
 {
@@ -128,7 +128,7 @@ fn emit_bytes_from(code: &mut Vec<u32>, group: Group, k: u8, b: u8) -> Result<()
 /// Appends a load of pixels at distances.
 pub(crate) fn emit_from(
     code: &mut Vec<u32>,
-    group: Group,
+    group: LaneGroup,
     pixels: Pixels,
     k: u8,
     b: u8,

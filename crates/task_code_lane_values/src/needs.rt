@@ -2,10 +2,10 @@
 //! no group left says so.
 
 use crate::operations::{takes_first, takes_second};
-use crate::vectorized::Lanes;
+use crate::vectorized::VectorLanes;
 use halide_pipeline::Operation;
 use loop_ir::expressions::{Counter, Expr};
-use task_code_lanes::groups::Group;
+use task_code_lanes::groups::LaneGroup;
 use task_code_registers::holding::stride_of;
 
 /// Whether iterations differ in an expression's value, and how many groups its values take.
@@ -21,8 +21,8 @@ fn larger(a: u8, b: u8) -> u8 {
     if a < b { b } else { a }
 }
 
-/// How many groups three values take that are made in this order, each in the group behind that of the one before it.
-fn in_turn(first: u8, second: u8, third: u8) -> u8 {
+/// How many groups three values take that are made in this order, each in the group after that of the one before it.
+fn in_order(first: u8, second: u8, third: u8) -> u8 {
     let others = larger(second.saturating_add(1), third.saturating_add(2));
     larger(first, others)
 }
@@ -30,9 +30,9 @@ fn in_turn(first: u8, second: u8, third: u8) -> u8 {
 /// How many groups two values take, where the one that takes more is made first.
 fn both(one: u8, other: u8) -> u8 {
     if one < other {
-        in_turn(other, one, 0)
+        in_order(other, one, 0)
     } else {
-        in_turn(one, other, 0)
+        in_order(one, other, 0)
     }
 }
 
@@ -46,19 +46,19 @@ pub(crate) enum First {
 
 /// How many groups the parts of a choice take, if so many are left.
 #[derive(Clone, Copy, Debug)]
-struct Parts {
+struct ChoiceGroups {
     condition: u8,
     one: u8,
     other: u8,
 }
 
-impl Parts {
+impl ChoiceGroups {
     /// How many groups they take together, if this one is made first.
     fn with_first(self, first: First) -> u8 {
         match first {
-            First::Condition => in_turn(self.condition, self.one, self.other),
-            First::One => in_turn(self.one, self.condition, self.other),
-            First::Other => in_turn(self.other, self.condition, self.one),
+            First::Condition => in_order(self.condition, self.one, self.other),
+            First::One => in_order(self.one, self.condition, self.other),
+            First::Other => in_order(self.other, self.condition, self.one),
         }
     }
 
@@ -93,7 +93,7 @@ fn need_of_two(op: Operation, a: Taking, b: Taking) -> Taking {
 }
 
 fn need_of_choice(condition: Taking, one: Taking, other: Taking) -> Taking {
-    let parts = Parts {
+    let parts = ChoiceGroups {
         condition: condition.groups,
         one: one.groups,
         other: other.groups,
@@ -109,7 +109,7 @@ fn need_of_pixel(x: Taking, y: Taking) -> Taking {
     Taking {
         moves: x.moves || y.moves,
         groups: if y.moves {
-            in_turn(x.groups, y.groups, 0)
+            in_order(x.groups, y.groups, 0)
         } else {
             x.groups
         },
@@ -150,13 +150,13 @@ pub fn groups_needed(e: &Expr, counter: Counter) -> u8 {
 
 // ---- code
 
-fn groups_from(group: Group, k: u8) -> u8 {
+fn groups_from(group: LaneGroup, k: u8) -> u8 {
     group.slots().saturating_sub(k)
 }
 
-/// Whether the second of two operands is made first: where it takes more groups than there are behind that of the first
+/// Whether the second of two operands is made first: where it takes more groups than there are after that of the first
 /// one, and more than that does.
-pub(crate) fn is_turned(first: &Expr, second: &Expr, own: Lanes, k: u8) -> bool {
+pub(crate) fn is_swapped(first: &Expr, second: &Expr, own: VectorLanes, k: u8) -> bool {
     let last = need(second, own.counter).groups;
     groups_from(own.group, k) <= last && need(first, own.counter).groups < last
 }
@@ -166,10 +166,10 @@ pub(crate) fn first_of_choice(
     condition: &Expr,
     one: &Expr,
     other: &Expr,
-    own: Lanes,
+    own: VectorLanes,
     k: u8,
 ) -> First {
-    let parts = Parts {
+    let parts = ChoiceGroups {
         condition: need(condition, own.counter).groups,
         one: need(one, own.counter).groups,
         other: need(other, own.counter).groups,

@@ -9,7 +9,8 @@ ghost use Rattle.task_code_scalar.specs.Words.{Emits};
 ghost use Rattle.task_code_lanes.specs.Groups.{slots};
 ghost use Rattle.task_code_lanes.specs.Lanes.{compared, flagged};
 ghost use Rattle.task_code_lane_values.specs.inner.Parts.{AnyWord, Chooses, IsBy, IsComparedBy};
-ghost use Rattle.task_code_lane_values.specs.inner.Parts.{IsTurnedBy, TurnsBy, TurnsOne, TurnsTwo, operation_rows};
+ghost use Rattle.task_code_lane_values.specs.inner.Parts.{IsComputedBy, ComputesBy, ComputesOne, ComputesTwo};
+ghost use Rattle.task_code_lane_values.specs.inner.Parts.{operation_rows};
 
 use halide_pipeline::Operation;
 use rv_insn::{
@@ -17,7 +18,7 @@ use rv_insn::{
     ShiftViOp, VReg, VectorInsn,
 };
 use std::alloc::AllocError;
-use task_code_lanes::groups::Group;
+use task_code_lanes::groups::LaneGroup;
 use task_code_lanes::vectors::{
     arithmetic, arithmetic_by, clear, comparison, merge, merge_one, multiplication,
     multiplication_by, signs, test_nonzero,
@@ -76,12 +77,12 @@ fn emit_operation(code: &mut Vec<u32>, op: Operation, d: u8, a: u8, b: u8) -> Re
 /// Appends what an operation makes of the lanes of a group and those of the next one.
 pub(crate) fn emit_two(
     code: &mut Vec<u32>,
-    group: Group,
+    group: LaneGroup,
     op: Operation,
     k: u8,
 ) -> Result<(), AllocError>
     requires { k + 1 < slots group }
-    ensures { OnOk result (TurnsTwo code.old.items code.new.items group k (word.applied op)) }
+    ensures { OnOk result (ComputesTwo code.old.items code.new.items group k (word.applied op)) }
 {
     let r = group.slot(k);
     emit_operation(code, op, r, r, group.slot(k + 1))?;
@@ -89,14 +90,14 @@ pub(crate) fn emit_two(
 }
 
 /// The same, where the lanes of the next group are the first operands.
-pub(crate) fn emit_two_turned(
+pub(crate) fn emit_two_swapped(
     code: &mut Vec<u32>,
-    group: Group,
+    group: LaneGroup,
     op: Operation,
     k: u8,
 ) -> Result<(), AllocError>
     requires { k + 1 < slots group }
-    ensures { OnOk result (TurnsTwo code.old.items code.new.items group k (λ x y. word.applied op y x)) }
+    ensures { OnOk result (ComputesTwo code.old.items code.new.items group k (λ x y. word.applied op y x)) }
 {
     let r = group.slot(k);
     emit_operation(code, op, r, group.slot(k + 1), r)?;
@@ -119,8 +120,8 @@ fn instruction_by(op: Operation) -> Option<ArithmeticVxOp>
 }
 
 /// Or as the first one.
-fn instruction_turned(op: Operation) -> Option<ArithmeticVxOp>
-    ensures { IfSome result (IsTurnedBy op) }
+fn instruction_swapped(op: Operation) -> Option<ArithmeticVxOp>
+    ensures { IfSome result (IsComputedBy op) }
 {
     match op {
         Operation::Add => Some(ArithmeticVxOp::Vadd),
@@ -164,13 +165,13 @@ fn comparison_by(code: &mut Vec<u32>, op: CompareVxOp, a: u8, s: u8) -> Result<(
 /// Appends what such a comparison makes of lanes.
 fn emit_compared_by(
     code: &mut Vec<u32>,
-    group: Group,
+    group: LaneGroup,
     op: Operation,
     k: u8,
     s: u8,
 ) -> Result<(), CodeFault>
     requires { (k < slots group) × (s < 32) }
-    ensures { OnOk result (TurnsBy code.old.items code.new.items group k s AnyWord (word.applied op)) }
+    ensures { OnOk result (ComputesBy code.old.items code.new.items group k s AnyWord (word.applied op)) }
 {
     let r = group.slot(k);
     match comparison_with(op) {
@@ -195,20 +196,20 @@ pub(crate) fn takes_second(op: Operation) -> bool {
 pub(crate) fn takes_first(op: Operation) -> bool {
     match op {
         Operation::Multiply => true,
-        _ => instruction_turned(op).is_some(),
+        _ => instruction_swapped(op).is_some(),
     }
 }
 
 /// Appends what an operation makes of lanes and a register.
 pub(crate) fn emit_by(
     code: &mut Vec<u32>,
-    group: Group,
+    group: LaneGroup,
     op: Operation,
     k: u8,
     s: u8,
 ) -> Result<(), CodeFault>
     requires { (k < slots group) × (s < 32) }
-    ensures { OnOk result (TurnsBy code.old.items code.new.items group k s AnyWord (word.applied op)) }
+    ensures { OnOk result (ComputesBy code.old.items code.new.items group k s AnyWord (word.applied op)) }
 {
     let r = group.slot(k);
     match op {
@@ -227,15 +228,15 @@ pub(crate) fn emit_by(
 }
 
 /// Appends what an operation makes of a register and lanes.
-pub(crate) fn emit_turned(
+pub(crate) fn emit_swapped(
     code: &mut Vec<u32>,
-    group: Group,
+    group: LaneGroup,
     op: Operation,
     k: u8,
     s: u8,
 ) -> Result<(), CodeFault>
     requires { (k < slots group) × (s < 32) }
-    ensures { OnOk result (TurnsBy code.old.items code.new.items group k s AnyWord (λ x c. word.applied op c x)) }
+    ensures { OnOk result (ComputesBy code.old.items code.new.items group k s AnyWord (λ x c. word.applied op c x)) }
 {
     let r = group.slot(k);
     match op {
@@ -243,7 +244,7 @@ pub(crate) fn emit_turned(
             multiplication_by(code, MultiplyOp::Vmul, r, r, s)?;
             Ok(())
         }
-        _ => match instruction_turned(op) {
+        _ => match instruction_swapped(op) {
             None => Err(CodeFault::TooDeep),
             Some(own) => {
                 arithmetic_by(code, own, r, r, s)?;
@@ -259,13 +260,13 @@ pub(crate) fn emit_turned(
 /// complement is divided, and the quotient's complement taken.
 pub(crate) fn emit_quotient(
     code: &mut Vec<u32>,
-    group: Group,
+    group: LaneGroup,
     divisor: u32,
     k: u8,
     s: u8,
 ) -> Result<(), AllocError>
     requires { (k < slots group) × ((s < 32) × (0 < divisor)) }
-    ensures { OnOk result (TurnsBy code.old.items code.new.items group k s (λ c. c ≡ divisor)
+    ensures { OnOk result (ComputesBy code.old.items code.new.items group k s (λ c. c ≡ divisor)
         (λ x c. word.divide x divisor)) }
 {
     let r = group.slot(k);
@@ -299,13 +300,13 @@ fn shift_lanes_right(code: &mut Vec<u32>, r: u8, bits: u8) -> Result<(), AllocEr
 /// Appends what leaves quotients by a power of two, rounded to minus infinity.
 pub(crate) fn emit_shifted(
     code: &mut Vec<u32>,
-    group: Group,
+    group: LaneGroup,
     divisor: u32,
     bits: u8,
     k: u8,
 ) -> Result<(), AllocError>
     requires { (k < slots group) × ((bits < 32) × (divisor ≡ 2 ^ bits)) }
-    ensures { OnOk result (TurnsOne code.old.items code.new.items group k (λ x. word.divide x divisor)) }
+    ensures { OnOk result (ComputesOne code.old.items code.new.items group k (λ x. word.divide x divisor)) }
 {
     shift_lanes_right(code, group.slot(k), bits)?;
     Ok(())
@@ -316,14 +317,14 @@ pub(crate) fn emit_shifted(
 /// Appends what leaves remainders by a power of two, whose predecessor a register holds.
 pub(crate) fn emit_masked(
     code: &mut Vec<u32>,
-    group: Group,
+    group: LaneGroup,
     divisor: u32,
     bits: u8,
     k: u8,
     s: u8,
 ) -> Result<(), AllocError>
     requires { (k < slots group) × ((s < 32) × ((bits < 32) × (divisor ≡ 2 ^ bits))) }
-    ensures { OnOk result (TurnsBy code.old.items code.new.items group k s (λ c. c ≡ divisor - 1)
+    ensures { OnOk result (ComputesBy code.old.items code.new.items group k s (λ c. c ≡ divisor - 1)
         (λ x c. word.remainder x divisor)) }
 {
     let r = group.slot(k);
@@ -335,13 +336,13 @@ pub(crate) fn emit_masked(
 /// complement the remainder is taken away from the divisor less 1.
 pub(crate) fn emit_remainder(
     code: &mut Vec<u32>,
-    group: Group,
+    group: LaneGroup,
     divisor: u32,
     k: u8,
     s: u8,
 ) -> Result<(), AllocError>
     requires { (k < slots group) × ((s < 32) × (0 < divisor)) }
-    ensures { OnOk result (TurnsBy code.old.items code.new.items group k s (λ c. c ≡ divisor)
+    ensures { OnOk result (ComputesBy code.old.items code.new.items group k s (λ c. c ≡ divisor)
         (λ x c. word.remainder x divisor)) }
 {
     let r = group.slot(k);
@@ -361,7 +362,7 @@ pub(crate) fn emit_remainder(
 /// group b.
 pub(crate) fn emit_choice(
     code: &mut Vec<u32>,
-    group: Group,
+    group: LaneGroup,
     k: u8,
     c: u8,
     a: u8,

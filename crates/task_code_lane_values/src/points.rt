@@ -6,7 +6,7 @@ ghost use Rattle.loop_ir.specs.declared.expressions.Expr.TheVariants.{Load as lo
 ghost use Rattle.task_code_registers.specs.Strides.{strides};
 ghost use Rattle.task_code_values.specs.Operands.{IsSum};
 ghost use Rattle.task_code_lanes.specs.Groups.{slots};
-ghost use Rattle.task_code_scalar.specs.declared.places.Places.{Places as AllPlaces};
+ghost use Rattle.task_code_scalar.specs.declared.layouts.Places.{Places as AllPlaces};
 ghost use Rattle.task_code_lane_values.specs.Leaving.{MakesDistances, MakesLanes};
 ghost use Rattle.task_code_lane_values.specs.inner.Parts.{IsSteady, MakesPoint, MakesRowPointer};
 
@@ -14,7 +14,7 @@ use crate::loads::{emit_along, emit_from, emit_offsets, emit_strided};
 use crate::operations::{emit_by, emit_two};
 use crate::scalars::{emit_form_operand, emit_literal, emit_steady};
 use crate::sums::emit_steps;
-use crate::vectorized::{LaneSite, Lanes};
+use crate::vectorized::{LaneSite, VectorLanes};
 use halide_pipeline::{Operation, Source, words};
 use loop_ir::expressions::{Counter, Expr, Linear};
 use rv_insn::AluOp;
@@ -26,7 +26,7 @@ use task_code_registers::registers::{ADDRESS, FIRST_VALUE};
 use task_code_registers::scopes::Held;
 use task_code_scalar::CodeFault;
 use task_code_scalar::instructions::alu;
-use task_code_scalar::places::{Pixels, Place, place_of};
+use task_code_scalar::layouts::{BufferLayout, Pixels, place_of};
 use task_code_values::accesses::bytes_of;
 use task_code_values::expressions::sum_of;
 
@@ -34,40 +34,40 @@ use task_code_values::expressions::sum_of;
 
 /// The column and the row of a point, where both are sums.
 #[derive(Debug)]
-pub(crate) struct Sums {
+pub(crate) struct PointSums {
     pub x: Linear,
     pub y: Linear,
 }
 
 /// Written out, so that a check sees a call wherever one is dropped, and not the drops of its parts.
-impl Drop for Sums {
+impl Drop for PointSums {
     fn drop(self) {
-        let Sums { x, y } = self;
+        let PointSums { x, y } = self;
         drop(x);
         drop(y);
     }
 }
 
 /// Both of a point's indexes as sums, where they are.
-pub(crate) fn both_sums(alloc: Global, x: &Expr, y: &Expr) -> Result<Option<Sums>, AllocError>
+pub(crate) fn both_sums(alloc: Global, x: &Expr, y: &Expr) -> Result<Option<PointSums>, AllocError>
     ensures { IfOk result (λ found. IfSome found (λ sums. IsSum x.now sums.x × IsSum y.now sums.y)) }
 {
     match sum_of(alloc, x)? {
         None => Ok(None),
         Some(column) => match sum_of(alloc, y)? {
             None => Ok(None),
-            Some(row) => Ok(Some(Sums { x: column, y: row })),
+            Some(row) => Ok(Some(PointSums { x: column, y: row })),
         },
     }
 }
 
-/// Appends a load of the pixels at two sums: they lie one behind the other, or at another stride.
+/// Appends a load of the pixels at two sums: they lie one after the other, or at another stride.
 pub(crate) fn emit_point(
     alloc: Global,
     code: &mut Vec<u32>,
     site: &LaneSite<'_>,
     source: Source,
-    sums: &Sums,
+    sums: &PointSums,
     k: u8,
 ) -> Result<(), CodeFault>
     requires { k < slots site.now.lanes.group }
@@ -103,7 +103,7 @@ pub(crate) fn emit_point(
 
 /// A row of a buffer that all iterations have.
 #[derive(Clone, Copy)]
-pub(crate) struct Row<'a> {
+pub(crate) struct BufferRow<'a> {
     pub source: Source,
     pub y: &'a Expr,
 }
@@ -113,7 +113,7 @@ fn emit_row_pointer(
     alloc: Global,
     code: &mut Vec<u32>,
     site: &LaneSite<'_>,
-    place: &Place,
+    place: &BufferLayout,
     x: &Linear,
     y: &Expr,
 ) -> Result<u8, CodeFault>
@@ -166,7 +166,7 @@ pub(crate) fn emit_row(
     alloc: Global,
     code: &mut Vec<u32>,
     site: &LaneSite<'_>,
-    row: &Row<'_>,
+    row: &BufferRow<'_>,
     column: &Linear,
     k: u8,
 ) -> Result<(), CodeFault>
@@ -188,7 +188,7 @@ pub(crate) fn emit_gather(
     alloc: Global,
     code: &mut Vec<u32>,
     site: &LaneSite<'_>,
-    row: &Row<'_>,
+    row: &BufferRow<'_>,
     k: u8,
 ) -> Result<(), CodeFault>
     requires slot { k < slots site.now.lanes.group }
@@ -208,14 +208,14 @@ pub(crate) fn emit_gather(
 
 // ---- points that lie anywhere
 
-/// Appends what makes of columns in the lanes of a group and rows in those of the next one how many bytes behind a
+/// Appends what makes of columns in the lanes of a group and rows in those of the next one how many bytes after a
 /// buffer's first pixel they lie.
 pub(crate) fn emit_distances(
     alloc: Global,
     code: &mut Vec<u32>,
     scope: &[Held],
-    own: Lanes,
-    place: &Place,
+    own: VectorLanes,
+    place: &BufferLayout,
     k: u8,
 ) -> Result<(), CodeFault>
     requires { k + 1 < slots own.group }

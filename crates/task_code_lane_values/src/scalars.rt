@@ -7,12 +7,12 @@ ghost use Rattle.task_code_registers.specs.Scopes.{form_value};
 ghost use Rattle.task_code_values.specs.Making.{MakesHeld};
 ghost use Rattle.task_code_lane_values.specs.inner.Parts.{IsSteady, MakesScalar, MakesSteady, Nothing};
 
-use crate::vectorized::{LaneSite, Lanes};
+use crate::vectorized::{LaneSite, VectorLanes};
 use loop_ir::expressions::{Counter, Expr};
 use std::alloc::{AllocError, Global};
 use task_code_registers::holding::stride_of;
 use task_code_registers::registers::{ADDRESS, FIRST_VALUE};
-use task_code_registers::scopes::{Form, Held};
+use task_code_registers::scopes::{AffineForm, Held};
 use task_code_registers::sums::find;
 use task_code_scalar::CodeFault;
 use task_code_values::expressions::emit_operand;
@@ -114,7 +114,7 @@ pub(crate) fn emit_literal(
     alloc: Global,
     code: &mut Vec<u32>,
     scope: &[Held],
-    own: Lanes,
+    own: VectorLanes,
     number: u32,
 ) -> Result<u8, AllocError>
     ensures { IfOk result (λ s. MakesScalar code.old.items code.new.items
@@ -129,7 +129,7 @@ pub(crate) fn emit_form_operand(
     alloc: Global,
     code: &mut Vec<u32>,
     scope: &[Held],
-    form: &Form,
+    form: &AffineForm,
 ) -> Result<u8, CodeFault>
     ensures { IfOk result (λ s. MakesHeld code.old.items code.new.items (sum_words form.now.per_hart form.now.sum.terms)
         scope.now address_register s (λ hart values. form_value hart values form.now)) }

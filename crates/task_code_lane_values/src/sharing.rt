@@ -14,7 +14,7 @@ use halide_pipeline::Operation;
 use loop_ir::expressions::Expr;
 use rv_insn::ArithmeticVvOp;
 use std::alloc::Global;
-use task_code_lanes::groups::Group;
+use task_code_lanes::groups::LaneGroup;
 use task_code_lanes::vectors::arithmetic;
 use task_code_scalar::CodeFault;
 use task_code_values::updates::same_index;
@@ -104,7 +104,7 @@ fn groups_of(e: &Expr) -> u8 {
     }
 }
 
-/// As many as the first value takes, or as the second one does behind some others.
+/// As many as the first value takes, or as the second one does after some others.
 fn behind(first: u8, second: u8, others: u8) -> u8 {
     let second = second.saturating_add(others);
     if first < second { second } else { first }
@@ -144,8 +144,8 @@ fn slot_of(own: &Sharing, e: &Expr) -> Option<u8>
     None
 }
 
-/// The group behind that of an operand, where that isn't the first free one itself.
-fn free_behind(group: Group, s: u8, k: u8) -> Result<u8, CodeFault>
+/// The group after that of an operand, where that isn't the first free one itself.
+fn free_behind(group: LaneGroup, s: u8, k: u8) -> Result<u8, CodeFault>
     requires { (s ≤ k) × (k < slots group) }
     ensures { IfOk result (λ next. (s < next) × (k ≤ next) × (next < slots group)) }
 {

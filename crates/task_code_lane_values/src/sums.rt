@@ -4,20 +4,20 @@ ghost use Rattle.std.specs.Prelude.{◌<◌, OnOk};
 ghost use Rattle.halide_pipeline.specs.declared.expressions.Operation.TheVariants.{Multiply as product};
 ghost use Rattle.halide_pipeline.specs.Words as word;
 ghost use Rattle.loop_ir.specs.declared.expressions.Expr.TheVariants as expressions;
-ghost use Rattle.task_code_scalar.specs.declared.places.Places.{Places as AllPlaces};
+ghost use Rattle.task_code_scalar.specs.declared.layouts.Places.{Places as AllPlaces};
 ghost use Rattle.task_code_lanes.specs.Groups.{slots};
 ghost use Rattle.task_code_lane_values.specs.Leaving.{MakesLanes};
 ghost use Rattle.task_code_lane_values.specs.inner.Parts.{MakesEach, NothingEach};
 
 use crate::operations::emit_by;
 use crate::scalars::{emit_form_operand, emit_literal};
-use crate::vectorized::Lanes;
+use crate::vectorized::VectorLanes;
 use halide_pipeline::Operation;
 use loop_ir::expressions::Linear;
 use std::alloc::Global;
 use task_code_lanes::vectors::lane_numbers;
 use task_code_registers::holding::{at_value, stride_of};
-use task_code_registers::scopes::{Form, Held};
+use task_code_registers::scopes::{AffineForm, Held};
 use task_code_scalar::CodeFault;
 
 /// Appends what leaves each iteration's number times a stride.
@@ -25,7 +25,7 @@ pub(crate) fn emit_steps(
     alloc: Global,
     code: &mut Vec<u32>,
     scope: &[Held],
-    own: Lanes,
+    own: VectorLanes,
     stride: u32,
     k: u8,
 ) -> Result<(), CodeFault>
@@ -47,7 +47,7 @@ pub(crate) fn emit_sum(
     alloc: Global,
     code: &mut Vec<u32>,
     scope: &[Held],
-    own: Lanes,
+    own: VectorLanes,
     sum: &Linear,
     k: u8,
 ) -> Result<(), CodeFault>
@@ -58,7 +58,7 @@ pub(crate) fn emit_sum(
     let stride = stride_of(sum.terms.as_slice(), own.counter);
     emit_steps(alloc, code, scope, own, stride, k)?;
     let copied = sum.copy(alloc)?;
-    let form = Form {
+    let form = AffineForm {
         sum: copied,
         per_hart: 0,
     };

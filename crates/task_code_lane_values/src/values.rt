@@ -4,24 +4,25 @@ ghost use Rattle.std.specs.Prelude.{◌<◌, ◌≡◌, ◌+◌, IfOk, OnOk};
 ghost use Rattle.task_code_lanes.specs.Groups.{slots};
 ghost use Rattle.task_code_lane_values.specs.Leaving.{MakesDistances, MakesLanes};
 
-use crate::needs::{First, first_of_choice, is_turned};
+use crate::needs::{First, first_of_choice, is_swapped};
 use crate::operations::{
-    emit_by, emit_choice, emit_masked, emit_quotient, emit_remainder, emit_shifted, emit_turned,
-    emit_two, emit_two_turned, takes_first, takes_second,
+    emit_by, emit_choice, emit_masked, emit_quotient, emit_remainder, emit_shifted, emit_swapped,
+    emit_two, emit_two_swapped, takes_first, takes_second,
 };
 use crate::points::{
-    Row, both_sums, dense_column, emit_distances, emit_gather, emit_point, emit_row, emit_scattered,
+    BufferRow, both_sums, dense_column, emit_distances, emit_gather, emit_point, emit_row,
+    emit_scattered,
 };
 use crate::scalars::{emit_literal, emit_steady, first_moving, known_steady};
 use crate::sums::emit_sum;
 use crate::vectorized::LaneSite;
 use loop_ir::expressions::Expr;
 use std::alloc::Global;
-use task_code_lanes::groups::Group;
+use task_code_lanes::groups::LaneGroup;
 use task_code_lanes::vectors::spread;
 use task_code_registers::numbers::power_of_two;
 use task_code_scalar::CodeFault;
-use task_code_scalar::places::Place;
+use task_code_scalar::layouts::BufferLayout;
 
 /// A group of the stack for an expression's values, and of how many, the expression itself, its first operand and so
 /// on, it is known that iterations differ: they are not asked again.
@@ -32,7 +33,7 @@ struct Spot {
 }
 
 /// The next group, for an expression of which nothing is known, if there is one.
-fn above(group: Group, k: u8) -> Result<Spot, CodeFault>
+fn above(group: LaneGroup, k: u8) -> Result<Spot, CodeFault>
     requires { k < slots group }
     ensures { IfOk result (λ next. (next.k ≡ k + 1) × (k + 1 < slots group)) }
 {
@@ -77,7 +78,7 @@ fn emit_results(
         let beside = Spot { k, moving };
         emit_at(alloc, code, site, second, beside)?;
         let s = emit_steady(alloc, code, site, first)?;
-        emit_turned(code, site.lanes.group, *operation, k, s)?;
+        emit_swapped(code, site.lanes.group, *operation, k, s)?;
         return Ok(());
     }
     emit_both(alloc, code, site, e, spot)?;
@@ -104,14 +105,14 @@ fn emit_both(
     let first = a.get();
     let second = b.get();
     let next = above(site.lanes.group, k)?;
-    if is_turned(first, second, site.lanes, k) {
+    if is_swapped(first, second, site.lanes, k) {
         let beside = Spot {
             k: next.k,
             moving: spot.moving,
         };
         emit_at(alloc, code, site, second, Spot { k, moving: 0 })?;
         emit_at(alloc, code, site, first, beside)?;
-        emit_two_turned(code, site.lanes.group, *operation, k)?;
+        emit_two_swapped(code, site.lanes.group, *operation, k)?;
         return Ok(());
     }
     emit_at(alloc, code, site, first, spot)?;
@@ -314,7 +315,7 @@ fn emit_pixels(
         return Ok(());
     }
     if known_steady(y.get(), site.lanes.counter, 0) {
-        let row = Row {
+        let row = BufferRow {
             source: at,
             y: y.get(),
         };
@@ -407,12 +408,12 @@ pub fn emit_lanes(
 #[derive(Clone, Copy)]
 pub struct BufferPoint<'a> {
     /// Where the buffer lies.
-    pub place: &'a Place,
+    pub place: &'a BufferLayout,
     pub x: &'a Expr,
     pub y: &'a Expr,
 }
 
-/// Appends what leaves in group k of the stack how many bytes behind a buffer's first pixel each iteration's point
+/// Appends what leaves in group k of the stack how many bytes after a buffer's first pixel each iteration's point
 /// lies, with the groups above it free.
 ///
 /// # Errors

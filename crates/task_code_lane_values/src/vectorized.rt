@@ -1,15 +1,15 @@
 //! Which loop has lanes, and what stands around its code.
 
 use loop_ir::expressions::Counter;
-use task_code_lanes::groups::Group;
+use task_code_lanes::groups::LaneGroup;
 use task_code_registers::scopes::Held;
-use task_code_scalar::places::Places;
+use task_code_scalar::layouts::Places;
 
 /// A vectorized loop's variable, and the groups of vector registers that have a lane for each of its iterations.
 #[derive(Clone, Copy, Debug)]
-pub struct Lanes {
+pub struct VectorLanes {
     pub counter: Counter,
-    pub group: Group,
+    pub group: LaneGroup,
 }
 
 /// What stands around code over lanes: where all buffers lie, which registers hold which forms in the first iteration,
@@ -18,5 +18,5 @@ pub struct Lanes {
 pub struct LaneSite<'a> {
     pub places: &'a Places,
     pub scope: &'a [Held],
-    pub lanes: Lanes,
+    pub lanes: VectorLanes,
 }

@@ -1,12 +1,12 @@
--- Lanes of pixels that are bytes and lie one behind the other.
+-- Lanes of pixels that are bytes and lie one after the other.
 use Rattle.std.proofs.Common.{◌≡◌, ℕ, ◌+◌, ◌*◌, ◌%◌, ◌^◌, ◌<◌, List, length, Bool, true, false, arith}
 use Rattle.std.specs.Prelude.{◌-◌, ◌/◌, if◌then◌else◌, nat_lt, slice_index}
 use Rattle.memory.specs.Access.{text_start, data_start, byte_at, AreBytes}
-use Rattle.multi_hart_logic.specs.Alone.{World}
-use Rattle.task_code_scalar.specs.declared.places.Pixels.TheVariants as pixels
-use Rattle.task_code_scalar.specs.declared.places.Place.{Place}
+use Rattle.multi_hart_laws.specs.Alone.{World}
+use Rattle.task_code_scalar.specs.declared.layouts.Pixels.TheVariants as pixels
+use Rattle.task_code_scalar.specs.declared.layouts.BufferLayout.{BufferLayout}
 use Rattle.task_code_scalar.specs.Evaluation.{LoadsAt}
-use Rattle.task_code_lanes.specs.declared.groups.Group.{Group}
+use Rattle.task_code_lanes.specs.declared.groups.LaneGroup.{LaneGroup}
 use Rattle.task_code_lanes.proofs.Slots.{SlotLies}
 
 one-byte : (t : Bool) (p q : ℕ) → p < 256 → q < 256 → (if t then p else q) < 256
@@ -22,7 +22,7 @@ byte-small text m a are =
     one-byte (nat_lt a data_start) (slice_index text ((a - text_start) / 4) / 256 ^ ((a - text_start) % 4) % 256) (slice_index m (a - data_start))
     (rest-small _) (are (a - data_start))
 
-module _ (w : World) (m : List ℕ) (l : length m ≡ w.size) (group : Group) (n : ℕ) (k : ℕ) (lies : SlotLies group k) where
-  module _ (place : Place) (bytes : place.pixels ≡ pixels.Bytes) (x y pixel : ℕ → ℕ) (can : (i : ℕ) → i < n → LoadsAt w place m (x i) (y i) (pixel i)) where
+module _ (w : World) (m : List ℕ) (l : length m ≡ w.size) (group : LaneGroup) (n : ℕ) (k : ℕ) (lies : SlotLies group k) where
+  module _ (place : BufferLayout) (bytes : place.pixels ≡ pixels.Bytes) (x y pixel : ℕ → ℕ) (can : (i : ℕ) → i < n → LoadsAt w place m (x i) (y i) (pixel i)) where
     abbrev a : ℕ → ℕ
     a i = place.start + place.distance * w.hart + 1 * (y i * place.width + x i)

@@ -9,17 +9,17 @@ use Rattle.rv_insn.specs.declared.vector_operations.MultiplyOp.TheVariants as mu
 use Rattle.hart_core.specs.Scalar.{one_if}
 use Rattle.lanes.specs.Words as lanes
 use Rattle.vector_unit.specs.Operations.{arithmetic_vv, compare_vv}
-use Rattle.multi_hart_logic.specs.Alone.{World}
-use Rattle.multi_hart_logic.specs.Paths.{lane, bit, IsGroup}
-use Rattle.multi_hart_logic.proofs.VectorRows as rows
-use Rattle.multi_hart_logic.proofs.MaskRows as masks
-use Rattle.task_code_lanes.specs.declared.groups.Group.{Group}
+use Rattle.multi_hart_laws.specs.Alone.{World}
+use Rattle.multi_hart_laws.specs.Paths.{lane, bit, IsGroup}
+use Rattle.multi_hart_laws.proofs.VectorRows as rows
+use Rattle.multi_hart_laws.proofs.MaskRows as masks
+use Rattle.task_code_lanes.specs.declared.groups.LaneGroup.{LaneGroup}
 use Rattle.task_code_lanes.specs.Groups.{registers, slot}
 use Rattle.task_code_lanes.specs.Lanes.{flagged, compared}
 use Rattle.task_code_lanes.proofs.Slots.{SlotLies}
-use Rattle.task_code_lanes.proofs.Rows.{Writes, Lanes, Leaves, writes, writes-lanes, few-rounds, last, slot-first}
+use Rattle.task_code_lanes.proofs.Rows.{Writes, Lanes, Leaves, writes, writes-lanes, few-lanes, last, slot-first}
 
--- a mask bit stands where a lane of a register behind v31 would
+-- a mask bit stands where a lane of a register after v31 would
 pub bit-is : (i : ℕ) → bit i ≡ lane 32 i
 bit-is i = omega arith
 
@@ -27,7 +27,7 @@ flag-is : (t : Bool) → (if one_if t == 0 then 0 else 1) ≡ one_if t
 flag-is true = refl
 flag-is false = refl
 
-module _ (w : World) (m : List ℕ) (l : length m ≡ w.size) (group : Group) (n : ℕ) where
+module _ (w : World) (m : List ℕ) (l : length m ≡ w.size) (group : LaneGroup) (n : ℕ) where
   abbrev g : ℕ
   g = registers group
 
@@ -68,7 +68,7 @@ module _ (w : World) (m : List ℕ) (l : length m ≡ w.size) (group : Group) (n
     pub flagged-leaves : (f : ℕ → ℕ) (t : ℕ → Bool) → Lanes w m l group n f → ((i : ℕ) → i < n → f (bit i) ≡ one_if (t i))
         → Leaves w m l group n (flagged r) f k (λ i. one_if (t i))
     flagged-leaves f t has bits =
-        let few = few-rounds w m l group n f has in
+        let few = few-lanes w m l group n f has in
         let high = lies.high in
         let i1 : Writes w m l group n (Vector (v.MoveVi r (pos 0)) ∷ []) f r (λ i. 0) = writes w m l group n (λ i. 0) (λ i. lanes.wrapped 32 (pos 0)) has
         (rows.move-vi w f m l g has.configured r (pos 0) lies.is_group) (λ i b. refl) in

@@ -1,20 +1,20 @@
--- Single instructions over lanes, and code that goes on behind them.
+-- Single instructions over lanes, and code that goes on after them.
 use Rattle.std.proofs.Common.{◌≡◌, ℕ, ◌+◌, ◌*◌, ◌<◌, ◌≤◌, List, ◌++◌, length, ap, ◌∙◌, refl, arith, inl, inr}
 use Rattle.std.specs.Prelude.{◌⊎◌}
 use Rattle.rv_insn.specs.declared.instructions.Insn.{Insn}
-use Rattle.multi_hart_logic.specs.Alone.{World}
-use Rattle.multi_hart_logic.specs.Paths.{Line, lane, bit, vl_number, vtype_number, write_lanes}
-use Rattle.multi_hart_logic.specs.FirstGroup.{held, write_group}
-use Rattle.multi_hart_logic.proofs.Paths.{line-then}
-use Rattle.multi_hart_logic.proofs.LaneRows.{lanes-new, lanes-below, lanes-above}
-use Rattle.multi_hart_logic.proofs.FirstGroup.{held-above, held-same, written-above}
+use Rattle.multi_hart_laws.specs.Alone.{World}
+use Rattle.multi_hart_laws.specs.Paths.{Line, lane, bit, vl_number, vtype_number, write_lanes}
+use Rattle.multi_hart_laws.specs.FirstGroup.{held, write_group}
+use Rattle.multi_hart_laws.proofs.Paths.{line-then}
+use Rattle.multi_hart_laws.proofs.LaneRows.{lanes-new, lanes-below, lanes-above}
+use Rattle.multi_hart_laws.proofs.FirstGroup.{held-above, held-same, written-above}
 use Rattle.vector_unit.specs.Vector.{is_supported, width_of, group_of, most_elements}
-use Rattle.task_code_lanes.specs.declared.groups.Group.{Group}
+use Rattle.task_code_lanes.specs.declared.groups.LaneGroup.{LaneGroup}
 use Rattle.task_code_lanes.specs.Groups.{registers, slot, spare}
 use Rattle.task_code_lanes.specs.Leaving.{HasLanes, IsKept, LeavesLanes}
 use Rattle.task_code_lanes.proofs.Slots.{SlotLies, spare-next}
 
-module _ (w : World) (m : List ℕ) (l : length m ≡ w.size) (group : Group) (n : ℕ) where
+module _ (w : World) (m : List ℕ) (l : length m ≡ w.size) (group : LaneGroup) (n : ℕ) where
   abbrev g : ℕ
   g = registers group
 
@@ -58,8 +58,8 @@ module _ (w : World) (m : List ℕ) (l : length m ≡ w.size) (group : Group) (n
         count = el ∙ has.count;
       }
 
-  pub few-rounds : (f : ℕ → ℕ) → Lanes f → n ≤ 4 * g
-  few-rounds f has = let c = has.configured in let p = c.fits in let e = has.count in omega (arith, p, e)
+  pub few-lanes : (f : ℕ → ℕ) → Lanes f → n ≤ 4 * g
+  few-lanes f has = let c = has.configured in let p = c.fits in let e = has.count in omega (arith, p, e)
 
   pub writes-lanes : {is : List Insn} {f : ℕ → ℕ} {d : ℕ} {v : ℕ → ℕ} → (a : Writes is f d v) → Lanes f → Lanes a.after
   writes-lanes {is} {f} {d} {v} a has = lanes-kept f a.after (a.below vl_number (omega arith)) (a.below vtype_number (omega arith)) has

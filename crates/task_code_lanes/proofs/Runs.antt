@@ -1,4 +1,4 @@
--- Rounds that store in the buffer of a Func which is stored in runs store a run of it.
+-- Lanes that store in the buffer of a Func which is stored in runs store a run of it.
 use Rattle.std.proofs.Common.{◌≡◌, ℕ, zero, suc, ◌<◌, ◌≤◌, List, [], ◌∷◌, Bool, true, false, cond, refl, ap, ◌∙◌, sym, subst, arith, inl, inr}
 use Rattle.std.specs.Prelude.{◌⊎◌, ◌==◌, ◌&&◌, not, if◌then◌else◌, nat_lt, Option, Some, None}
 use Rattle.std.specs.List.{list_all}
@@ -18,17 +18,17 @@ use Rattle.loop_ir.specs.declared.statements.Stmt.TheVariants as s
 use Rattle.loop_ir.specs.AtOnce.{Effect, effect}
 use Rattle.loop_ir.specs.Counters.{Values, with}
 use Rattle.loop_ir.specs.Expressions.{value}
-use Rattle.loop_ir.specs.Rounds.{Rounds, rounds, all_but, all_points}
+use Rattle.loop_ir.specs.LoopLanes.{LoopLanes, loop_lanes, all_but, all_points}
 use Rattle.loop_ir.specs.Running.{whole_value}
 use Rattle.loop_ir.specs.Runs.{Runs, runs, are_same, point_of, stores_in_runs}
 use Rattle.loop_ir.specs.Soundness.{every, is_sound, store_loads}
 use Rattle.loop_ir.proofs.AtOnce.{effect_store, effect_bind}
-use Rattle.loop_ir.proofs.Rounds.{rounds_sequence, rounds_for, rounds_bind}
+use Rattle.loop_ir.proofs.LoopLanes.{lanes_sequence, lanes_of_loop, lanes_bind}
 use Rattle.loop_ir.proofs.Runs.{runs_store, runs_for, runs_bind, runs_miss}
 use Rattle.loop_ir.proofs.Sound.{sound_store, sound_bind}
 use Rattle.task_code_scalar.specs.Doing.{Setting, IsAmong, AreRun, RunsIn}
 use Rattle.task_code_scalar.specs.Layout.{AreWords}
-use Rattle.task_code_scalar.proofs.Looping.{each-turn}
+use Rattle.task_code_scalar.proofs.Looping.{each-iteration}
 use Rattle.task_code_lanes.proofs.Effects.{HitBy}
 
 -- ---- tests
@@ -56,9 +56,9 @@ is-same a b c d e f p q r = grind (arith, nat_tests)
 
 -- one of so many turns fails
 record Fails (n : ℕ) (test : ℕ → Bool) : Type 0 where
-  turn : ℕ
-  below : turn < n
-  fails : test turn ≡ false
+  iteration : ℕ
+  below : iteration < n
+  fails : test iteration ≡ false
 
 one-fails : (n : ℕ) (test : ℕ → Bool) → every n test ≡ false → Fails n test
 unfolding every
@@ -66,27 +66,27 @@ one-fails zero test e = absurd (true≢false e)
 one-fails (suc n) test e = by-last (test n) refl (λ k. one-fails n test k)
   where
     earlier : Fails n test → Fails (suc n) test
-    earlier a = record { turn = a.turn; below = (let b = a.below in omega (arith, b)); fails = a.fails }
+    earlier a = record { iteration = a.iteration; below = (let b = a.below in omega (arith, b)); fails = a.fails }
 
     by-last : (b : Bool) → test n ≡ b → (every n test ≡ false → Fails n test) → Fails (suc n) test
     by-last true k before = earlier (before (sym (with-true (every n test)) ∙ sym (ap (λ b. every n test && b) k) ∙ e))
-    by-last false k before = record { turn = n; below = omega arith; fails = k }
+    by-last false k before = record { iteration = n; below = omega arith; fails = k }
 
--- ---- one round
+-- ---- one lane
 
--- the round stores at the point
+-- the lane stores at the point
 abbrev is_at : ℕ → ℕ → ℕ → Option Effect → Bool
 is_at func x y None = false
 is_at func x y (Some own) = func == own.func && (x == own.x && y == own.y)
 
--- what is known of a point by what a round stores
+-- what is known of a point by what a lane stores
 record Tells (reads : Reads) (func x y : ℕ) (expected : Values → Bool) (statement : Stmt) (values : Values) : Type 0 where
   misses : is_sound reads (all_but (point_of func x y)) all_points statement values ≡ not (is_at func x y (effect reads statement values))
   avoids : stores_in_runs reads func x y expected statement values ≡ true → is_at func x y (effect reads statement values) ≡ false
 
 module _ (other reads : Reads) (func x y : ℕ) (expected : Values → Bool) where
   abbrev Told : Stmt → Type 0
-  Told statement = (rounds other statement).is_one_store ≡ true → (values : Values) → Tells reads func x y expected statement values
+  Told statement = (loop_lanes other statement).is_one_store ≡ true → (values : Values) → Tells reads func x y expected statement values
 
   at-store : (store : Store) → Told (s.Store store)
   at-store store one values = record {
@@ -117,7 +117,7 @@ module _ (other reads : Reads) (func x y : ℕ) (expected : Values → Bool) whe
       inside = with counter (whole_value whole values) values
 
       inner : Tells reads func x y expected body (with counter (whole_value whole values) values)
-      inner = told (sym (ap (λ (own : Rounds). own.is_one_store) (rounds_bind other counter whole extent body))
+      inner = told (sym (ap (λ (own : LoopLanes). own.is_one_store) (lanes_bind other counter whole extent body))
           ∙ one) (with counter (whole_value whole values) values)
 
       missed : (t : Bool) → (if t then is_sound reads (all_but (point_of func x y)) all_points body (with counter (whole_value whole values) values) else true)
@@ -133,16 +133,16 @@ module _ (other reads : Reads) (func x y : ℕ) (expected : Values → Bool) whe
   by-layer : (X : Type 0) (part : X → Stmt) → ((p : X) → Told (part p)) → (l : Stmt-F X) → Told (roll-Stmt (map-Stmt X Stmt part l))
   by-layer X part told (layer.Store store) = subst Told (sym (rolls-Store store)) (at-store store)
   by-layer X part told (layer.Sequence a b) = subst Told (sym (rolls-Sequence (part a) (part b)))
-      (λ one. absurd (true≢false (sym one ∙ ap (λ (own : Rounds). own.is_one_store) (rounds_sequence other (part a) (part b)))))
+      (λ one. absurd (true≢false (sym one ∙ ap (λ (own : LoopLanes). own.is_one_store) (lanes_sequence other (part a) (part b)))))
   by-layer X part told (layer.For counter count kind a) = subst Told (sym (rolls-For counter count kind (part a)))
-      (λ one. absurd (true≢false (sym one ∙ ap (λ (own : Rounds). own.is_one_store) (rounds_for other counter count kind (part a)))))
+      (λ one. absurd (true≢false (sym one ∙ ap (λ (own : LoopLanes). own.is_one_store) (lanes_of_loop other counter count kind (part a)))))
   by-layer X part told (layer.Bind counter whole extent a) = subst Told (sym (rolls-Bind counter whole extent (part a))) (at-bind counter whole extent (part a)
       (told a))
 
   all-told : (statement : Stmt) → Told statement
   all-told = ind-Stmt Told (λ l t is. subst (λ (k : Stmt-F Stmt). Told (roll-Stmt k)) is (by-layer _ (λ e. e.0) (λ e. e.1) t))
 
--- ---- all rounds
+-- ---- all lanes
 
 -- they store at exactly the points of a run
 pub record StoreARun (run : ℕ → ℕ → Bool) (own : ℕ → Option Effect) (n func : ℕ) : Type 0 where
@@ -157,7 +157,7 @@ abbrev pub StoreRuns : Setting → Values → (ℕ → Option Effect) → ℕ �
 StoreRuns own outside effects n = (func : ℕ) → own.in_runs func ≡ true → StoreNone effects n func ⊎ StoreARun (λ x y. own.run func x y outside) effects n func
 
 module _ (own : Setting) (outside : Values) where
-  -- other rounds that store at the same points
+  -- other lanes that store at the same points
   pub same-runs : (a b : ℕ → Option Effect) (n m : ℕ) → ((func x y : ℕ) → HitBy b m func x y → HitBy a n func x y) → ((func x y : ℕ) → HitBy a n func x y
       → HitBy b m func x y)
       → StoreRuns own outside a n → StoreRuns own outside b m
@@ -186,12 +186,12 @@ module _ (own : Setting) (outside : Values) where
     stored_at k = record { func = store.func; x = x k; y = y k; pixel = value reads (at k) store.value }
 
     hit : (k : ℕ) → k < n → HitBy pixels n store.func (x k) (y k)
-    hit k b = record { round = k; below = b; stored = stored_at k; is = effect_store reads store (at k); func_is = refl; x_is = refl; y_is = refl }
+    hit k b = record { lane = k; below = b; stored = stored_at k; is = effect_store reads store (at k); func_is = refl; x_is = refl; y_is = refl }
 
     among : (a b : ℕ) → HitBy pixels n store.func a b → IsAmong n x y a b
     among a b h =
-        let e : stored_at h.round ≡ h.stored = ap (of_some h.stored) (sym (effect_store reads store (at h.round)) ∙ h.is) in
-        record { number = h.round; below = h.below; x_is = ap (λ (e : Effect). e.x) e ∙ h.x_is; y_is = ap (λ (e : Effect). e.y) e ∙ h.y_is }
+        let e : stored_at h.lane ≡ h.stored = ap (of_some h.stored) (sym (effect_store reads store (at h.lane)) ∙ h.is) in
+        record { number = h.lane; below = h.below; x_is = ap (λ (e : Effect). e.x) e ∙ h.x_is; y_is = ap (λ (e : Effect). e.y) e ∙ h.y_is }
 
     pub pixels-are-run : 1 ≤ n → StoreRuns own outside pixels n → own.in_runs store.func ≡ true → AreRun own n store.func x y
     pixels-are-run some stored is = elim (stored store.func is) [
@@ -201,7 +201,7 @@ module _ (own : Setting) (outside : Values) where
 
 -- ---- a loop
 
--- a round stores at the point
+-- a lane stores at the point
 record HitAt (own : Option Effect) (func x y : ℕ) : Type 0 where
   stored : Effect
   is : own ≡ Some stored
@@ -217,7 +217,7 @@ hit-at func x y (Some own) t =
     record { stored = own; is = refl; func_is = same func own.func k.0; x_is = same x own.x j.0; y_is = same y own.y j.1 }
 
 module _ (own : Setting) (counter : Counter) (count : ℕ) (body : Stmt) (values : Values) (sure : RunsIn own (s.For counter count Vectorized body) values)
-    (other : Reads) (one : (rounds other body).is_one_store ≡ true) (funcs : Planes) (words : AreWords funcs) where
+    (other : Reads) (one : (loop_lanes other body).is_one_store ≡ true) (funcs : Planes) (words : AreWords funcs) where
   abbrev reads : Reads
   reads = reads_of own.inputs funcs
 
@@ -237,46 +237,46 @@ module _ (own : Setting) (counter : Counter) (count : ℕ) (body : Stmt) (values
     missing : (x y k : ℕ) → (parts x y).misses (at k) ≡ not (is_at func x y (effects k))
     missing x y k = runs_miss reads func x y (own.run func x y) body (at k) ∙ (told x y k).misses
 
-    is-hit : (x y : ℕ) (hit : HitBy effects count func x y) → is_at func x y (effects hit.round) ≡ true
+    is-hit : (x y : ℕ) (hit : HitBy effects count func x y) → is_at func x y (effects hit.lane) ≡ true
     is-hit x y hit = ap (is_at func x y) hit.is ∙ is-same func hit.stored.func x hit.stored.x y hit.stored.y hit.func_is hit.x_is hit.y_is
 
     -- the loop is the Func's own
-    its-own : ((x y : ℕ) → are_same (every count (λ round. (parts x y).misses (at round))) (not (own.run func x y values)) ≡ true)
+    its-own : ((x y : ℕ) → are_same (every count (λ lane. (parts x y).misses (at lane))) (not (own.run func x y values)) ≡ true)
         → StoreARun (λ x y. own.run func x y values) effects count func
     its-own facts = record {
       each = λ x y hit. by-run x y hit (own.run func x y values) refl;
       all =
-          λ x y t. found x y (one-fails count (λ round. (parts x y).misses (at round)) (tests x y ∙ ap not t));
+          λ x y t. found x y (one-fails count (λ lane. (parts x y).misses (at lane)) (tests x y ∙ ap not t));
     }
       where
-        tests : (x y : ℕ) → every count (λ round. (parts x y).misses (at round)) ≡ not (own.run func x y values)
-        tests x y = same-tests (every count (λ round. (parts x y).misses (at round))) (not (own.run func x y values)) (facts x y)
+        tests : (x y : ℕ) → every count (λ lane. (parts x y).misses (at lane)) ≡ not (own.run func x y values)
+        tests x y = same-tests (every count (λ lane. (parts x y).misses (at lane))) (not (own.run func x y values)) (facts x y)
 
         by-run : (x y : ℕ) → HitBy effects count func x y → (t : Bool) → own.run func x y values ≡ t → own.run func x y values ≡ true
         by-run x y hit true e = e
         by-run x y hit false e =
-            let m = each-turn count (λ round. (parts x y).misses (at round)) (tests x y ∙ ap not e) hit.round hit.below in
-            absurd (true≢false (sym m ∙ missing x y hit.round ∙ ap not (is-hit x y hit)))
+            let m = each-iteration count (λ lane. (parts x y).misses (at lane)) (tests x y ∙ ap not e) hit.lane hit.below in
+            absurd (true≢false (sym m ∙ missing x y hit.lane ∙ ap not (is-hit x y hit)))
 
-        found : (x y : ℕ) → Fails count (λ round. (parts x y).misses (at round)) → HitBy effects count func x y
+        found : (x y : ℕ) → Fails count (λ lane. (parts x y).misses (at lane)) → HitBy effects count func x y
         found x y a =
-            let h = hit-at func x y (effects a.turn) (not-false (is_at func x y (effects a.turn)) (sym (missing x y a.turn) ∙ a.fails)) in
-            record { round = a.turn; below = a.below; stored = h.stored; is = h.is; func_is = h.func_is; x_is = h.x_is; y_is = h.y_is }
+            let h = hit-at func x y (effects a.iteration) (not-false (is_at func x y (effects a.iteration)) (sym (missing x y a.iteration) ∙ a.fails)) in
+            record { lane = a.iteration; below = a.below; stored = h.stored; is = h.is; func_is = h.func_is; x_is = h.x_is; y_is = h.y_is }
 
     -- it is another's
-    another : ((x y : ℕ) → every count (λ turn. (parts x y).are_runs (at turn)) ≡ true) → StoreNone effects count func
+    another : ((x y : ℕ) → every count (λ iteration. (parts x y).are_runs (at iteration)) ≡ true) → StoreNone effects count func
     another facts x y hit =
-        let a = each-turn count (λ turn. (parts x y).are_runs (at turn)) (facts x y) hit.round hit.below in
-        true≢false (sym (is-hit x y hit) ∙ (told x y hit.round).avoids a)
+        let a = each-iteration count (λ iteration. (parts x y).are_runs (at iteration)) (facts x y) hit.lane hit.below in
+        true≢false (sym (is-hit x y hit) ∙ (told x y hit.lane).avoids a)
 
     by-counter : (t : Bool)
-        → ((x y : ℕ) → (if t then are_same (every count (λ round. (parts x y).misses (at round))) (not (own.run func x y values)) else every count
-        (λ turn. (parts x y).are_runs (at turn))) ≡ true)
+        → ((x y : ℕ) → (if t then are_same (every count (λ lane. (parts x y).misses (at lane))) (not (own.run func x y values)) else every count
+        (λ iteration. (parts x y).are_runs (at iteration))) ≡ true)
         → StoreNone effects count func ⊎ StoreARun (λ x y. own.run func x y values) effects count func
     by-counter true facts = inr (its-own facts)
     by-counter false facts = inl (another facts)
 
-  -- the rounds of a loop in which the Func's points are stored in runs
+  -- the lanes of a loop in which the Func's points are stored in runs
   pub loop-runs : StoreRuns own values effects count
   loop-runs func is =
       by-counter func is (counter.func == func)

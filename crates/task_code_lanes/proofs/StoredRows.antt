@@ -6,11 +6,11 @@ use Rattle.memory.specs.Access.{byte_at, AreBytes, Word, access_at, touched}
 use Rattle.hart_core.specs.Scalar.{one_access}
 use Rattle.halide_pipeline.specs.Pixel.{Planes, reads_of}
 use Rattle.loop_ir.specs.AtOnce.{Effect}
-use Rattle.loop_ir.specs.Running.{turns}
-use Rattle.multi_hart_logic.specs.Alone.{World}
+use Rattle.loop_ir.specs.Running.{iterated}
+use Rattle.multi_hart_laws.specs.Alone.{World}
 use Rattle.multi_hart.specs.Run.{is_in}
-use Rattle.multi_hart_logic.specs.Paths.{stored_at}
-use Rattle.multi_hart_logic.specs.LaneMemory.{firsts, accesses_to, AllWritable, stored_lanes}
+use Rattle.multi_hart_laws.specs.Paths.{stored_at}
+use Rattle.multi_hart_laws.specs.LaneMemory.{firsts, accesses_to, AllWritable, stored_lanes}
 use Rattle.task_code_scalar.specs.Layout.{func_point, address_of, Holds, IsOf, IsElsewhere, MayStore}
 use Rattle.task_code_scalar.specs.Doing.{Setting, IsSetting, AreRun, HoldsFuncs}
 use Rattle.task_code_scalar.proofs.Storing.{stored-is, size-stays, bytes-stay, is-touched, words-put, stored-holds, others-stay}
@@ -75,7 +75,7 @@ module _ (own : Setting) (good : IsSetting own) (func n : ℕ) (few : n ≤ 16) 
     keeps = good.at_once n func x y can are_run;
   }
 
-  -- ---- what memory holds behind so many of them
+  -- ---- what memory holds after so many of them
 
   pub record Row (k : ℕ) (memory : List ℕ) (funcs : Planes) : Type 0 where
     pub holds : HoldsFuncs own (stored_lanes memory Word k spot v) (laid own.points own_effect k funcs)
@@ -87,7 +87,7 @@ module _ (own : Setting) (good : IsSetting own) (func n : ℕ) (few : n ≤ 16) 
   Holds-in z p = Holds w own.places own.loaded z (reads_of own.inputs p)
 
   one-more : (k : ℕ) → k < n → (memory : List ℕ) (funcs : Planes) → Row k memory funcs → Row (suc k) memory funcs
-  unfolding turns
+  unfolding iterated
   one-more k b memory funcs so_far =
       let m = stored_lanes memory Word k spot v in
       let p = laid own.points own_effect k funcs in
@@ -110,7 +110,7 @@ module _ (own : Setting) (good : IsSetting own) (func n : ℕ) (few : n ≤ 16) 
       }
 
   pub row-holds : (k : ℕ) → k ≤ n → (memory : List ℕ) (funcs : Planes) → HoldsFuncs own memory funcs → Row k memory funcs
-  unfolding turns
+  unfolding iterated
   row-holds zero few-so memory funcs holds = record { holds = holds; elsewhere = λ byte other. refl; are_bytes = λ are. are }
   row-holds (suc k) few-so memory funcs holds = one-more k few-so memory funcs (row-holds k (omega (arith, few-so)) memory funcs holds)
 

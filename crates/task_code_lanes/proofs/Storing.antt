@@ -1,4 +1,4 @@
--- A point at which a loop's rounds store in turn is one at which they store at once.
+-- A point at which a loop's lanes store in order is one at which they store at once.
 use Rattle.std.proofs.Common.{◌≡◌, ℕ, zero, suc, Bool, true, false, ap, ◌∙◌, sym, subst, arith, inl, inr, cond}
 use Rattle.std.specs.Prelude.{◌==◌, if◌then◌else◌, nat_lt, Option, Some, None}
 use Rattle.std.proofs.lemmas.Bool.{and_parts, or_cases, true≢false}
@@ -16,10 +16,10 @@ use Rattle.loop_ir.specs.AtOnce.{Effect, effect}
 use Rattle.loop_ir.specs.Buffers.{Points}
 use Rattle.loop_ir.specs.Counters.{Values, with}
 use Rattle.loop_ir.specs.Expressions.{value}
-use Rattle.loop_ir.specs.Rounds.{Rounds, rounds, are_apart}
+use Rattle.loop_ir.specs.LoopLanes.{LoopLanes, loop_lanes, are_apart}
 use Rattle.loop_ir.specs.Running.{whole_value}
-use Rattle.loop_ir.proofs.AtOnce.{effect_store, effect_bind, in_turn, same_round, fewer_apart}
-use Rattle.loop_ir.proofs.Rounds.{rounds_sequence, rounds_for, rounds_bind}
+use Rattle.loop_ir.proofs.AtOnce.{effect_store, effect_bind, in_order, same_lane, fewer_apart}
+use Rattle.loop_ir.proofs.LoopLanes.{lanes_sequence, lanes_of_loop, lanes_bind}
 use Rattle.task_code_scalar.proofs.Tracing.{hit, made, hit_before, hit-store, hit-bind, hit-first, hit-later}
 use Rattle.task_code_lanes.proofs.Effects.{HitBy}
 
@@ -36,7 +36,7 @@ pub record StoredAt (own : Option Effect) (func x y : ℕ) : Type 0 where
 
 module _ (points : Points) (inputs : Planes) (func x y : ℕ) (reads : Reads) where
   abbrev Stores : Stmt → Type 0
-  Stores statement = (rounds reads statement).is_one_store ≡ true → (values : Values) (funcs : Planes) → hit points inputs func x y statement values funcs
+  Stores statement = (loop_lanes reads statement).is_one_store ≡ true → (values : Values) (funcs : Planes) → hit points inputs func x y statement values funcs
       ≡ true
       → StoredAt (effect (reads_of inputs funcs) statement values) func x y
 
@@ -61,25 +61,25 @@ module _ (points : Points) (inputs : Planes) (func x y : ℕ) (reads : Reads) wh
     where
       by-test : (t : Bool) → (if t then hit points inputs func x y body (with counter (whole_value whole values) values) funcs else false) ≡ true
           → StoredAt (cond t (effect (reads_of inputs funcs) body (with counter (whole_value whole values) values)) None) func x y
-      by-test true k = stores (sym (ap (λ (own : Rounds). own.is_one_store) (rounds_bind reads counter whole extent body))
+      by-test true k = stores (sym (ap (λ (own : LoopLanes). own.is_one_store) (lanes_bind reads counter whole extent body))
           ∙ is) (with counter (whole_value whole values) values) funcs k
       by-test false k = absurd (true≢false (sym k))
 
   by-layer : (X : Type 0) (part : X → Stmt) → ((p : X) → Stores (part p)) → (l : Stmt-F X) → Stores (roll-Stmt (map-Stmt X Stmt part l))
   by-layer X part stores (layer.Store store) = subst Stores (sym (rolls-Store store)) (at-store store)
   by-layer X part stores (layer.Sequence a b) = subst Stores (sym (rolls-Sequence (part a) (part b)))
-      (λ is. absurd (true≢false (sym is ∙ ap (λ (own : Rounds). own.is_one_store) (rounds_sequence reads (part a) (part b)))))
+      (λ is. absurd (true≢false (sym is ∙ ap (λ (own : LoopLanes). own.is_one_store) (lanes_sequence reads (part a) (part b)))))
   by-layer X part stores (layer.For counter count kind a) = subst Stores (sym (rolls-For counter count kind (part a)))
-      (λ is. absurd (true≢false (sym is ∙ ap (λ (own : Rounds). own.is_one_store) (rounds_for reads counter count kind (part a)))))
+      (λ is. absurd (true≢false (sym is ∙ ap (λ (own : LoopLanes). own.is_one_store) (lanes_of_loop reads counter count kind (part a)))))
   by-layer X part stores (layer.Bind counter whole extent a) = subst Stores (sym (rolls-Bind counter whole extent (part a))) (at-bind counter whole extent
       (part a) (stores a))
 
   all-store : (statement : Stmt) → Stores statement
   all-store = ind-Stmt Stores (λ l t is. subst (λ (k : Stmt-F Stmt). Stores (roll-Stmt k)) is (by-layer _ (λ e. e.0) (λ e. e.1) t))
 
--- ---- all rounds
+-- ---- all lanes
 
-module _ (points : Points) (inputs : Planes) (body : Stmt) (at : ℕ → Values) (funcs : Planes) (one : (rounds (reads_of inputs funcs) body).is_one_store ≡ true)
+module _ (points : Points) (inputs : Planes) (body : Stmt) (at : ℕ → Values) (funcs : Planes) (one : (loop_lanes (reads_of inputs funcs) body).is_one_store ≡ true)
   where
     abbrev before : Reads
     before = reads_of inputs funcs
@@ -89,7 +89,7 @@ module _ (points : Points) (inputs : Planes) (body : Stmt) (at : ℕ → Values)
 
     one-more : (n func x y : ℕ) → HitBy effects n func x y → HitBy effects (suc n) func x y
     one-more n func x y hit = record {
-      round = hit.round;
+      lane = hit.lane;
       below = (let b = hit.below in omega (arith, b));
       stored = hit.stored;
       is = hit.is;
@@ -99,7 +99,7 @@ module _ (points : Points) (inputs : Planes) (body : Stmt) (at : ℕ → Values)
       y_is = hit.y_is;
     }
 
-    pub hits-at-once : (n : ℕ) → are_apart (rounds before body) at n ≡ true → (func x y : ℕ) → hit_before points inputs func x y body at n funcs ≡ true
+    pub hits-at-once : (n : ℕ) → are_apart (loop_lanes before body) at n ≡ true → (func x y : ℕ) → hit_before points inputs func x y body at n funcs ≡ true
         → HitBy effects n func x y
     hits-at-once zero apart func x y h = absurd (true≢false (sym h ∙ hit-first points inputs func x y body at funcs))
     hits-at-once (suc n) apart func x y h =
@@ -110,7 +110,7 @@ module _ (points : Points) (inputs : Planes) (body : Stmt) (at : ℕ → Values)
           | inl e ↦ one-more n func x y (hits-at-once n fewer func x y e)
           | inr e ↦
               let a = all-store points inputs func x y before body one (at n) so_far e in
-              let b = ap (λ p. effect (reads_of inputs p) body (at n)) (in_turn points inputs body at funcs n one fewer)
-              ∙ same_round points inputs body at funcs n apart in
-              record { round = n; below = omega arith; stored = a.stored; is = sym b ∙ a.is; func_is = a.func_is; x_is = a.x_is; y_is = a.y_is }
+              let b = ap (λ p. effect (reads_of inputs p) body (at n)) (in_order points inputs body at funcs n one fewer)
+              ∙ same_lane points inputs body at funcs n apart in
+              record { lane = n; below = omega arith; stored = a.stored; is = sym b ∙ a.is; func_is = a.func_is; x_is = a.x_is; y_is = a.y_is }
         ]

@@ -19,5 +19,5 @@ abbrev pub lanes_sign : ℕ → ℕ → List Insn
 lanes_sign r u = Vector (v.ShiftVi shifts.Vsra u r 31 true) ∷ []
 
 -- The word 2^32 - 1 - n stands for -1 - n: so each lane that is negative becomes its complement, by the signs in u.
-abbrev pub lanes_turned : ℕ → ℕ → List Insn
-lanes_turned r u = Vector (v.ArithmeticVv vvs.Vxor r r u true) ∷ []
+abbrev pub lanes_swapped : ℕ → ℕ → List Insn
+lanes_swapped r u = Vector (v.ArithmeticVv vvs.Vxor r r u true) ∷ []

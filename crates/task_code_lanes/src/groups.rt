@@ -1,4 +1,4 @@
-//! Groups of vector registers that hold a number for each round of a loop.
+//! Groups of vector registers that hold a number for each iteration of a loop.
 
 ghost use Rattle.std.specs.Prelude.{◌≡◌, ◌*◌, ◌<◌, ◌≤◌};
 ghost use Rattle.task_code_lanes.specs.Groups as spec;
@@ -8,25 +8,25 @@ use rv_insn::Vtype11;
 /// The register in which bytes wait before they become lanes.
 pub const BYTE_SPARE: u8 = 1;
 
-/// How many vector registers a group has: 4, 8 or 16 rounds take 1, 2 or 4.
+/// How many vector registers a group has: 4, 8 or 16 lanes take 1, 2 or 4.
 #[derive(Clone, Copy, Debug, PartialEq, Eq)]
-pub enum Group {
+pub enum LaneGroup {
     One,
     Two,
     Four,
 }
 
-impl Group {
-    /// The group with a lane for each of so many rounds, if there is one.
-    pub fn of_rounds(count: u32) -> Option<Group>
-        ensures { result ≡ spec.group_of_rounds count }
+impl LaneGroup {
+    /// The group with so many lanes, if there is one.
+    pub fn of_lanes(count: u32) -> Option<LaneGroup>
+        ensures { result ≡ spec.group_of_lanes count }
     {
         if count == 4 {
-            Some(Group::One)
+            Some(LaneGroup::One)
         } else if count == 8 {
-            Some(Group::Two)
+            Some(LaneGroup::Two)
         } else if count == 16 {
-            Some(Group::Four)
+            Some(LaneGroup::Four)
         } else {
             None
         }
@@ -37,9 +37,9 @@ impl Group {
         ensures { (result ≡ spec.registers self) × (result ≤ 4) }
     {
         match self {
-            Group::One => 1,
-            Group::Two => 2,
-            Group::Four => 4,
+            LaneGroup::One => 1,
+            LaneGroup::Two => 2,
+            LaneGroup::Four => 4,
         }
     }
 
@@ -55,9 +55,9 @@ impl Group {
         ensures { (result ≡ spec.slots self) × (result ≤ 30) }
     {
         match self {
-            Group::One => 30,
-            Group::Two => 14,
-            Group::Four => 7,
+            LaneGroup::One => 30,
+            LaneGroup::Two => 14,
+            LaneGroup::Four => 7,
         }
     }
 
@@ -66,9 +66,9 @@ impl Group {
         ensures { result ≡ spec.vtype_of self }
     {
         let bits = match self {
-            Group::One => 16,
-            Group::Two => 17,
-            Group::Four => 18,
+            LaneGroup::One => 16,
+            LaneGroup::Two => 17,
+            LaneGroup::Four => 18,
         };
         Vtype11::new(bits).unwrap()
     }
@@ -78,9 +78,9 @@ impl Group {
         ensures { (result ≡ spec.spare self) × (result < 32) }
     {
         match self {
-            Group::One => 1,
-            Group::Two => 2,
-            Group::Four => 0,
+            LaneGroup::One => 1,
+            LaneGroup::Two => 2,
+            LaneGroup::Four => 0,
         }
     }
 
@@ -90,9 +90,9 @@ impl Group {
         ensures { (result ≡ spec.slot self number) × (result < 32) }
     {
         match self {
-            Group::One => number + 2,
-            Group::Two => 2 * (number + 2),
-            Group::Four => 4 * (number + 1),
+            LaneGroup::One => number + 2,
+            LaneGroup::Two => 2 * (number + 2),
+            LaneGroup::Four => 4 * (number + 1),
         }
     }
 }

@@ -7,26 +7,26 @@ ghost use Rattle.rv_insn.specs.declared.vector_operations.CompareVxOp.TheVariant
 ghost use Rattle.task_code_lanes.specs.Groups as spec;
 ghost use Rattle.task_code_scalar.specs.Words.{Emits};
 
-use crate::groups::Group;
+use crate::groups::LaneGroup;
 use crate::vectors::{put_vector, vector};
 use rv_insn::{CompareVxOp, Length5, VectorInsn, Vtype10};
 use std::alloc::AllocError;
 use task_code_scalar::instructions::register;
 
 /// The configuration of lanes of 32 bits in such groups, as `vsetivli` carries it.
-fn vtype(group: Group) -> Vtype10
+fn vtype(group: LaneGroup) -> Vtype10
     ensures { result ≡ spec.vtype_of group }
 {
     let bits = match group {
-        Group::One => 16,
-        Group::Two => 17,
-        Group::Four => 18,
+        LaneGroup::One => 16,
+        LaneGroup::Two => 17,
+        LaneGroup::Four => 18,
     };
     Vtype10::new(bits).unwrap()
 }
 
 /// Appends a configuration of no lanes.
-pub fn configure_none(code: &mut Vec<u32>, group: Group) -> Result<(), AllocError>
+pub fn configure_none(code: &mut Vec<u32>, group: LaneGroup) -> Result<(), AllocError>
     ensures { OnOk result (Emits code.old.items code.new.items (Vector (v.Vsetivli 0 0 (spec.vtype_of group)) ∷ [])) }
 {
     let insn = VectorInsn::Vsetivli {

@@ -12,10 +12,10 @@ ghost use Rattle.rv_insn.specs.declared.vector_operations.CompareViOp.TheVariant
 ghost use Rattle.rv_insn.specs.declared.vector_operations.ArithmeticViOp.TheVariants.{Vadd as plus_number};
 ghost use Rattle.rv_insn.specs.declared.vector_operations.ArithmeticViOp.TheVariants.{Vand as both_bits};
 ghost use Rattle.task_code_lanes.specs.Groups as spec;
-ghost use Rattle.task_code_lanes.specs.declared.groups.Group.TheVariants as groups;
+ghost use Rattle.task_code_lanes.specs.declared.groups.LaneGroup.TheVariants as groups;
 ghost use Rattle.task_code_scalar.specs.Words.{Emits};
 
-use crate::groups::Group;
+use crate::groups::LaneGroup;
 use rv_insn::{
     Addressing, ArithmeticViOp, ArithmeticVvOp, ArithmeticVxOp, CompareViOp, CompareVvOp,
     ElementWidth, Imm5, Insn, Length5, MultiplyOp, ShiftAmount, ShiftViOp, VReg, VectorInsn,
@@ -304,7 +304,7 @@ pub fn read_first(code: &mut Vec<u32>, r: u8, s: u8) -> Result<(), AllocError>
     Ok(())
 }
 
-/// Appends a load of words one behind the other.
+/// Appends a load of words one after the other.
 pub fn load_row(code: &mut Vec<u32>, d: u8, r: u8) -> Result<(), AllocError>
     requires { (d < 32) × (r < 32) }
     ensures { OnOk result (Emits code.old.items code.new.items
@@ -321,7 +321,7 @@ pub fn load_row(code: &mut Vec<u32>, d: u8, r: u8) -> Result<(), AllocError>
     Ok(())
 }
 
-/// Appends a load of bytes one behind the other, into one register.
+/// Appends a load of bytes one after the other, into one register.
 fn load_bytes(code: &mut Vec<u32>, d: u8, r: u8) -> Result<(), AllocError>
     requires { (d < 32) × (r < 32) }
     ensures { OnOk result (Emits code.old.items code.new.items
@@ -352,7 +352,7 @@ fn extend_bytes(code: &mut Vec<u32>, d: u8, a: u8) -> Result<(), AllocError>
     Ok(())
 }
 
-/// Appends a load of bytes one behind the other as lanes, by way of a register.
+/// Appends a load of bytes one after the other as lanes, by way of a register.
 pub fn load_byte_row(code: &mut Vec<u32>, d: u8, r: u8, by: u8) -> Result<(), AllocError>
     requires { (d < 32) × ((r < 32) × (by < 32)) }
     ensures { OnOk result (Emits code.old.items code.new.items
@@ -397,7 +397,7 @@ pub fn load_at(code: &mut Vec<u32>, d: u8, r: u8) -> Result<(), AllocError>
     Ok(())
 }
 
-/// Appends a store of words one behind the other (`vse32.v`).
+/// Appends a store of words one after the other (`vse32.v`).
 pub fn store_row(code: &mut Vec<u32>, s: u8, r: u8) -> Result<(), AllocError>
     requires { (s < 32) × (r < 32) }
     ensures { OnOk result (Emits code.old.items code.new.items
@@ -465,7 +465,7 @@ pub fn configure_one(code: &mut Vec<u32>) -> Result<(), AllocError>
 }
 
 /// Appends a configuration of so many lanes as a register says, at most as many as a group has.
-pub fn configure(code: &mut Vec<u32>, group: Group, r: u8) -> Result<(), AllocError>
+pub fn configure(code: &mut Vec<u32>, group: LaneGroup, r: u8) -> Result<(), AllocError>
     requires { r < 32 }
     ensures { OnOk result (Emits code.old.items code.new.items (Vector (v.Vsetvli 0 r (spec.vtype_of group)) ∷ [])) }
 {

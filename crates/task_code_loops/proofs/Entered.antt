@@ -1,9 +1,9 @@
--- Forms that are held before a loop, one behind the other.
+-- Forms that are held before a loop, one after the other.
 use Rattle.std.proofs.Common.{◌≡◌, ℕ, ◌+◌, ◌-◌, ◌≤◌, List, [], ◌∷◌, length, get_or, take, drop, true, refl, ap, ◌∙◌, sym, subst, arith}
 use Rattle.loop_ir.specs.declared.expressions.Counter.{Counter}
-use Rattle.multi_hart_logic.proofs.Paths.{stay}
+use Rattle.multi_hart_laws.proofs.Paths.{stay}
 use Rattle.task_code_scalar.proofs.Spelling.{emits-none}
-use Rattle.task_code_registers.specs.declared.scopes.Form.{Form}
+use Rattle.task_code_registers.specs.declared.scopes.AffineForm.{AffineForm}
 use Rattle.task_code_registers.specs.declared.scopes.Held.{Held}
 use Rattle.task_code_registers.specs.Emitting.{sum_words}
 use Rattle.task_code_registers.specs.Holding.{Enters, Takes, can_advance}
@@ -42,7 +42,7 @@ enters-then counter scope next inner n k most c0 c1 c2 fits x y =
 
 -- ---- and that go along
 
-pub can-taken : (counter : Counter) (scope inner : List Held) (form : Form) (r reserved : ℕ) (c0 c1 : List ℕ)
+pub can-taken : (counter : Counter) (scope inner : List Held) (form : AffineForm) (r reserved : ℕ) (c0 c1 : List ℕ)
     → Takes c0 c1 counter scope form reserved r inner → can_advance counter scope ≡ true → can_advance counter inner ≡ true
 can-taken counter scope inner form r reserved c0 c1 x can =
     subst (λ s. can_advance counter s ≡ true) (sym x.is) (can-added counter (record { register = r; form = form }) scope x.may can)
@@ -54,7 +54,7 @@ gains-none counter scope most reserved c0 c1 e = record {
   left = λ left. left;
 }
 
-gains-one : (counter : Counter) (scope scope' inner : List Held) (form : Form) (r reserved : ℕ) (c0 c1 : List ℕ) → scope' ≡ scope
+gains-one : (counter : Counter) (scope scope' inner : List Held) (form : AffineForm) (r reserved : ℕ) (c0 c1 : List ℕ) → scope' ≡ scope
     → Takes c0 c1 counter scope' form reserved r inner → Gains c0 c1 (sum_words form.per_hart form.sum.terms) counter reserved scope inner
 gains-one counter scope scope' inner form r reserved c0 c1 e x =
     subst (λ s. Gains c0 c1 (sum_words form.per_hart form.sum.terms) counter reserved s inner) e (record {
@@ -64,7 +64,7 @@ gains-one counter scope scope' inner form r reserved c0 c1 e x =
     })
 
 -- so it is where the form is put in front of the scope itself
-pub gains-front : (counter : Counter) (scope scope' inner : List Held) (form : Form) (r reserved : ℕ) (c0 c1 : List ℕ) → scope' ≡ scope
+pub gains-front : (counter : Counter) (scope scope' inner : List Held) (form : AffineForm) (r reserved : ℕ) (c0 c1 : List ℕ) → scope' ≡ scope
     → Takes c0 c1 counter scope' form reserved r (record { register = r; form = form } ∷ scope') → inner ≡ record { register = r; form = form } ∷ scope
     → Gains c0 c1 (sum_words form.per_hart form.sum.terms) counter reserved scope inner
 gains-front counter scope scope' inner form r reserved c0 c1 e x is =
@@ -82,7 +82,7 @@ gains-then counter scope next inner n k most reserved c0 c1 c2 fits x y = record
 
 -- ---- as the emitters call them
 
-pub gains-first : (counter : Counter) (scope next inner : List Held) (wanted : List Form) (first other : Form) (reserved : ℕ) (c0 c1 c2 : List ℕ)
+pub gains-first : (counter : Counter) (scope next inner : List Held) (wanted : List AffineForm) (first other : AffineForm) (reserved : ℕ) (c0 c1 c2 : List ℕ)
     → 1 ≤ length wanted → first ≡ get_or wanted 0 other
     → Gains c0 c1 (sum_words first.per_hart first.sum.terms) counter reserved scope next
     → Gains c1 c2 (forms_words (take (length wanted - 1) (drop 1 wanted))) counter reserved next inner

@@ -1,8 +1,8 @@
--- Code behind other code, and iterations that are laid out.
+-- Code after other code, and iterations that are laid out.
 use Rattle.std.proofs.Common.{suc, ◌++◌, refl, sym}
-use Rattle.loop_ir.specs.Running.{turns}
-use Rattle.multi_hart_logic.specs.Paths.{end}
-use Rattle.multi_hart_logic.proofs.Paths.{stay, stand-front, stand-back, end-append}
+use Rattle.loop_ir.specs.Running.{iterated}
+use Rattle.multi_hart_laws.specs.Paths.{end}
+use Rattle.multi_hart_laws.proofs.Paths.{stay, stand-front, stand-back, end-append}
 use Rattle.task_code_registers.specs.Scopes.{Knows, IsKept}
 use Rattle.task_code_registers.proofs.Going.{Went, went-hits, went-then, within, still}
 use Rattle.task_code_registers.proofs.Knowing.{knows-still}
@@ -24,7 +24,7 @@ code-follows own hart scope values first second n k f memory middle funcs stored
     did-went (went-hits own union (went-then own front back))
 
 pub none-are-laid-out : NoneAreLaidOut
-unfolding turns
+unfolding iterated
 none-are-laid-out own hart scope values one body_stored stored all = record {
   does = λ f memory funcs holds knows.
       did-went (went-hits own (λ func x y hit. all.none funcs func x y hit)
@@ -32,12 +32,12 @@ none-are-laid-out own hart scope values one body_stored stored all = record {
 }
 
 pub one-more-is-laid-out : OneMoreIsLaidOut
-unfolding turns
+unfolding iterated
 one-more-is-laid-out own hart scope counter values k n t code body one body_stored stored none all so_far next = record {
   does = λ f memory funcs holds knows.
-      code-follows own hart scope values code body n t f memory (turns k one funcs) (one k (turns k one funcs)) (stored (suc k) funcs)
-      (stored k funcs) (body_stored k (turns k one funcs)) knows (so_far.does f memory funcs holds knows)
-      (λ g left holding known. next g left (turns k one funcs) holding (knows-with counter k hart scope values g none known))
+      code-follows own hart scope values code body n t f memory (iterated k one funcs) (one k (iterated k one funcs)) (stored (suc k) funcs)
+      (stored k funcs) (body_stored k (iterated k one funcs)) knows (so_far.does f memory funcs holds knows)
+      (λ g left holding known. next g left (iterated k one funcs) holding (knows-with counter k hart scope values g none known))
       (all.more k funcs);
 }
 

@@ -12,7 +12,7 @@ use Rattle.schedule_lines.specs.Directives.{same_id}
 use Rattle.loop_ir.specs.declared.expressions.Counter.{Counter}
 use Rattle.loop_ir.specs.Counters.{Values, same_counter, with}
 use Rattle.loop_ir.specs.Expressions.{linear_value}
-use Rattle.task_code_registers.specs.declared.scopes.Form.{Form}
+use Rattle.task_code_registers.specs.declared.scopes.AffineForm.{AffineForm}
 use Rattle.task_code_registers.specs.declared.scopes.Held.{Held}
 use Rattle.task_code_registers.specs.Holding.{mentions, can_advance}
 use Rattle.task_code_registers.specs.Registers.{may_hold}
@@ -112,5 +112,5 @@ pub variable-there : (counter : Counter) (own : Held) (others : List Held) → m
     → has_variable (own ∷ others) counter ≡ true
 variable-there counter own others may is =
     ap (λ m. if m && is_variable counter own.form then true else has_variable others counter) may
-    ∙ ap (λ (form : Form). if is_variable counter form then true else has_variable others counter) is
+    ∙ ap (λ (form : AffineForm). if is_variable counter form then true else has_variable others counter) is
     ∙ ap (λ s. if s && true then true else has_variable others counter) (same_counter-self counter)

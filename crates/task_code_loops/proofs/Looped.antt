@@ -1,4 +1,4 @@
--- What is appended behind a body makes a loop of it, and with what is appended in front of it a whole one.
+-- What is appended after a body makes a loop of it, and with what is appended in front of it a whole one.
 use Rattle.std.proofs.Common.{◌≡◌, ℕ, suc, ◌+◌, ◌-◌, ◌*◌, ◌<◌, ◌≤◌, List, [], ◌∷◌, ◌++◌, length, true, false, ap, ◌∙◌, sym, subst, arith, inr}
 use Rattle.std.proofs.Common.{length-append}
 use Rattle.std.specs.Prelude.{◌≢◌, if◌then◌else◌, nat_lt}
@@ -8,10 +8,10 @@ use Rattle.rv_insn.specs.declared.operations.BranchOp.TheVariants as branches
 use Rattle.hart_core.specs.Scalar.{is_taken}
 use Rattle.loop_ir.specs.declared.expressions.Counter.{Counter}
 use Rattle.loop_ir.specs.Counters.{Values, with}
-use Rattle.loop_ir.specs.Running.{turns}
-use Rattle.multi_hart_logic.specs.Alone.{World}
-use Rattle.multi_hart_logic.specs.Paths.{Stand, end, Path, Line}
-use Rattle.multi_hart_logic.proofs.Paths.{spot, path-then, line-then, stand-front, stand-back, end-append}
+use Rattle.loop_ir.specs.Running.{iterated}
+use Rattle.multi_hart_laws.specs.Alone.{World}
+use Rattle.multi_hart_laws.specs.Paths.{Stand, end, Path, Line}
+use Rattle.multi_hart_laws.proofs.Paths.{spot, path-then, line-then, stand-front, stand-back, end-append}
 use Rattle.task_code_scalar.specs.Fitting.{total}
 use Rattle.task_code_scalar.proofs.Looping.{end-length}
 use Rattle.task_code_scalar.proofs.Spelling.{emits_then}
@@ -24,9 +24,9 @@ use Rattle.task_code_registers.proofs.Going.{Went, no_hits, went-hits, went-then
 use Rattle.task_code_registers.proofs.Knowing.{may-hold, knows-zero, knows-still, kept-apart}
 use Rattle.task_code_registers.proofs.Looping.{marked-did, did-went, points_hit}
 use Rattle.task_code_registers.proofs.Making.{short-then}
-use Rattle.task_code_loops.specs.declared.beginning.Begun.{Begun}
+use Rattle.task_code_loops.specs.declared.beginning.BegunLoop.{BegunLoop}
 use Rattle.task_code_loops.specs.Beginning.{CanEnd}
-use Rattle.task_code_loops.specs.Ending.{MakesLimit, GoesBack, StaysIn, end_words, EndsLoop, MakesLoop, LoopsAreMade, Turned}
+use Rattle.task_code_loops.specs.Ending.{MakesLimit, GoesBack, StaysIn, end_words, EndsLoop, MakesLoop, LoopsAreMade, Advanced}
 use Rattle.task_code_loops.proofs.Knowledge.{knows-with}
 use Rattle.task_code_loops.proofs.Repeating.{loop-goes}
 use Rattle.task_code_loops.proofs.Returning.{emits-longer}
@@ -42,9 +42,9 @@ steady-apart : (counter : Counter) (inner : List Held) (q : ℕ) → IsSteady co
 steady-apart counter [] q steady = steady
 steady-apart counter (own ∷ others) q steady = steady-apart counter others q steady.1
 
--- ---- behind the body
+-- ---- after the body
 
-module _ (begun : Begun) (c0 c1 c2 c3 : List ℕ) (limit start words : ℕ) (ends : CanEnd begun)
+module _ (begun : BegunLoop) (c0 c1 c2 c3 : List ℕ) (limit start words : ℕ) (ends : CanEnd begun)
     (x : Advances c0 c1 (3 * moving begun.counter begun.inner.items) begun.counter begun.inner.items)
     (y : MakesLimit c1 c2 begun.limit limit) (z : GoesBack c2 c3 begun.register limit words) (behind : start ≤ length c0)
     (over : words ≡ length c2 - start) where
@@ -87,9 +87,9 @@ module _ (begun : Begun) (c0 c1 c2 c3 : List ℕ) (limit start words : ℕ) (end
     last : (at : ℕ) → Stand w.text at (body ++ tail) → Stand w.text (end (end at body) moves) z.insns
     last at s = stand-back w.text (end at body) moves z.insns (stand-back w.text at body tail s)
 
-    turned : (i : ℕ) (f : ℕ → ℕ) (memory : List ℕ) → i < count → length memory ≡ w.size → Knows hart inner (with counter i values) f
-        → Turned w (IsSteady counter inner) (Knows hart inner (with counter (suc i) values)) count body tail i (cost i) f memory
-    turned i f memory less size knows =
+    advanced : (i : ℕ) (f : ℕ → ℕ) (memory : List ℕ) → i < count → length memory ≡ w.size → Knows hart inner (with counter i values) f
+        → Advanced w (IsSteady counter inner) (Knows hart inner (with counter (suc i) values)) count body tail i (cost i) f memory
+    advanced i f memory less size knows =
         let a = x.does w memory hart values i f size holders knows in
         let next = with counter (suc i) values in
         let b = y.does w memory a.after size (knows-zero hart inner next a.after a.mark) in
@@ -133,7 +133,7 @@ module _ (begun : Begun) (c0 c1 c2 c3 : List ℕ) (limit start words : ℕ) (end
         let s = short-then x.insns y.insns (3 * k) 2 (3 * k + 2) x.short y.short (omega arith) in
         short-then moves z.insns (3 * k + 2) 2 (end_words begun) s z.short (omega arith);
     cost = cost;
-    turned = λ w hart values body i f memory long holders less size knows. turned w hart values body long holders i f memory less size knows;
+    advanced = λ w hart values body i f memory long holders less size knows. advanced w hart values body long holders i f memory less size knows;
     does = λ own hart values body t one body_stored stored long holders each all f memory funcs holds knows.
         did-went (loop-goes own (StaysIn counter inner) (λ p i g. Knows hart inner (with counter i values) g)
         (λ p i g. Knows hart inner (with counter i values) g) count body tail t cost one
@@ -141,7 +141,7 @@ module _ (begun : Begun) (c0 c1 c2 c3 : List ℕ) (limit start words : ℕ) (end
         (λ i g m p l o known. marked-did (IsKept inner) (StaysIn counter inner) (Knows hart inner (with counter i values)) (λ q stays. stays.0)
         (λ after same. knows-still hart inner (with counter i values) g after same known) (each.does i g m p l o known))
         (λ i g m p less size known.
-        let a = turned own.world hart values body long holders i g m less size known in
+        let a = advanced own.world hart values body long holders i g m less size known in
         record { after = a.after; keeps = λ q stays. a.keeps q stays.1; mark = a.mark; again = a.again; leaves = a.leaves })
         (λ k p. points_hit (stored k p)) all.none all.more ends.some f memory funcs holds knows).went;
   }
@@ -149,7 +149,7 @@ module _ (begun : Begun) (c0 c1 c2 c3 : List ℕ) (limit start words : ℕ) (end
 -- ---- lengths
 
 -- what makes the next iteration's numbers has so many words
-module _ (begun : Begun) (c0 c1 c2 : List ℕ) (limit start count : ℕ)
+module _ (begun : BegunLoop) (c0 c1 c2 : List ℕ) (limit start count : ℕ)
     (x : Advances c0 c1 (3 * moving begun.counter begun.inner.items) begun.counter begun.inner.items) (y : MakesLimit c1 c2 begun.limit limit)
     (behind : start ≤ length c0) (is : count ≡ length c2) where
   longer : (length c0 ≤ count) × (count + 2 ≤ length c0 + end_words begun)
@@ -206,7 +206,7 @@ loops-are-made c0 c1 c2 c3 most counter count reserved scope begun body none b e
           still own (λ at. at) (λ at. end at enters.insns) (length enters.insns) start.after holds start.keeps
           (λ at s. start.line at (stand-front w.text at enters.insns rest s)) in
           let second : Went own all_of (λ at. end at enters.insns) (λ at. end at all_of) (total begun.count (λ i. t i + e.cost i)) start.after memory
-          (IsKept scope) (turns begun.count one funcs) (points_hit (stored begun.count funcs)) =
+          (IsKept scope) (iterated begun.count one funcs) (points_hit (stored begun.count funcs)) =
           within own (λ at. end at enters.insns) (λ at. end at all_of) (λ at s. stand-back w.text at enters.insns rest s)
           (λ at. sym (end-append at enters.insns rest)) marked.went in
           did-went (went-hits own (λ func x y hit. inr hit) (went-then own first second));

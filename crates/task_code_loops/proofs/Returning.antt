@@ -1,4 +1,4 @@
--- What stands behind a body: limits, ways back, and all of it.
+-- What stands after a body: limits, ways back, and all of it.
 use Rattle.std.proofs.Common.{◌≡◌, ℕ, ◌+◌, ◌*◌, ◌<◌, ◌≤◌, List, [], ◌∷◌, length, Bool, true, false}
 use Rattle.std.proofs.Common.{refl, ap, ◌∙◌, sym, subst, arith, length-append}
 use Rattle.std.specs.Prelude.{◌==◌, not, pos}
@@ -6,8 +6,8 @@ use Rattle.std.proofs.lemmas.Bool.{true≢false}
 use Rattle.rv_insn.specs.declared.instructions.Insn.{Insn}
 use Rattle.rv_insn.specs.declared.instructions.Insn.TheVariants.{Branch, Jal}
 use Rattle.rv_insn.specs.declared.operations.BranchOp.TheVariants as branches
-use Rattle.multi_hart_logic.proofs.Jumps as rules
-use Rattle.multi_hart_logic.proofs.Paths.{spot, stay, path-then}
+use Rattle.multi_hart_laws.proofs.Jumps as rules
+use Rattle.multi_hart_laws.proofs.Paths.{spot, stay, path-then}
 use Rattle.task_code_scalar.specs.Code.{back}
 use Rattle.task_code_scalar.specs.Words.{Emits}
 use Rattle.task_code_scalar.proofs.Looping.{back-to, forth-to}

@@ -11,26 +11,26 @@ use Rattle.loop_ir.specs.declared.expressions.Linear.{Linear}
 use Rattle.loop_ir.specs.declared.expressions.Term.{Term}
 use Rattle.loop_ir.specs.Counters.{Values, same_counter}
 use Rattle.loop_ir.specs.Expressions.{linear_value, sum_of}
-use Rattle.task_code_registers.specs.declared.scopes.Form.{Form}
+use Rattle.task_code_registers.specs.declared.scopes.AffineForm.{AffineForm}
 use Rattle.task_code_registers.specs.Points.{times}
 use Rattle.task_code_registers.specs.Scopes.{form_value}
 use Rattle.task_code_registers.specs.Strides.{has_counter}
 use Rattle.task_code_registers.proofs.Knowing.{others-are}
 use Rattle.task_code_registers.proofs.Striding.{linear-steady}
 use Rattle.task_code_registers.proofs.Variables.{same_counter-true}
-use Rattle.task_code_loops.specs.declared.known.Known.{Known}
+use Rattle.task_code_loops.specs.declared.known.KnownSum.{KnownSum}
 use Rattle.task_code_loops.specs.Known.{AreKnown, IsRewritten, IsRewrittenSum, is_fresh, KnownStays, OneMoreIsKnown}
 use Rattle.task_code_loops.proofs.Knowledge.{stands-at}
 
 -- ---- what is known of a variable
 
-pub sum-known : (known : List Known) (item other : Known) (counter : Counter) (sum : Linear) → 1 ≤ length known → item ≡ get_or known 0 other
+pub sum-known : (known : List KnownSum) (item other : KnownSum) (counter : Counter) (sum : Linear) → 1 ≤ length known → item ≡ get_or known 0 other
     → same_counter item.counter counter ≡ true → sum ≡ item.sum → (values : Values) → AreKnown known values
     → values counter % 2 ^ 32 ≡ linear_value values sum
 sum-known [] item other counter sum some ei is es values are = absurd (omega (arith, some))
 sum-known (first ∷ others) item other counter sum some ei is es values are =
-    ap (λ c. values c % 2 ^ 32) (sym (same_counter-true item.counter counter is) ∙ ap (λ (k : Known). k.counter) ei) ∙ are.0
-    ∙ ap (linear_value values) (ap (λ (k : Known). k.sum) (sym ei) ∙ sym es)
+    ap (λ c. values c % 2 ^ 32) (sym (same_counter-true item.counter counter is) ∙ ap (λ (k : KnownSum). k.counter) ei) ∙ are.0
+    ∙ ap (linear_value values) (ap (λ (k : KnownSum). k.sum) (sym ei) ∙ sym es)
 
 -- ---- sums of terms
 
@@ -116,7 +116,7 @@ more-terms values old middle new terms first other some is x y =
     y ∙ ap (λ n. (n + r) % 2 ^ 32) x ∙ g
     ∙ ap (λ ts. (a + sum_of values ts) % 2 ^ 32) (ap (λ t. t ∷ rest) is ∙ sym (others-are terms other some))
 
-pub sum-rewritten : (known : List Known) (own made start : Linear) → start.number ≡ own.number → start.terms ≡ []
+pub sum-rewritten : (known : List KnownSum) (own made start : Linear) → start.number ≡ own.number → start.terms ≡ []
     → ((values : Values) → AreKnown known values → linear_value values made ≡ (linear_value values start + sum_of values own.terms) % 2 ^ 32)
     → IsRewrittenSum known own made
 unfolding linear_value
@@ -127,7 +127,7 @@ sum-rewritten known own made start en et go values are =
     go values are ∙ ap (λ k. ((k + sum_of values start.terms) % 2 ^ 32 + s) % 2 ^ 32) en
     ∙ ap (λ ts. ((n + sum_of values ts) % 2 ^ 32 + s) % 2 ^ 32) et ∙ g
 
-pub form-rewritten : (known : List Known) (form made : Form) → made.per_hart ≡ form.per_hart → IsRewrittenSum known form.sum made.sum
+pub form-rewritten : (known : List KnownSum) (form made : AffineForm) → made.per_hart ≡ form.per_hart → IsRewrittenSum known form.sum made.sum
     → IsRewritten known form made
 unfolding form_value
 form-rewritten known form made eh same hart values are =

@@ -5,7 +5,7 @@ use Rattle.loop_ir.specs.declared.expressions.Counter.{Counter}
 use Rattle.loop_ir.specs.declared.expressions.Term.{Term}
 use Rattle.loop_ir.specs.Counters.{Values, same_counter}
 use Rattle.loop_ir.specs.Expressions.{linear_value, sum_of}
-use Rattle.task_code_registers.specs.declared.scopes.Form.{Form}
+use Rattle.task_code_registers.specs.declared.scopes.AffineForm.{AffineForm}
 use Rattle.task_code_registers.specs.Scopes.{form_value}
 use Rattle.task_code_registers.proofs.Knowing.{others-are}
 use Rattle.task_code_registers.proofs.Variables.{same_counter-true}
@@ -41,7 +41,7 @@ most-more bounds terms other count rest own some less x e values below =
     ap (sum_of values) (others-are terms other some) in
     omega (arith, p, r, s, e)
 
-pub stays-below : (bounds : List Bound) (form : Form) (terms : List Term) (most extent : ℕ) → form.per_hart ≡ 0 → terms ≡ form.sum.terms
+pub stays-below : (bounds : List Bound) (form : AffineForm) (terms : List Term) (most extent : ℕ) → form.per_hart ≡ 0 → terms ≡ form.sum.terms
     → IsMost bounds terms most → form.sum.number + most < extent → extent < 2 ^ 32 → IsBelow bounds form extent
 unfolding form_value linear_value
 stays-below bounds form terms most extent none et x less small hart values below =

@@ -8,7 +8,7 @@ use Rattle.rv_insn.specs.declared.operations.BranchOp.TheVariants as branches
 use Rattle.hart_core.specs.Scalar.{is_taken}
 use Rattle.loop_ir.specs.declared.expressions.Counter.{Counter}
 use Rattle.loop_ir.specs.Counters.{with}
-use Rattle.task_code_registers.specs.declared.scopes.Form.{Form}
+use Rattle.task_code_registers.specs.declared.scopes.AffineForm.{AffineForm}
 use Rattle.task_code_registers.specs.declared.scopes.Held.{Held}
 use Rattle.task_code_registers.specs.Emitting.{base_words, sum_words}
 use Rattle.task_code_registers.specs.Holding.{Enters, Extends, Takes, IsAt, can_advance, mentions, moving}
@@ -19,7 +19,7 @@ use Rattle.task_code_registers.specs.Strides.{has_counter}
 use Rattle.task_code_registers.proofs.Ending.{limits-tell}
 use Rattle.task_code_registers.proofs.Knowing.{others-are}
 use Rattle.task_code_registers.proofs.Striding.{others-fewer}
-use Rattle.task_code_loops.specs.declared.beginning.Begun.{Begun}
+use Rattle.task_code_loops.specs.declared.beginning.BegunLoop.{BegunLoop}
 use Rattle.task_code_loops.specs.declared.tests.Limit.{Limit}
 use Rattle.task_code_loops.specs.declared.tests.Limit.TheVariants.{Register, Number}
 use Rattle.task_code_loops.specs.declared.tests.Tested.{Tested}
@@ -53,8 +53,8 @@ test-variable counter count r scope small may = record {
       ap (λ n. not (n == count)) e ∙ differs-below i count less (cases_lt (suc i) count);
 }
 
--- a form, and what it is behind the last iteration
-test-form : (counter : Counter) (count a b : ℕ) (scope : List Held) (form limit : Form) → may_hold a ≡ true → may_hold b ≡ true
+-- a form, and what it is after the last iteration
+test-form : (counter : Counter) (count a b : ℕ) (scope : List Held) (form limit : AffineForm) → may_hold a ≡ true → may_hold b ≡ true
     → IsAt counter count form limit → looping.is_test counter count form ≡ true
     → IsTest counter count (record { register = b; form = limit } ∷ (record { register = a; form = form } ∷ scope)) a (Register b)
 test-form counter count a b scope form limit ma mb at tells = record {
@@ -91,12 +91,12 @@ test-held counter count n b r scope small mb test = record {
 -- ---- scopes with tests
 
 module _ (counter : Counter) (count : ℕ) (scope : List Held) (reserved : ℕ) where
-  pub tests-variable : (form : Form) (inner : List Held) (r : ℕ) (c0 c1 : List ℕ) → count < 2 ^ 32 → form ≡ variable counter
+  pub tests-variable : (form : AffineForm) (inner : List Held) (r : ℕ) (c0 c1 : List ℕ) → count < 2 ^ 32 → form ≡ variable counter
       → Takes c0 c1 counter scope form reserved r inner → (tested : Tested) → tested.scope.items ≡ inner → tested.register ≡ r → tested.limit ≡ Number count
       → Tests c0 c1 10 counter count scope reserved tested
   tests-variable form inner r c0 c1 small ef x tested ei er el =
-      let s : inner ≡ record { register = r; form = variable counter } ∷ scope = x.is ∙ ap (λ (g : Form). record { register = r; form = g } ∷ scope) ef in
-      let z : sum_words form.per_hart form.sum.terms ≡ 6 = ap (λ (g : Form). sum_words g.per_hart g.sum.terms) ef in
+      let s : inner ≡ record { register = r; form = variable counter } ∷ scope = x.is ∙ ap (λ (g : AffineForm). record { register = r; form = g } ∷ scope) ef in
+      let z : sum_words form.per_hart form.sum.terms ≡ 6 = ap (λ (g : AffineForm). sum_words g.per_hart g.sum.terms) ef in
       let test : IsTest counter count inner r (Number count) =
       subst (λ k. IsTest counter count k r (Number count)) (sym s) (test-variable counter count r scope small x.may) in
       record {
@@ -113,19 +113,19 @@ module _ (counter : Counter) (count : ℕ) (scope : List Held) (reserved : ℕ) 
   one-at-most false n = omega arith
 
   -- the variable has a register, and nothing else is held
-  pub plain-taken : (form : Form) (inner : List Held) (r : ℕ) (c0 c1 : List ℕ) → form ≡ variable counter → Takes c0 c1 counter scope form reserved r inner
+  pub plain-taken : (form : AffineForm) (inner : List Held) (r : ℕ) (c0 c1 : List ℕ) → form ≡ variable counter → Takes c0 c1 counter scope form reserved r inner
       → HoldsPlainly counter scope inner
   plain-taken form inner r c0 c1 ef x = record {
     variable = subst (λ k. has_variable k counter ≡ true) (sym x.is) (variable-there counter (record { register = r; form = form }) scope x.may ef);
     others = λ other apart.
-        ap (mentions other) x.is ∙ ap (λ (g : Form). if has_counter other g.sum.terms then true else mentions other scope) ef
+        ap (mentions other) x.is ∙ ap (λ (g : AffineForm). if has_counter other g.sum.terms then true else mentions other scope) ef
         ∙ ap (λ t. if (if t then true else false) then true else mentions other scope) apart;
     registers = λ are. ap are_registers x.is ∙ ap (λ m. m && are_registers scope) x.may ∙ are;
     moves = subst (λ k. moving counter k ≤ suc (moving counter scope)) (sym x.is)
         (one-at-most (has_counter counter form.sum.terms) (moving counter scope));
   }
 
-  pub tests-form : (form limit : Form) (first first' inner : List Held) (a b : ℕ) (c0 c1 c2 : List ℕ) → first' ≡ first → IsAt counter count form limit
+  pub tests-form : (form limit : AffineForm) (first first' inner : List Held) (a b : ℕ) (c0 c1 c2 : List ℕ) → first' ≡ first → IsAt counter count form limit
       → looping.is_test counter count form ≡ true → Takes c0 c1 counter scope form (reserved + 1) a first
       → Takes c1 c2 counter first' limit reserved b inner → (tested : Tested) → tested.scope.items ≡ inner → tested.register ≡ a → tested.limit ≡ Register b
       → Tests c0 c2 (10 + 2 * sum_words form.per_hart form.sum.terms) counter count scope reserved tested
@@ -160,7 +160,7 @@ module _ (counter : Counter) (count : ℕ) (scope : List Held) (reserved : ℕ) 
   })
 
 -- A form is held, and yet the variable tells.
-pub tests-later : (counter : Counter) (count : ℕ) (scope first first' : List Held) (form : Form) (reserved a : ℕ) (c0 c1 c1' c2 : List ℕ) (tested : Tested)
+pub tests-later : (counter : Counter) (count : ℕ) (scope first first' : List Held) (form : AffineForm) (reserved a : ℕ) (c0 c1 c1' c2 : List ℕ) (tested : Tested)
     → first' ≡ first → c1' ≡ c1 → Takes c0 c1 counter scope form (reserved + 1) a first → Tests c1' c2 10 counter count first' reserved tested
     → Tests c0 c2 (10 + 2 * sum_words form.per_hart form.sum.terms) counter count scope reserved tested
 tests-later counter count scope first first' form reserved a c0 c1 c1' c2 tested ef ec x y' =
@@ -175,13 +175,13 @@ tests-later counter count scope first first' form reserved a c0 c1 c1' c2 tested
 
 -- ---- as the emitters call them
 
-first-fewer : (wanted : List Form) (first other : Form) → 1 ≤ length wanted → first ≡ get_or wanted 0 other
+first-fewer : (wanted : List AffineForm) (first other : AffineForm) → 1 ≤ length wanted → first ≡ get_or wanted 0 other
     → forms_words wanted ≡ sum_words first.per_hart first.sum.terms + forms_words (take (length wanted - 1) (drop 1 wanted))
 first-fewer wanted first other some is =
     let rest = take (length wanted - 1) (drop 1 wanted) in
-    ap forms_words (others-are wanted other some) ∙ ap (λ (f : Form). sum_words f.per_hart f.sum.terms + forms_words rest) (sym is)
+    ap forms_words (others-are wanted other some) ∙ ap (λ (f : AffineForm). sum_words f.per_hart f.sum.terms + forms_words rest) (sym is)
 
-pub tests-first : (counter : Counter) (count : ℕ) (scope : List Held) (reserved : ℕ) (wanted : List Form) (first other : Form) (c0 c1 : List ℕ)
+pub tests-first : (counter : Counter) (count : ℕ) (scope : List Held) (reserved : ℕ) (wanted : List AffineForm) (first other : AffineForm) (c0 c1 : List ℕ)
     (tested : Tested)
     → 1 ≤ length wanted → first ≡ get_or wanted 0 other → Tests c0 c1 (10 + 2 * sum_words first.per_hart first.sum.terms) counter count scope reserved tested
     → Tests c0 c1 (10 + 2 * forms_words wanted) counter count scope reserved tested
@@ -190,7 +190,7 @@ tests-first counter count scope reserved wanted first other c0 c1 tested some is
     tests-fewer counter count scope reserved (10 + 2 * sum_words first.per_hart first.sum.terms) (10 + 2 * forms_words wanted) c0 c1 c0 tested
     (omega (arith, e)) refl x
 
-pub tests-others : (counter : Counter) (count : ℕ) (scope : List Held) (reserved : ℕ) (wanted : List Form) (first other : Form) (c0 c1 : List ℕ)
+pub tests-others : (counter : Counter) (count : ℕ) (scope : List Held) (reserved : ℕ) (wanted : List AffineForm) (first other : AffineForm) (c0 c1 : List ℕ)
     (tested : Tested)
     → 1 ≤ length wanted → first ≡ get_or wanted 0 other
     → Tests c0 c1 (10 + 2 * forms_words (take (length wanted - 1) (drop 1 wanted))) counter count scope reserved tested
@@ -213,14 +213,14 @@ betters-none counter reserved tested c0 c1 e = record {
   plain = λ whole plain. plain;
 }
 
-pub betters-held : (counter : Counter) (reserved n b : ℕ) (tested made : Tested) (form : Form) (scope' inner : List Held) (c0 c1 : List ℕ)
+pub betters-held : (counter : Counter) (reserved n b : ℕ) (tested made : Tested) (form : AffineForm) (scope' inner : List Held) (c0 c1 : List ℕ)
     → tested.limit ≡ Number n → form ≡ number n → scope' ≡ tested.scope.items → Takes c0 c1 counter scope' form reserved b inner
     → made.scope.items ≡ inner → made.register ≡ tested.register → made.limit ≡ Register b → Betters c0 c1 6 counter reserved tested made
 betters-held counter reserved n b tested made form scope' inner c0 c1 en ef es x' ei er el =
     let scope = tested.scope.items in
     let x = subst (λ k. Takes c0 c1 counter k form reserved b inner) es x' in
-    let s : inner ≡ record { register = b; form = number n } ∷ scope = x.is ∙ ap (λ (g : Form). record { register = b; form = g } ∷ scope) ef in
-    let z : sum_words form.per_hart form.sum.terms ≡ 2 = ap (λ (g : Form). sum_words g.per_hart g.sum.terms) ef in
+    let s : inner ≡ record { register = b; form = number n } ∷ scope = x.is ∙ ap (λ (g : AffineForm). record { register = b; form = g } ∷ scope) ef in
+    let z : sum_words form.per_hart form.sum.terms ≡ 2 = ap (λ (g : AffineForm). sum_words g.per_hart g.sum.terms) ef in
     record {
       gains = record {
         enters = subst (λ k. Enters c0 c1 6 counter scope k) (sym ei)
@@ -245,7 +245,7 @@ betters-held counter reserved n b tested made form scope' inner c0 c1 en ef es x
 
 -- ---- a loop is begun
 
-pub begun-is : (counter : Counter) (count reserved : ℕ) (scope : List Held) (wanted : List Form) (first middle last : Tested) (begun : Begun)
+pub begun-is : (counter : Counter) (count reserved : ℕ) (scope : List Held) (wanted : List AffineForm) (first middle last : Tested) (begun : BegunLoop)
     (c0 c1 c2 c3 : List ℕ)
     → mentions counter scope ≡ false → 1 ≤ count → Tests c0 c1 (10 + 2 * forms_words wanted) counter count scope reserved first
     → Gains c1 c2 (forms_words wanted) counter reserved first.scope.items middle.scope.items → middle.register ≡ first.register → middle.limit ≡ first.limit

@@ -10,16 +10,16 @@ use Rattle.rv_insn.specs.declared.operations.BranchOp.TheVariants as branches
 use Rattle.halide_pipeline.specs.Pixel.{Planes}
 use Rattle.loop_ir.specs.Buffers.{Points}
 use Rattle.loop_ir.specs.Counters.{Values}
-use Rattle.multi_hart_logic.specs.Alone.{World}
-use Rattle.multi_hart_logic.specs.Paths.{Spot, Stand, end, Path, Line}
-use Rattle.multi_hart_logic.proofs.Jumps as rules
-use Rattle.multi_hart_logic.proofs.Paths.{spot, path-then, line-then, stand-front, stand-back, end-append}
+use Rattle.multi_hart_laws.specs.Alone.{World}
+use Rattle.multi_hart_laws.specs.Paths.{Spot, Stand, end, Path, Line}
+use Rattle.multi_hart_laws.proofs.Jumps as rules
+use Rattle.multi_hart_laws.proofs.Paths.{spot, path-then, line-then, stand-front, stand-back, end-append}
 use Rattle.task_code_scalar.specs.Code.{forth}
 use Rattle.task_code_scalar.specs.Doing.{Setting, HoldsFuncs}
 use Rattle.task_code_scalar.specs.Words.{Emits}
 use Rattle.task_code_scalar.proofs.Looping.{end-length, forth-to}
 use Rattle.task_code_scalar.proofs.Spelling.{emits_then, emits-apart}
-use Rattle.task_code_registers.specs.declared.scopes.Form.{Form}
+use Rattle.task_code_registers.specs.declared.scopes.AffineForm.{AffineForm}
 use Rattle.task_code_registers.specs.declared.scopes.Held.{Held}
 use Rattle.task_code_registers.specs.Registers.{zero_register, address_register, scratch, second_scratch}
 use Rattle.task_code_registers.specs.Doing.{Did}
@@ -44,7 +44,7 @@ behind : (text : List ℕ) (at : ℕ) (is : List Insn) → Stand text at is → 
 behind text at [] s = s
 behind text at (i ∷ is) s = behind text (at + 4) is s.1
 
-module _ (scope : List Held) (form : Form) (extent : ℕ) (body : List Insn) (c0 c1 c2 c3 c4 c5 words : List ℕ)
+module _ (scope : List Held) (form : AffineForm) (extent : ℕ) (body : List Insn) (c0 c1 c2 c3 c4 c5 words : List ℕ)
     (x : MakesValue c0 c1 scope form address_register) (y : Makes c1 c2 2 scratch (λ f. extent))
     (z : Emits c2 c3 (Branch branches.Bltu address_register scratch (pos 4) ∷ [])) (j : Emits c3 c4 (Jal zero_register (forth (length body + 1)) ∷ []))
     (b : Emits [] words body) (e : c5 ≡ c4 ++ words) where

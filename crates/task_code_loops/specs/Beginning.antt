@@ -1,47 +1,47 @@
--- What stands in front of a loop: forms that registers hold, and what tells behind each iteration whether there is a next one.
+-- What stands in front of a loop: forms that registers hold, and what tells after each iteration whether there is a next one.
 -- This project's own.
 use Rattle.std.specs.Prelude.{◌≡◌, ◌<◌, ◌≤◌, ℕ, suc, ◌+◌, ◌*◌, ◌^◌, nat_lt, Bool, true, false, List, [], ◌∷◌, Option, IfSome}
 use Rattle.rv_insn.specs.declared.operations.BranchOp.TheVariants as branches
 use Rattle.hart_core.specs.Scalar.{is_taken}
 use Rattle.loop_ir.specs.declared.expressions.Counter.{Counter}
 use Rattle.loop_ir.specs.Counters.{Values, same_counter, with}
-use Rattle.task_code_registers.specs.declared.scopes.Form.{Form}
+use Rattle.task_code_registers.specs.declared.scopes.AffineForm.{AffineForm}
 use Rattle.task_code_registers.specs.declared.scopes.Held.{Held}
 use Rattle.task_code_registers.specs.Emitting.{MakesValue, sum_words}
 use Rattle.task_code_registers.specs.Holding.{Enters, Takes, can_advance, mentions, moving}
 use Rattle.task_code_registers.specs.Registers.{may_hold}
 use Rattle.task_code_registers.specs.Scopes.{Knows, are_registers, has_variable, have_registers, left_count}
-use Rattle.task_code_loops.specs.declared.beginning.Begun.{Begun}
+use Rattle.task_code_loops.specs.declared.beginning.BegunLoop.{BegunLoop}
 use Rattle.task_code_loops.specs.declared.tests.Limit.{Limit}
 use Rattle.task_code_loops.specs.declared.tests.Limit.TheVariants.{Register, Number}
 use Rattle.task_code_loops.specs.declared.tests.Tested.{Tested}
 
 -- a loop variable as a form
-abbrev pub variable : Counter → Form
+abbrev pub variable : Counter → AffineForm
 variable counter = record {
   sum = record { number = 0; terms = record { counter = counter; stride = 1 } ∷ [] };
   per_hart = 0;
 }
 
 -- a number as a form
-abbrev pub number : ℕ → Form
+abbrev pub number : ℕ → AffineForm
 number n = record { sum = record { number = n; terms = [] }; per_hart = 0 }
 
 -- how many instructions at most make each of these forms
-abbrev pub forms_words : List Form → ℕ
+abbrev pub forms_words : List AffineForm → ℕ
 forms_words [] = 0
 forms_words (form ∷ others) = sum_words form.per_hart form.sum.terms + forms_words others
 
 -- a form's value is made in a register, if it says so
-abbrev pub MakesIf : List ℕ → List ℕ → List Held → Form → ℕ → Bool → Type 0
+abbrev pub MakesIf : List ℕ → List ℕ → List Held → AffineForm → ℕ → Bool → Type 0
 MakesIf old new scope form r made = made ≡ true → MakesValue old new scope form r
 
 -- a loop variable of the form has no register
-abbrev pub HasNoRegister : List Held → Form → Type 0
+abbrev pub HasNoRegister : List Held → AffineForm → Type 0
 HasNoRegister scope form = have_registers scope form.sum.terms ≡ false
 
 -- or there is no code
-abbrev pub IsUnknownIf : List ℕ → List ℕ → List Held → Form → Bool → Type 0
+abbrev pub IsUnknownIf : List ℕ → List ℕ → List Held → AffineForm → Bool → Type 0
 IsUnknownIf old new scope form made = made ≡ false → (new ≡ old) × HasNoRegister scope form
 
 -- ---- when a loop ends
@@ -75,7 +75,7 @@ pub record HoldsPlainly (counter : Counter) (scope inner : List Held) : Type 0 w
 -- ---- before a loop
 
 -- If a register is found, it is given to the form, as it is in the first iteration, and so many stay free.
-abbrev pub StartsIf : List ℕ → List ℕ → Counter → List Held → Form → ℕ → Option ℕ → Type 0
+abbrev pub StartsIf : List ℕ → List ℕ → Counter → List Held → AffineForm → ℕ → Option ℕ → Type 0
 StartsIf old new counter scope form reserved found =
     IfSome found (λ r. Takes old new counter scope form reserved r (record { register = r; form = form } ∷ scope))
 
@@ -86,10 +86,10 @@ pub record Gains (old new : List ℕ) (most : ℕ) (counter : Counter) (reserved
   pub left : reserved ≤ left_count scope → reserved ≤ left_count inner
 
 -- so it is for one form, and for several
-abbrev pub GainsForm : List ℕ → List ℕ → Counter → Form → ℕ → List Held → List Held → Type 0
+abbrev pub GainsForm : List ℕ → List ℕ → Counter → AffineForm → ℕ → List Held → List Held → Type 0
 GainsForm old new counter form reserved scope inner = Gains old new (sum_words form.per_hart form.sum.terms) counter reserved scope inner
 
-abbrev pub GainsOf : List ℕ → List ℕ → Counter → List Form → ℕ → List Held → List Held → Type 0
+abbrev pub GainsOf : List ℕ → List ℕ → Counter → List AffineForm → ℕ → List Held → List Held → Type 0
 GainsOf old new counter forms reserved scope inner = Gains old new (forms_words forms) counter reserved scope inner
 
 -- a scope in which there is a test
@@ -100,10 +100,10 @@ pub record Tests (old new : List ℕ) (most : ℕ) (counter : Counter) (count : 
   pub test : IsTest counter count tested.scope.items tested.register tested.limit
 
 -- by a form, or by one of several
-abbrev pub TestsForm : List ℕ → List ℕ → Form → Counter → ℕ → List Held → ℕ → Tested → Type 0
+abbrev pub TestsForm : List ℕ → List ℕ → AffineForm → Counter → ℕ → List Held → ℕ → Tested → Type 0
 TestsForm old new form counter count scope reserved tested = Tests old new (10 + 2 * sum_words form.per_hart form.sum.terms) counter count scope reserved tested
 
-abbrev pub TestsForms : List ℕ → List ℕ → List Form → Counter → ℕ → List Held → ℕ → Tested → Type 0
+abbrev pub TestsForms : List ℕ → List ℕ → List AffineForm → Counter → ℕ → List Held → ℕ → Tested → Type 0
 TestsForms old new wanted counter count scope reserved tested = Tests old new (10 + 2 * forms_words wanted) counter count scope reserved tested
 
 -- Another scope, in which there is a test wherever there is one in this scope, and which holds no more than a limit beside it.
@@ -114,17 +114,17 @@ pub record Betters (old new : List ℕ) (most : ℕ) (counter : Counter) (reserv
   pub plain : (scope : List Held) → HoldsPlainly counter scope tested.scope.items → HoldsPlainly counter scope made.scope.items
 
 -- how many instructions at most stand in front of a loop for which these forms are wanted
-abbrev pub begin_words : List Form → ℕ
+abbrev pub begin_words : List AffineForm → ℕ
 begin_words wanted = 16 + 3 * forms_words wanted
 
 -- a loop's iterations can go along with what registers hold, and they end
-pub record CanEnd (begun : Begun) : Type 0 where
+pub record CanEnd (begun : BegunLoop) : Type 0 where
   pub can : can_advance begun.counter begun.inner.items ≡ true
   pub test : IsTest begun.counter begun.count begun.inner.items begun.register begun.limit
   pub some : 1 ≤ begun.count
 
 -- A loop of so many iterations is entered, and so many registers are left.
-pub record IsBegun (old new : List ℕ) (most : ℕ) (counter : Counter) (count : ℕ) (scope : List Held) (reserved : ℕ) (begun : Begun) : Type 0 where
+pub record IsBegun (old new : List ℕ) (most : ℕ) (counter : Counter) (count : ℕ) (scope : List Held) (reserved : ℕ) (begun : BegunLoop) : Type 0 where
   pub enters : Enters old new most counter scope begun.inner.items
   pub ends : CanEnd begun
   pub counter_is : begun.counter ≡ counter
@@ -132,5 +132,5 @@ pub record IsBegun (old new : List ℕ) (most : ℕ) (counter : Counter) (count 
   pub left : reserved ≤ left_count begun.inner.items
 
 -- of these forms as far as there is room
-abbrev pub Begins : List ℕ → List ℕ → List Form → Counter → ℕ → List Held → ℕ → Begun → Type 0
+abbrev pub Begins : List ℕ → List ℕ → List AffineForm → Counter → ℕ → List Held → ℕ → BegunLoop → Type 0
 Begins old new wanted counter count scope reserved begun = IsBegun old new (begin_words wanted) counter count scope reserved begun

@@ -4,7 +4,7 @@ use Rattle.loop_ir.specs.declared.expressions.Counter.{Counter}
 use Rattle.loop_ir.specs.declared.expressions.Term.{Term}
 use Rattle.loop_ir.specs.Counters.{Values}
 use Rattle.loop_ir.specs.Expressions.{sum_of}
-use Rattle.task_code_registers.specs.declared.scopes.Form.{Form}
+use Rattle.task_code_registers.specs.declared.scopes.AffineForm.{AffineForm}
 use Rattle.task_code_registers.specs.Scopes.{form_value}
 use Rattle.task_code_loops.specs.declared.bounds.Bound.{Bound}
 
@@ -22,5 +22,5 @@ abbrev pub IsMost : List Bound → List Term → ℕ → Type 0
 IsMost bounds terms most = (values : Values) → AreBelow bounds values → sum_of values terms ≤ most
 
 -- a form stays below an extent
-abbrev pub IsBelow : List Bound → Form → ℕ → Type 0
+abbrev pub IsBelow : List Bound → AffineForm → ℕ → Type 0
 IsBelow bounds form extent = (hart : ℕ) (values : Values) → AreBelow bounds values → form_value hart values form < extent

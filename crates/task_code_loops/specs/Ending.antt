@@ -1,4 +1,4 @@
--- What stands behind a loop's body, and what the whole loop does. This project's own.
+-- What stands after a loop's body, and what the whole loop does. This project's own.
 use Rattle.std.specs.Prelude.{◌≡◌, ◌≢◌, ◌<◌, ◌≤◌, ℕ, suc, ◌+◌, ◌*◌, ◌-◌, false, true, List, ◌++◌, length}
 use Rattle.rv_insn.specs.declared.instructions.Insn.{Insn}
 use Rattle.rv_insn.specs.declared.operations.BranchOp.TheVariants as branches
@@ -7,9 +7,9 @@ use Rattle.halide_pipeline.specs.Pixel.{Planes}
 use Rattle.loop_ir.specs.declared.expressions.Counter.{Counter}
 use Rattle.loop_ir.specs.Buffers.{Points}
 use Rattle.loop_ir.specs.Counters.{Values, with}
-use Rattle.loop_ir.specs.Running.{turns}
-use Rattle.multi_hart_logic.specs.Alone.{World}
-use Rattle.multi_hart_logic.specs.Paths.{Spot, Stand, end, Path, Line}
+use Rattle.loop_ir.specs.Running.{iterated}
+use Rattle.multi_hart_laws.specs.Alone.{World}
+use Rattle.multi_hart_laws.specs.Paths.{Spot, Stand, end, Path, Line}
 use Rattle.task_code_scalar.specs.Doing.{Setting, HoldsFuncs}
 use Rattle.task_code_scalar.specs.Fitting.{total}
 use Rattle.task_code_scalar.specs.Words.{Emits}
@@ -19,11 +19,11 @@ use Rattle.task_code_registers.specs.Holding.{IsSteady, mentions, moving}
 use Rattle.task_code_registers.specs.Looping.{StoresOf}
 use Rattle.task_code_registers.specs.Registers.{zero_register, scratch, second_scratch}
 use Rattle.task_code_registers.specs.Scopes.{Knows, AreHolders, IsKept}
-use Rattle.task_code_loops.specs.declared.beginning.Begun.{Begun}
+use Rattle.task_code_loops.specs.declared.beginning.BegunLoop.{BegunLoop}
 use Rattle.task_code_loops.specs.declared.tests.Limit.{Limit}
 use Rattle.task_code_loops.specs.Beginning.{limit_of, IsBegun}
 
--- ---- behind the body
+-- ---- after the body
 
 -- straight code that leaves a limit in a register; the scratch registers may change
 pub record LeavesLimit (world : World) (memory : List ℕ) (insns : List Insn) (f : ℕ → ℕ) (limit : Limit) (r : ℕ) : Type 0 where
@@ -64,8 +64,8 @@ pub record DoesEach (own : Setting) (hart : ℕ) (inner : List Held) (counter : 
 abbrev pub StaysIn : Counter → List Held → ℕ → Type 0
 StaysIn counter inner q = IsKept inner q × IsSteady counter inner q
 
--- What stands behind a body makes of the numbers of an iteration those of the next one, and goes back to the body if there is one, else on.
-pub record Turned (world : World) (keeps_it : ℕ → Type 0) (mark_is : (ℕ → ℕ) → Type 0) (n : ℕ) (body tail : List Insn) (i cost : ℕ) (f : ℕ → ℕ)
+-- What stands after a body makes of the numbers of an iteration those of the next one, and goes back to the body if there is one, else on.
+pub record Advanced (world : World) (keeps_it : ℕ → Type 0) (mark_is : (ℕ → ℕ) → Type 0) (n : ℕ) (body tail : List Insn) (i cost : ℕ) (f : ℕ → ℕ)
     (memory : List ℕ) : Type 0 where
   pub after : ℕ → ℕ
   pub keeps : (q : ℕ) → keeps_it q → after q ≡ f q
@@ -73,32 +73,32 @@ pub record Turned (world : World) (keeps_it : ℕ → Type 0) (mark_is : (ℕ �
   pub again : suc i < n → (at : ℕ) → Stand world.text at (body ++ tail) → Path world (end at body) at cost f memory after memory
   pub leaves : suc i ≡ n → (at : ℕ) → Stand world.text at (body ++ tail) → Path world (end at body) (end at (body ++ tail)) cost f memory after memory
 
--- how many instructions at most stand behind a body
-abbrev pub end_words : Begun → ℕ
+-- how many instructions at most stand after a body
+abbrev pub end_words : BegunLoop → ℕ
 end_words begun = 3 * moving begun.counter begun.inner.items + 4
 
--- What is appended behind a body of so many words makes a loop of it.
-pub record EndsLoop (old new : List ℕ) (begun : Begun) (words : ℕ) : Type 0 where
+-- What is appended after a body of so many words makes a loop of it.
+pub record EndsLoop (old new : List ℕ) (begun : BegunLoop) (words : ℕ) : Type 0 where
   pub insns : List Insn
   pub emits : Emits old new insns
   pub short : length insns ≤ end_words begun
   pub cost : ℕ → ℕ
   -- whatever the body does beside
-  pub turned : (world : World) (hart : ℕ) (values : Values) (body : List Insn) (i : ℕ) (f : ℕ → ℕ) (memory : List ℕ) → length body ≡ words
+  pub advanced : (world : World) (hart : ℕ) (values : Values) (body : List Insn) (i : ℕ) (f : ℕ → ℕ) (memory : List ℕ) → length body ≡ words
       → AreHolders begun.inner.items → i < begun.count → length memory ≡ world.size → Knows hart begun.inner.items (with begun.counter i values) f
-      → Turned world (IsSteady begun.counter begun.inner.items) (Knows hart begun.inner.items (with begun.counter (suc i) values)) begun.count body insns i
+      → Advanced world (IsSteady begun.counter begun.inner.items) (Knows hart begun.inner.items (with begun.counter (suc i) values)) begun.count body insns i
       (cost i) f memory
   pub does : (own : Setting) (hart : ℕ) (values : Values) (body : List Insn) (t : ℕ → ℕ) (one : ℕ → Planes → Planes) (body_stored stored : ℕ → Planes → Points)
       → length body ≡ words → AreHolders begun.inner.items
       → DoesEach own hart begun.inner.items begun.counter values begun.count body t one body_stored → StoresOf stored body_stored one
       → (f : ℕ → ℕ) (memory : List ℕ) (funcs : Planes) → HoldsFuncs own memory funcs → Knows hart begun.inner.items (with begun.counter 0 values) f
-      → Did own (body ++ insns) (total begun.count (λ i. t i + cost i)) f memory (StaysIn begun.counter begun.inner.items) (turns begun.count one funcs)
+      → Did own (body ++ insns) (total begun.count (λ i. t i + cost i)) f memory (StaysIn begun.counter begun.inner.items) (iterated begun.count one funcs)
       (stored begun.count funcs)
 
 -- ---- a whole loop
 
 -- Appended code does the iterations of a loop one after the other, where its body does each of them. It takes so many turns before the first one,
--- and so many behind each.
+-- and so many after each.
 pub record MakesLoop (old new : List ℕ) (most : ℕ) (scope inner : List Held) (counter : Counter) (count : ℕ) (body : List Insn) : Type 0 where
   pub insns : List Insn
   pub emits : Emits old new insns
@@ -109,11 +109,11 @@ pub record MakesLoop (old new : List ℕ) (most : ℕ) (scope inner : List Held)
   pub does : (own : Setting) (hart : ℕ) (values : Values) (t : ℕ → ℕ) (one : ℕ → Planes → Planes) (body_stored stored : ℕ → Planes → Points)
       → AreHolders scope → DoesEach own hart inner counter values count body t one body_stored → StoresOf stored body_stored one
       → (f : ℕ → ℕ) (memory : List ℕ) (funcs : Planes) → HoldsFuncs own memory funcs → Knows hart scope values f
-      → Did own insns (before + total count (λ i. t i + cost i)) f memory (IsKept scope) (turns count one funcs) (stored count funcs)
+      → Did own insns (before + total count (λ i. t i + cost i)) f memory (IsKept scope) (iterated count one funcs) (stored count funcs)
 
--- What is begun, and ended behind its body, is a loop.
+-- What is begun, and ended after its body, is a loop.
 abbrev pub LoopsAreMade : Type 0
 LoopsAreMade =
-    (c0 c1 c2 c3 : List ℕ) (most : ℕ) (counter : Counter) (count reserved : ℕ) (scope : List Held) (begun : Begun) (body : List Insn)
+    (c0 c1 c2 c3 : List ℕ) (most : ℕ) (counter : Counter) (count reserved : ℕ) (scope : List Held) (begun : BegunLoop) (body : List Insn)
     → mentions counter scope ≡ false → IsBegun c0 c1 most counter count scope reserved begun → Emits c1 c2 body
     → EndsLoop c2 c3 begun (length c2 - length c1) → MakesLoop c0 c3 (most + end_words begun) scope begun.inner.items counter count body

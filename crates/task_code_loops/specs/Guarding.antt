@@ -1,16 +1,16 @@
--- A test over a body, and code behind other code. This project's own.
+-- A test over a body, and code after other code. This project's own.
 use Rattle.std.specs.Prelude.{◌≡◌, ◌≢◌, ◌⊎◌, ◌<◌, ◌≤◌, ℕ, suc, ◌+◌, nat_lt, Bool, true, false, if◌then◌else◌, List, [], ◌++◌, length}
 use Rattle.rv_insn.specs.declared.instructions.Insn.{Insn}
 use Rattle.halide_pipeline.specs.Pixel.{Planes}
 use Rattle.loop_ir.specs.declared.expressions.Counter.{Counter}
 use Rattle.loop_ir.specs.Buffers.{Points}
 use Rattle.loop_ir.specs.Counters.{Values, with}
-use Rattle.loop_ir.specs.Running.{turns}
-use Rattle.multi_hart_logic.specs.Alone.{World}
-use Rattle.multi_hart_logic.specs.Paths.{Stand, Path, end}
+use Rattle.loop_ir.specs.Running.{iterated}
+use Rattle.multi_hart_laws.specs.Alone.{World}
+use Rattle.multi_hart_laws.specs.Paths.{Stand, Path, end}
 use Rattle.task_code_scalar.specs.Doing.{Setting, HoldsFuncs}
 use Rattle.task_code_scalar.specs.Words.{Emits}
-use Rattle.task_code_registers.specs.declared.scopes.Form.{Form}
+use Rattle.task_code_registers.specs.declared.scopes.AffineForm.{AffineForm}
 use Rattle.task_code_registers.specs.declared.scopes.Held.{Held}
 use Rattle.task_code_registers.specs.Doing.{Did}
 use Rattle.task_code_registers.specs.Emitting.{sum_words}
@@ -31,8 +31,8 @@ pub record Comes (world : World) (whole : List Insn) (to : ℕ → ℕ) (n : ℕ
   pub keeps : (q : ℕ) → q ≢ scratch → q ≢ second_scratch → q ≢ address_register → after q ≡ f q
   pub path : (at : ℕ) → Stand world.text at whole → Path world at (to at) n f memory after memory
 
--- Appended code does what a body does where a form is below an extent, and else nothing. Its turns hang on that and on the body's alone.
-pub record Guards (old new : List ℕ) (most : ℕ) (scope : List Held) (form : Form) (extent : ℕ) (body : List Insn) : Type 0 where
+-- Appended code does what a body does where a form is below an extent, and else nothing. Its turns depend on that and on the body's alone.
+pub record Guards (old new : List ℕ) (most : ℕ) (scope : List Held) (form : AffineForm) (extent : ℕ) (body : List Insn) : Type 0 where
   pub insns : List Insn
   pub emits : Emits old new insns
   pub short : length insns ≤ most + length body
@@ -52,11 +52,11 @@ pub record Guards (old new : List ℕ) (most : ℕ) (scope : List Held) (form : 
       (if nat_lt (form_value hart values form) extent then left else funcs) (stored_if (nat_lt (form_value hart values form) extent) stored)
 
 -- so it is of a body whose words were made apart
-abbrev pub GuardsWords : List ℕ → List ℕ → List Held → Form → ℕ → List ℕ → Type 0
+abbrev pub GuardsWords : List ℕ → List ℕ → List Held → AffineForm → ℕ → List ℕ → Type 0
 GuardsWords old new scope form extent words =
     (insns : List Insn) → Emits [] words insns → Guards old new (sum_words form.per_hart form.sum.terms + 4) scope form extent insns
 
--- ---- code behind other code
+-- ---- code after other code
 
 -- Code does what it does where a scope's registers hold their forms, and keeps them.
 abbrev pub CodeFollows : Type 0
@@ -74,9 +74,9 @@ CodeFollows =
 pub record DoesFirst (own : Setting) (hart : ℕ) (scope : List Held) (values : Values) (k : ℕ) (code : List Insn) (n : ℕ)
     (one : ℕ → Planes → Planes) (stored : ℕ → Planes → Points) : Type 0 where
   pub does : (f : ℕ → ℕ) (memory : List ℕ) (funcs : Planes) → HoldsFuncs own memory funcs → Knows hart scope values f
-      → Did own code n f memory (IsKept scope) (turns k one funcs) (stored k funcs)
+      → Did own code n f memory (IsKept scope) (iterated k one funcs) (stored k funcs)
 
--- no code does none, and code of one iteration behind that of the ones before does one more
+-- no code does none, and code of one iteration after that of the ones before does one more
 abbrev pub NoneAreLaidOut : Type 0
 NoneAreLaidOut =
     (own : Setting) (hart : ℕ) (scope : List Held) (values : Values) (one : ℕ → Planes → Planes) (body_stored stored : ℕ → Planes → Points)

@@ -11,13 +11,13 @@ use crate::holding::hold_all;
 use crate::tests::{Limit, Tested, begin_test, hold_limit};
 use loop_ir::expressions::Counter;
 use std::alloc::Global;
-use task_code_registers::scopes::{Form, Held};
+use task_code_registers::scopes::{AffineForm, Held};
 use task_code_scalar::CodeFault;
 
 /// A loop whose body may be appended: what registers hold in its iterations, the one of them that tells whether there
 /// is a next one, and what it is compared with.
 #[derive(Debug)]
-pub struct Begun {
+pub struct BegunLoop {
     pub counter: Counter,
     pub count: u32,
     pub inner: Vec<Held>,
@@ -26,9 +26,9 @@ pub struct Begun {
 }
 
 /// Written out, so that a check sees a call wherever one is dropped, and not the drops of its parts.
-impl Drop for Begun {
+impl Drop for BegunLoop {
     fn drop(self) {
-        let Begun {
+        let BegunLoop {
             inner,
             counter: _,
             count: _,
@@ -51,9 +51,9 @@ pub fn begin_loop(
     code: &mut Vec<u32>,
     scope: &[Held],
     own: Bound,
-    wanted: &[Form],
+    wanted: &[AffineForm],
     reserved: usize,
-) -> Result<Begun, CodeFault>
+) -> Result<BegunLoop, CodeFault>
     requires steady { mentions own.counter scope.now ≡ false }
     requires some { 1 ≤ own.count }
     requires few { reserved < 2 ^ 32 }
@@ -74,7 +74,7 @@ pub fn begin_loop(
         limit,
     };
     let last = hold_limit(alloc, code, tested, own.counter, reserved)?;
-    Ok(Begun {
+    Ok(BegunLoop {
         counter: own.counter,
         count: own.count,
         inner: last.scope,

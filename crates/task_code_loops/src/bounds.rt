@@ -4,7 +4,7 @@ ghost use Rattle.std.specs.Prelude.{◌≡◌, IfSome, true};
 ghost use Rattle.task_code_loops.specs.Bounds.{IsBelow, IsBound, IsMost};
 
 use loop_ir::expressions::{Counter, Term, same_counter};
-use task_code_registers::scopes::Form;
+use task_code_registers::scopes::AffineForm;
 
 /// A loop variable, and how many iterations its loop has.
 #[derive(Clone, Copy, Debug)]
@@ -50,7 +50,7 @@ pub fn most_of(terms: &[Term], bounds: &[Bound]) -> Option<u64>
 }
 
 /// Whether a form is known to stay below an extent: then it needs no test.
-pub fn is_below(form: &Form, bounds: &[Bound], extent: u32) -> bool
+pub fn is_below(form: &AffineForm, bounds: &[Bound], extent: u32) -> bool
     ensures { result ≡ true → IsBelow bounds.now form.now extent }
 {
     if form.per_hart != 0 {

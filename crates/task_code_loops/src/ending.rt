@@ -1,4 +1,4 @@
-//! What stands behind a loop's body.
+//! What stands after a loop's body.
 
 ghost use Rattle.std.specs.Prelude.{◌≡◌, ◌+◌, ◌*◌, ◌-◌, ◌^◌, ◌<◌, ◌≤◌, [], ◌∷◌, length};
 ghost use Rattle.std.specs.Prelude.{IfErr, IfOk, OnOk, pos, true};
@@ -11,7 +11,7 @@ ghost use Rattle.task_code_loops.specs.Beginning as beginning;
 ghost use Rattle.task_code_loops.specs.Beginning.{CanEnd};
 ghost use Rattle.task_code_loops.specs.Ending.{EndsLoop, GoesBack, MakesLimit, end_words};
 
-use crate::beginning::Begun;
+use crate::beginning::BegunLoop;
 use crate::tests::Limit;
 use rv_insn::{BranchOffset, BranchOp, Insn};
 use std::alloc::AllocError;
@@ -94,13 +94,13 @@ fn emit_back(code: &mut Vec<u32>, a: u8, b: u8, words: usize) -> Result<(), Code
     Ok(())
 }
 
-/// Appends what stands behind the body of a loop, which begins at a place of the code: what makes of the forms of an
+/// Appends what stands after the body of a loop, which begins at a place of the code: what makes of the forms of an
 /// iteration those of the next one, and the way back to the body while there is one.
 ///
 /// # Errors
 ///
 /// Memory ran out, or the body has nearly as many words as a text may have.
-pub fn end_loop(code: &mut Vec<u32>, begun: &Begun, body_start: usize) -> Result<(), CodeFault>
+pub fn end_loop(code: &mut Vec<u32>, begun: &BegunLoop, body_start: usize) -> Result<(), CodeFault>
     requires begun { CanEnd begun.now }
     requires start { body_start ≤ length code.old.items }
     ensures ok { OnOk result (EndsLoop code.old.items code.new.items begun.now (length code.old.items - body_start)) }

@@ -8,7 +8,7 @@ ghost use Rattle.task_code_loops.specs.Guarding.{GuardsWords};
 use crate::holding::emit_known;
 use task_code_registers::numbers::emit_number;
 use task_code_registers::registers::{ADDRESS, SCRATCH};
-use task_code_registers::scopes::{Form, Held};
+use task_code_registers::scopes::{AffineForm, Held};
 use task_code_scalar::instructions::{branch_below, jump_forth};
 use task_code_scalar::{CodeFault, append};
 
@@ -21,7 +21,7 @@ use task_code_scalar::{CodeFault, append};
 pub fn emit_guarded(
     code: &mut Vec<u32>,
     scope: &[Held],
-    form: &Form,
+    form: &AffineForm,
     extent: u32,
     body: &[u32],
 ) -> Result<(), CodeFault>

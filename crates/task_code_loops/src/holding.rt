@@ -7,9 +7,9 @@ ghost use Rattle.task_code_loops.specs.Beginning.{GainsForm, GainsOf, IsUnknownI
 
 use loop_ir::expressions::Counter;
 use std::alloc::{AllocError, Global};
-use task_code_registers::holding::{Taken, at_value};
+use task_code_registers::holding::{WidenedScope, at_value};
 use task_code_registers::numbers::emit_plus;
-use task_code_registers::scopes::{Form, Held, free_register, holding_too, with_held};
+use task_code_registers::scopes::{AffineForm, Held, free_register, holding_too, with_held};
 use task_code_registers::sums::{emit_form, find, have_registers, nearest};
 
 /// Appends what leaves a form's value in a register, where its loop variables have registers or a form near it is held.
@@ -21,7 +21,7 @@ use task_code_registers::sums::{emit_form, find, have_registers, nearest};
 pub fn emit_known(
     code: &mut Vec<u32>,
     scope: &[Held],
-    form: &Form,
+    form: &AffineForm,
     register: u8,
 ) -> Result<bool, AllocError>
     requires { IsPlace register }
@@ -48,7 +48,7 @@ fn start_known(
     code: &mut Vec<u32>,
     scope: &[Held],
     counter: Counter,
-    form: &Form,
+    form: &AffineForm,
     reserved: usize,
 ) -> Result<Option<u8>, AllocError>
     ensures some { IfOk result (StartsIf code.old.items code.new.items counter scope.now form.now reserved) }
@@ -78,9 +78,9 @@ pub fn hold_known(
     code: &mut Vec<u32>,
     scope: &[Held],
     counter: Counter,
-    form: &Form,
+    form: &AffineForm,
     reserved: usize,
-) -> Result<Option<Taken>, AllocError>
+) -> Result<Option<WidenedScope>, AllocError>
     ensures some { IfOk result (TakesIf code.old.items code.new.items counter scope.now form.now reserved) }
     ensures none { IfOk result (λ made. made ≡ None → code.new.items ≡ code.old.items) }
 {
@@ -88,7 +88,7 @@ pub fn hold_known(
         None => Ok(None),
         Some(register) => {
             let inner = with_held(alloc, scope, register, form)?;
-            Ok(Some(Taken {
+            Ok(Some(WidenedScope {
                 scope: inner,
                 register,
             }))
@@ -102,7 +102,7 @@ fn hold_wanted(
     code: &mut Vec<u32>,
     scope: Vec<Held>,
     counter: Counter,
-    form: &Form,
+    form: &AffineForm,
     reserved: usize,
 ) -> Result<Vec<Held>, AllocError>
     ensures { IfOk result (λ s. GainsForm code.old.items code.new.items counter form.now reserved scope.items s.items) }
@@ -129,7 +129,7 @@ pub fn hold_all(
     code: &mut Vec<u32>,
     scope: Vec<Held>,
     counter: Counter,
-    forms: &[Form],
+    forms: &[AffineForm],
     reserved: usize,
 ) -> Result<Vec<Held>, AllocError>
     ensures gains { IfOk result (λ s. GainsOf code.old.items code.new.items counter forms.now reserved scope.items

@@ -9,26 +9,26 @@ use halide_pipeline::words;
 use loop_ir::expressions::{Counter, Linear, Term, same_counter};
 use sqlite_items::Items;
 use std::alloc::{AllocError, Global};
-use task_code_registers::scopes::Form;
+use task_code_registers::scopes::AffineForm;
 use task_code_registers::terms::with_room;
 
 /// A loop variable, and the sum that it is.
 #[derive(Debug)]
-pub struct Known {
+pub struct KnownSum {
     pub counter: Counter,
     pub sum: Linear,
 }
 
 /// Written out, so that a check sees a call wherever one is dropped, and not the drops of its parts.
-impl Drop for Known {
+impl Drop for KnownSum {
     fn drop(self) {
-        let Known { sum, counter: _ } = self;
+        let KnownSum { sum, counter: _ } = self;
         drop(sum);
     }
 }
 
 /// The sum that a loop variable is, if that is known.
-fn known_sum<'a>(known: &'a [Known], counter: Counter) -> Option<&'a Linear>
+fn known_sum<'a>(known: &'a [KnownSum], counter: Counter) -> Option<&'a Linear>
     ensures { IfSome result (λ sum. IsKnownSum known.now counter sum.now) }
 {
     match known {
@@ -65,7 +65,7 @@ pub fn add_scaled(made: &mut Items<Term>, terms: &[Term], factor: u32) -> Result
 }
 
 /// Adds terms to a sum, those of known loop variables by the sums that these are.
-fn add_known(made: &mut Linear, terms: &[Term], known: &[Known]) -> Result<(), AllocError>
+fn add_known(made: &mut Linear, terms: &[Term], known: &[KnownSum]) -> Result<(), AllocError>
     ensures { OnOk result (AddsTerms known.now made.old made.new terms.now) }
 {
     match terms {
@@ -79,7 +79,7 @@ fn add_known(made: &mut Linear, terms: &[Term], known: &[Known]) -> Result<(), A
 }
 
 /// One term.
-fn add_one(made: &mut Linear, term: &Term, known: &[Known]) -> Result<(), AllocError>
+fn add_one(made: &mut Linear, term: &Term, known: &[KnownSum]) -> Result<(), AllocError>
     ensures { OnOk result (AddsTerm known.now made.old made.new term.now) }
 {
     match known_sum(known, term.counter) {
@@ -101,7 +101,7 @@ fn add_one(made: &mut Linear, term: &Term, known: &[Known]) -> Result<(), AllocE
 /// # Errors
 ///
 /// Memory ran out.
-pub fn sum_by_others(alloc: Global, own: &Linear, known: &[Known]) -> Result<Linear, AllocError>
+pub fn sum_by_others(alloc: Global, own: &Linear, known: &[KnownSum]) -> Result<Linear, AllocError>
     ensures { IfOk result (IsRewrittenSum known.now own.now) }
 {
     if known.is_empty() {
@@ -123,11 +123,15 @@ pub fn sum_by_others(alloc: Global, own: &Linear, known: &[Known]) -> Result<Lin
 /// # Errors
 ///
 /// Memory ran out.
-pub fn by_others(alloc: Global, form: &Form, known: &[Known]) -> Result<Form, AllocError>
+pub fn by_others(
+    alloc: Global,
+    form: &AffineForm,
+    known: &[KnownSum],
+) -> Result<AffineForm, AllocError>
     ensures { IfOk result (IsRewritten known.now form.now) }
 {
     let sum = sum_by_others(alloc, &form.sum, known)?;
-    Ok(Form {
+    Ok(AffineForm {
         sum,
         per_hart: form.per_hart,
     })

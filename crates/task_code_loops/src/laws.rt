@@ -1,15 +1,15 @@
-//! Laws of loops, and of code behind other code.
+//! Laws of loops, and of code after other code.
 
 ghost use Rattle.task_code_loops.specs.Ending.{LoopsAreMade};
 ghost use Rattle.task_code_loops.specs.Guarding.{CodeFollows, NoneAreLaidOut, OneMoreIsLaidOut, ScopesForget};
 ghost use Rattle.task_code_loops.specs.Known.{KnownStays, OneMoreIsKnown};
 
-/// What is begun, and ended behind its body, is a loop.
+/// What is begun, and ended after its body, is a loop.
 pub fn loops_are_made()
     ensures { LoopsAreMade }
 {}
 
-/// Code does what it does behind other code that keeps a scope's registers.
+/// Code does what it does after other code that keeps a scope's registers.
 pub fn code_follows()
     ensures { CodeFollows }
 {}
@@ -19,7 +19,7 @@ pub fn none_are_laid_out()
     ensures { NoneAreLaidOut }
 {}
 
-/// Code of one iteration behind that of those before it does one more.
+/// Code of one iteration after that of those before it does one more.
 pub fn one_more_is_laid_out()
     ensures { OneMoreIsLaidOut }
 {}

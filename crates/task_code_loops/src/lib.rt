@@ -4,13 +4,13 @@
 //! - [`holding`]: appends what holds the forms that a body wants.
 //! - [`tests`]: which register tells when a loop ends, and what it is compared with.
 //! - [`beginning`]: appends what stands in front of a loop (`specs/Beginning.antt`).
-//! - [`ending`]: appends what stands behind its body, and goes back (`specs/Ending.antt`).
+//! - [`ending`]: appends what stands after its body, and goes back (`specs/Ending.antt`).
 //! - [`guards`]: appends a test over a body (`specs/Guarding.antt`).
 //! - [`bounds`]: whether a form stays below an extent, so that it needs no test (`specs/Bounds.antt`).
 //! - [`known`]: loop variables that are sums of others, or numbers, and sums without them (`specs/Known.antt`).
 //! - [`sums`]: what operations make of sums, where it is a sum again (`specs/Sums.antt`).
 //! - [`wanted`]: which forms a body wants in registers, and [`uses`]: how often it uses them, guesses.
-//! - [`laws`]: what is begun and ended is a loop; code behind other code, and iterations that are laid out.
+//! - [`laws`]: what is begun and ended is a loop; code after other code, and iterations that are laid out.
 #![tactic(auto)]
 
 pub mod beginning;

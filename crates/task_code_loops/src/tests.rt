@@ -13,11 +13,11 @@ use loop_ir::expressions::{Counter, Linear, Term};
 use sqlite_items::Items;
 use std::alloc::{AllocError, Global};
 use task_code_registers::holding::{at_value, hold, is_test};
-use task_code_registers::scopes::{Form, Held};
+use task_code_registers::scopes::{AffineForm, Held};
 use task_code_registers::terms::with_room;
 use task_code_scalar::CodeFault;
 
-/// What a loop's register is compared with behind each iteration.
+/// What a loop's register is compared with after each iteration.
 #[derive(Clone, Copy, Debug)]
 pub enum Limit {
     Register(u8),
@@ -38,22 +38,22 @@ pub struct Tested {
 /// # Errors
 ///
 /// Memory ran out.
-pub fn variable(alloc: Global, counter: Counter) -> Result<Form, AllocError>
+pub fn variable(alloc: Global, counter: Counter) -> Result<AffineForm, AllocError>
     ensures { IfOk result (λ made. made ≡ spec.variable counter) }
 {
     let mut terms = with_room(alloc, 1)?;
     terms.push(Term { counter, stride: 1 })?;
-    Ok(Form {
+    Ok(AffineForm {
         sum: Linear { number: 0, terms },
         per_hart: 0,
     })
 }
 
 /// A number as a form.
-pub fn number(alloc: Global, number: u32) -> Form
+pub fn number(alloc: Global, number: u32) -> AffineForm
     ensures { result ≡ spec.number number }
 {
-    Form {
+    AffineForm {
         sum: Linear {
             number,
             terms: Items::new(alloc),
@@ -86,14 +86,14 @@ fn by_variable(
     }
 }
 
-/// Appends what holds a form and the number that it is behind the last iteration, where both have registers; else the
+/// Appends what holds a form and the number that it is after the last iteration, where both have registers; else the
 /// loop variable.
 fn by_form(
     alloc: Global,
     code: &mut Vec<u32>,
     scope: &[Held],
     bound: Bound,
-    form: &Form,
+    form: &AffineForm,
     reserved: usize,
 ) -> Result<Tested, CodeFault>
     requires test { looping.is_test bound.counter bound.count form.now ≡ true }
@@ -142,7 +142,7 @@ pub fn begin_test(
     code: &mut Vec<u32>,
     scope: &[Held],
     bound: Bound,
-    wanted: &[Form],
+    wanted: &[AffineForm],
     reserved: usize,
 ) -> Result<Tested, CodeFault>
     requires { reserved < 2 ^ 32 }

@@ -1,22 +1,22 @@
 //! Forms that a loop's body uses, and how often. Guesses, of which nothing is promised.
 
-use crate::known::{Known, by_others};
+use crate::known::{KnownSum, by_others};
 use loop_ir::expressions::{Counter, same_counter};
 use std::alloc::{AllocError, Global};
 use task_code_registers::holding::at_value;
 use task_code_registers::numbers::fits;
-use task_code_registers::scopes::Form;
+use task_code_registers::scopes::AffineForm;
 use task_code_registers::sums::small_distance;
 
 /// A form, and how often one near it is used.
 #[derive(Debug, Drop)]
 pub(crate) struct Use {
-    pub form: Form,
+    pub form: AffineForm,
     pub times: u32,
 }
 
 /// Where a form stands that is near this one.
-fn place_near(found: &[Use], form: &Form) -> Option<usize> {
+fn place_near(found: &[Use], form: &AffineForm) -> Option<usize> {
     for (place, own) in found.iter().enumerate() {
         if small_distance(form, &own.form).is_some() {
             return Some(place);
@@ -26,12 +26,12 @@ fn place_near(found: &[Use], form: &Form) -> Option<usize> {
 }
 
 /// Whether an instruction makes a form of nothing.
-fn is_small(form: &Form) -> bool {
+fn is_small(form: &AffineForm) -> bool {
     form.sum.terms.len() == 0 && form.per_hart == 0 && fits(form.sum.number)
 }
 
 /// Counts so many uses of a form.
-pub(crate) fn count(found: &mut Vec<Use>, form: Form, times: u32) -> Result<(), AllocError> {
+pub(crate) fn count(found: &mut Vec<Use>, form: AffineForm, times: u32) -> Result<(), AllocError> {
     match place_near(found.as_slice(), &form) {
         Some(place) => {
             if place < found.len() {
@@ -47,7 +47,7 @@ pub(crate) fn count(found: &mut Vec<Use>, form: Form, times: u32) -> Result<(), 
 }
 
 /// Whether a form has a term of a loop variable.
-fn has_counter(form: &Form, counter: Counter) -> bool {
+fn has_counter(form: &AffineForm, counter: Counter) -> bool {
     form.sum
         .terms
         .as_slice()
@@ -82,7 +82,11 @@ pub(crate) fn count_at_zero(
 /// # Errors
 ///
 /// Memory ran out.
-pub fn form_by_others(alloc: Global, form: Form, known: &[Known]) -> Result<Form, AllocError> {
+pub fn form_by_others(
+    alloc: Global,
+    form: AffineForm,
+    known: &[KnownSum],
+) -> Result<AffineForm, AllocError> {
     if known.iter().any(|own| has_counter(&form, own.counter)) {
         by_others(alloc, &form, known)
     } else {
@@ -94,7 +98,7 @@ pub fn form_by_others(alloc: Global, form: Form, known: &[Known]) -> Result<Form
 pub(crate) fn count_by_others(
     alloc: Global,
     inner: Vec<Use>,
-    known: &[Known],
+    known: &[KnownSum],
     found: &mut Vec<Use>,
 ) -> Result<(), AllocError> {
     for own in inner {
@@ -123,7 +127,10 @@ fn most_used(found: &[Use]) -> Option<usize> {
 /// # Errors
 ///
 /// Memory ran out.
-pub(crate) fn most_used_first(alloc: Global, found: Vec<Use>) -> Result<Vec<Form>, AllocError> {
+pub(crate) fn most_used_first(
+    alloc: Global,
+    found: Vec<Use>,
+) -> Result<Vec<AffineForm>, AllocError> {
     let mut left = found;
     let mut wanted = Vec::new(alloc);
     for _ in 0..left.len() {

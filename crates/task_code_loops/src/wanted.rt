@@ -2,7 +2,7 @@
 //! most first. A guess, of which nothing is promised.
 
 use crate::bounds::{Bound, is_below};
-use crate::known::Known;
+use crate::known::KnownSum;
 use crate::sums::combined;
 use crate::tests::number;
 use crate::uses::{Use, count, count_at_zero, count_by_others, most_used_first};
@@ -13,9 +13,9 @@ use std::alloc::{AllocError, Global};
 use task_code_registers::holding::stride_of;
 use task_code_registers::numbers::fits;
 use task_code_registers::points::point_form;
-use task_code_registers::scopes::Form;
+use task_code_registers::scopes::AffineForm;
 use task_code_registers::terms::with_room;
-use task_code_scalar::places::{Places, place_of};
+use task_code_scalar::layouts::{Places, place_of};
 
 /// As many uses a sum counts for whose value is wanted and not only an address: there may be no code for it where no
 /// register holds it.
@@ -45,7 +45,7 @@ fn sum_of(alloc: Global, e: &Expr) -> Result<Option<Linear>, AllocError> {
 
 /// An index of a point, as far as it is a sum.
 #[derive(Debug, Drop)]
-enum Index<'a> {
+enum SumIndex<'a> {
     /// It is one.
     Own(&'a Linear),
     /// It is made of parts that come to one.
@@ -54,13 +54,13 @@ enum Index<'a> {
     Other,
 }
 
-impl<'a> Index<'a> {
-    fn of(alloc: Global, e: &'a Expr) -> Result<Index<'a>, AllocError> {
+impl<'a> SumIndex<'a> {
+    fn of(alloc: Global, e: &'a Expr) -> Result<SumIndex<'a>, AllocError> {
         match e {
-            Expr::Linear(own) => Ok(Index::Own(own)),
+            Expr::Linear(own) => Ok(SumIndex::Own(own)),
             _ => match sum_of(alloc, e)? {
-                Some(sum) => Ok(Index::Made(sum)),
-                None => Ok(Index::Other),
+                Some(sum) => Ok(SumIndex::Made(sum)),
+                None => Ok(SumIndex::Other),
             },
         }
     }
@@ -68,14 +68,14 @@ impl<'a> Index<'a> {
     /// The sum, or 0 where it is none.
     fn sum_or<'b>(&'b self, zero: &'b Linear) -> &'b Linear {
         match self {
-            Index::Own(sum) => sum,
-            Index::Made(sum) => sum,
-            Index::Other => zero,
+            SumIndex::Own(sum) => sum,
+            SumIndex::Made(sum) => sum,
+            SumIndex::Other => zero,
         }
     }
 
     fn is_sum(&self) -> bool {
-        !matches!(self, Index::Other)
+        !matches!(self, SumIndex::Other)
     }
 }
 
@@ -84,8 +84,8 @@ fn count_point(
     alloc: Global,
     places: &Places,
     source: Source,
-    column: &Index<'_>,
-    row: &Index<'_>,
+    column: &SumIndex<'_>,
+    row: &SumIndex<'_>,
     found: &mut Vec<Use>,
 ) -> Result<(), AllocError> {
     let place = place_of(places, source);
@@ -130,7 +130,7 @@ fn count_value(alloc: Global, own: Linear, found: &mut Vec<Use>) -> Result<(), A
         count_number(alloc, own.number, found)?;
         return Ok(());
     }
-    let form = Form {
+    let form = AffineForm {
         sum: own,
         per_hart: 0,
     };
@@ -208,8 +208,8 @@ fn gather_load(
     let Expr::Load(source, x, y) = e else {
         return Ok(());
     };
-    let column = Index::of(alloc, x.get())?;
-    let row = Index::of(alloc, y.get())?;
+    let column = SumIndex::of(alloc, x.get())?;
+    let row = SumIndex::of(alloc, y.get())?;
     if !column.is_sum() {
         gather_expr(alloc, places, x.get(), found)?;
     }
@@ -260,14 +260,14 @@ fn gather_store(
 ) -> Result<(), AllocError> {
     gather_expr(alloc, places, &store.value, found)?;
     let source = Source::Func(store.func);
-    let column = Index::of(alloc, &store.x)?;
-    let row = Index::of(alloc, &store.y)?;
+    let column = SumIndex::of(alloc, &store.x)?;
+    let row = SumIndex::of(alloc, &store.y)?;
     count_point(alloc, places, source, &column, &row, found)?;
     Ok(())
 }
 
 /// The value of a split loop, where it is a sum of those of its two loops.
-fn split_sum(alloc: Global, counter: Counter, whole: &Whole) -> Result<Vec<Known>, AllocError> {
+fn split_sum(alloc: Global, counter: Counter, whole: &Whole) -> Result<Vec<KnownSum>, AllocError> {
     let mut known = Vec::new(alloc);
     if whole.last.is_some() {
         return Ok(known);
@@ -281,7 +281,7 @@ fn split_sum(alloc: Global, counter: Counter, whole: &Whole) -> Result<Vec<Known
         counter: whole.inner,
         stride: 1,
     })?;
-    known.push(Known {
+    known.push(KnownSum {
         counter,
         sum: Linear { number: 0, terms },
     })?;
@@ -307,7 +307,7 @@ fn stride_along(sum: &Linear, lanes: Option<LaneStep>) -> u32 {
 /// how far it is from the extent: as many lanes are left as strides go into that.
 fn count_tested(
     alloc: Global,
-    known: &[Known],
+    known: &[KnownSum],
     bounds: &[Bound],
     lanes: Option<LaneStep>,
     extent: u32,
@@ -315,13 +315,13 @@ fn count_tested(
 ) -> Result<(), AllocError> {
     for own in known {
         let sum = own.sum.copy(alloc)?;
-        let form = Form { sum, per_hart: 0 };
+        let form = AffineForm { sum, per_hart: 0 };
         if !is_below(&form, bounds, extent) {
             let stride = stride_along(&own.sum, lanes);
             if stride != 0 {
                 let most = words::add(extent, stride - 1);
                 let left = Linear::of_number(alloc, most).minus(&own.sum)?;
-                let form = Form {
+                let form = AffineForm {
                     sum: left,
                     per_hart: 0,
                 };
@@ -389,7 +389,7 @@ fn gather(
         Stmt::Bind(counter, whole, extent, body) => {
             let mut inner = Vec::new(alloc);
             let along = along(*counter, whole, lanes);
-            // Behind its test the split loop's value is below the extent.
+            // After its test the split loop's value is below the extent.
             let mut within = bounds.to_vec(alloc)?;
             within.push(Bound {
                 counter: *counter,
@@ -414,7 +414,7 @@ pub fn wanted_forms(
     places: &Places,
     bounds: &[Bound],
     body: &Stmt,
-) -> Result<Vec<Form>, AllocError> {
+) -> Result<Vec<AffineForm>, AllocError> {
     let mut found = Vec::new(alloc);
     gather(alloc, places, bounds, None, body, &mut found)?;
     most_used_first(alloc, found)

@@ -112,7 +112,7 @@ store-same is_so own = record {
   pixel = alike-same is_so own.value own.value refl;
 }
 
--- ---- one behind the other
+-- ---- one after the other
 
 alike-then : (is_so more_so : Values → Type 0) (a b c : Expr) → IsAlike is_so a b → IsAlike more_so b c → IsAlike (λ values. is_so values × more_so values) a c
 alike-then is_so more_so a b c one two = record {

@@ -7,7 +7,7 @@ use Rattle.loop_ir.specs.declared.expressions.Expr.TheVariants as e
 use Rattle.loop_ir.specs.declared.expressions.Linear.{Linear}
 use Rattle.loop_ir.specs.Counters.{Values}
 use Rattle.loop_ir.specs.Expressions.{linear_value, value, loads}
-use Rattle.task_code_registers.specs.declared.scopes.Form.{Form}
+use Rattle.task_code_registers.specs.declared.scopes.AffineForm.{AffineForm}
 use Rattle.task_code_loops.specs.Beginning.{variable}
 use Rattle.task_code_values.proofs.Evaluating.{value_linear}
 use Rattle.task_code_names.specs.declared.names.Named.{Named}
@@ -21,13 +21,13 @@ variable-is values counter small =
     let g : (0 + (n * 1 + 0)) % 2 ^ 32 ≡ n = omega (arith, small) in
     g
 
-pub name-is : (names : List Named) (own : Expr) (counter : Counter) (found : Option Counter) (form : Form) → found ≡ Some counter → form ≡ variable counter
+pub name-is : (names : List Named) (own : Expr) (counter : Counter) (found : Option Counter) (form : AffineForm) → found ≡ Some counter → form ≡ variable counter
     → IfSome found (IsNameOf names own) → IsNamedExpr names own (e.Linear form.sum)
 name-is names own counter found form is ef all =
     let named : IsNameOf names own counter = subst (λ o. IfSome o (IsNameOf names own)) is all in
     record {
       value_is = λ reads values are.
           let k = named values are in
-          value_linear reads values form.sum ∙ ap (λ (x : Form). linear_value values x.sum) ef ∙ variable-is values counter k.small ∙ sym (k.value_is reads);
+          value_linear reads values form.sum ∙ ap (λ (x : AffineForm). linear_value values x.sum) ef ∙ variable-is values counter k.small ∙ sym (k.value_is reads);
       loads_are = λ reads values are. loads_linear reads values form.sum ∙ sym ((named values are).none reads);
     }

@@ -8,7 +8,7 @@ use std::alloc::{AllocError, Global};
 
 /// What of an expression has a name.
 #[derive(Clone, Copy, Debug, PartialEq, Eq)]
-pub(crate) enum Standing {
+pub(crate) enum NamedPart {
     /// Neither the expression nor a part of it.
     HasNone,
     /// Some part of it.
@@ -20,30 +20,30 @@ pub(crate) enum Standing {
 /// What of a part of an expression has a name, and how many nodes the part has. Marks come in the order of an
 /// expression's text: that of a part stands in front of those of its own parts.
 #[derive(Clone, Copy, Debug)]
-pub(crate) struct Mark {
+pub(crate) struct NodeMark {
     pub nodes: u32,
-    pub standing: Standing,
+    pub standing: NamedPart,
 }
 
 /// The marks of a store's parts.
 #[derive(Debug, Drop)]
 pub(crate) struct StoreMarks {
-    pub x: Vec<Mark>,
-    pub y: Vec<Mark>,
-    pub value: Vec<Mark>,
+    pub x: Vec<NodeMark>,
+    pub y: Vec<NodeMark>,
+    pub value: Vec<NodeMark>,
 }
 
 /// How many marks there is room for at first: for those of most expressions.
 const ROOM: usize = 96;
 
 /// Of a number or a sum.
-const LEAF: Mark = Mark {
+const LEAF: NodeMark = NodeMark {
     nodes: 1,
-    standing: Standing::HasNone,
+    standing: NamedPart::HasNone,
 };
 
-/// The marks behind those of the first part.
-pub(crate) fn behind(marks: &[Mark]) -> &[Mark] {
+/// The marks after those of the first part.
+pub(crate) fn behind(marks: &[NodeMark]) -> &[NodeMark] {
     match marks {
         [] => marks,
         [first, ..] => marks.get(first.nodes as usize..).unwrap_or(&[]),
@@ -51,45 +51,45 @@ pub(crate) fn behind(marks: &[Mark]) -> &[Mark] {
 }
 
 /// Whether the expression that has these marks or some part of it has a name.
-pub(crate) fn has_name(marks: &[Mark]) -> bool {
+pub(crate) fn has_name(marks: &[NodeMark]) -> bool {
     match marks {
         [] => false,
-        [first, ..] => first.standing != Standing::HasNone,
+        [first, ..] => first.standing != NamedPart::HasNone,
     }
 }
 
 /// Of an expression whose parts have so many nodes, and names or none.
-fn of_parts(nodes: u32, have_none: bool) -> Mark {
-    Mark {
+fn of_parts(nodes: u32, have_none: bool) -> NodeMark {
+    NodeMark {
         nodes: nodes.saturating_add(1),
         standing: if have_none {
-            Standing::HasNone
+            NamedPart::HasNone
         } else {
-            Standing::HasSome
+            NamedPart::HasSome
         },
     }
 }
 
 /// Of one part.
-fn of_one(a: Mark) -> Mark {
-    of_parts(a.nodes, a.standing == Standing::HasNone)
+fn of_one(a: NodeMark) -> NodeMark {
+    of_parts(a.nodes, a.standing == NamedPart::HasNone)
 }
 
 /// Of two parts.
-fn of_both(a: Mark, b: Mark) -> Mark {
+fn of_both(a: NodeMark, b: NodeMark) -> NodeMark {
     of_parts(
         a.nodes.saturating_add(b.nodes),
-        a.standing == Standing::HasNone && b.standing == Standing::HasNone,
+        a.standing == NamedPart::HasNone && b.standing == NamedPart::HasNone,
     )
 }
 
 /// Of a condition and two parts.
-fn of_choice(c: Mark, a: Mark, b: Mark) -> Mark {
+fn of_choice(c: NodeMark, a: NodeMark, b: NodeMark) -> NodeMark {
     let nodes = a.nodes.saturating_add(b.nodes).saturating_add(c.nodes);
     let others = of_both(a, b);
     of_parts(
         nodes,
-        c.standing == Standing::HasNone && others.standing == Standing::HasNone,
+        c.standing == NamedPart::HasNone && others.standing == NamedPart::HasNone,
     )
 }
 
@@ -102,7 +102,11 @@ fn is_named(names: &[Named], e: &Expr, nodes: u32) -> bool {
 
 /// Adds the marks of an expression's parts, and says what they come to.
 #[cycle(marking)]
-fn add_part_marks(names: &[Named], e: &Expr, marks: &mut Vec<Mark>) -> Result<Mark, AllocError> {
+fn add_part_marks(
+    names: &[Named],
+    e: &Expr,
+    marks: &mut Vec<NodeMark>,
+) -> Result<NodeMark, AllocError> {
     match e {
         Expr::Number(_) => Ok(LEAF),
         Expr::Linear(_) => Ok(LEAF),
@@ -129,15 +133,15 @@ fn add_part_marks(names: &[Named], e: &Expr, marks: &mut Vec<Mark>) -> Result<Ma
 
 /// Adds the marks of an expression, and says which is its own.
 #[cycle(marking)]
-fn add_marks(names: &[Named], e: &Expr, marks: &mut Vec<Mark>) -> Result<Mark, AllocError> {
+fn add_marks(names: &[Named], e: &Expr, marks: &mut Vec<NodeMark>) -> Result<NodeMark, AllocError> {
     let place = marks.len();
-    // In the place of its own, which is known behind its parts.
+    // In the place of its own, which is known after its parts.
     marks.push(LEAF)?;
     let parts = add_part_marks(names, e, marks)?;
     let own = if is_named(names, e, parts.nodes) {
-        Mark {
+        NodeMark {
             nodes: parts.nodes,
-            standing: Standing::IsNamed,
+            standing: NamedPart::IsNamed,
         }
     } else {
         parts
@@ -149,7 +153,7 @@ fn add_marks(names: &[Named], e: &Expr, marks: &mut Vec<Mark>) -> Result<Mark, A
 }
 
 /// The marks of an expression. A number or a sum alone needs none: only what is made of parts is given names.
-fn marks_in(alloc: Global, names: &[Named], e: &Expr) -> Result<Vec<Mark>, AllocError> {
+fn marks_in(alloc: Global, names: &[Named], e: &Expr) -> Result<Vec<NodeMark>, AllocError> {
     match e {
         Expr::Number(_) => Ok(Vec::new(alloc)),
         Expr::Linear(_) => Ok(Vec::new(alloc)),

@@ -4,7 +4,7 @@ ghost use Rattle.std.specs.Prelude.{IfOk};
 ghost use Rattle.loop_ir.specs.Parts.{expression_of};
 ghost use Rattle.task_code_names.specs.Names.{IsNamedExpr, IsNamedStore};
 
-use crate::marks::{Mark, Standing, behind, has_name, marks_of};
+use crate::marks::{NamedPart, NodeMark, behind, has_name, marks_of};
 use crate::names::{Named, name_of};
 use loop_ir::expressions::Expr;
 use loop_ir::parts::{ExprParts, StoreParts};
@@ -13,13 +13,13 @@ use sqlite_items::Boxed;
 use std::alloc::{AllocError, Global};
 use task_code_loops::tests::variable;
 
-/// An expression behind a pointer as `by_names` makes it. One of which nothing has a name stays where it is.
+/// An expression in a box as `by_names` makes it. One of which nothing has a name stays where it is.
 #[cycle(naming)]
 fn part_by_names(
     alloc: Global,
     names: &[Named],
     e: Boxed<Expr>,
-    marks: &[Mark],
+    marks: &[NodeMark],
 ) -> Result<Boxed<Expr>, AllocError>
     ensures { IfOk result (IsNamedExpr names.now e) }
 {
@@ -37,7 +37,7 @@ fn parts_by_names(
     alloc: Global,
     names: &[Named],
     parts: ExprParts,
-    marks: &[Mark],
+    marks: &[NodeMark],
 ) -> Result<Expr, AllocError>
     ensures { IfOk result (IsNamedExpr names.now (expression_of parts)) }
 {
@@ -74,19 +74,19 @@ fn parts_by_names(
 
 /// An expression with names in place of the parts that have one, as its marks say.
 #[cycle(naming)]
-fn by_names(alloc: Global, names: &[Named], e: Expr, marks: &[Mark]) -> Result<Expr, AllocError>
+fn by_names(alloc: Global, names: &[Named], e: Expr, marks: &[NodeMark]) -> Result<Expr, AllocError>
     ensures { IfOk result (IsNamedExpr names.now e) }
 {
     let [own, within @ ..] = marks else {
         return Ok(e);
     };
     match own.standing {
-        Standing::HasNone => Ok(e),
-        Standing::HasSome => {
+        NamedPart::HasNone => Ok(e),
+        NamedPart::HasSome => {
             let made = parts_by_names(alloc, names, e.into_parts(), within)?;
             Ok(made)
         }
-        Standing::IsNamed => match name_of(names, &e, own.nodes as usize) {
+        NamedPart::IsNamed => match name_of(names, &e, own.nodes as usize) {
             None => Ok(e),
             Some(counter) => {
                 drop(e);

@@ -6,7 +6,7 @@ use Rattle.std.proofs.lemmas.Bool.Decides.{nat_tests}
 use Rattle.loop_ir.specs.declared.expressions.Counter.{Counter}
 use Rattle.loop_ir.specs.Counters.{Values, with}
 use Rattle.loop_ir.specs.Expressions.{sum_of}
-use Rattle.task_code_registers.specs.declared.scopes.Form.{Form}
+use Rattle.task_code_registers.specs.declared.scopes.AffineForm.{AffineForm}
 use Rattle.task_code_registers.specs.Scopes.{form_value}
 use Rattle.task_code_registers.specs.Strides.{strides, others_of}
 use Rattle.task_code_registers.specs.Looping.{LimitsTell}
@@ -35,10 +35,10 @@ product-less i n s l z =
     subst (λ m. i * s < m * s) k (omega (arith, e, z))
 
 -- what a form is besides its strides
-abbrev rest : Counter → ℕ → Values → Form → ℕ
+abbrev rest : Counter → ℕ → Values → AffineForm → ℕ
 rest counter hart values own = own.sum.number + sum_of values (others_of counter own.sum.terms) + hart * own.per_hart
 
-form-with : (counter : Counter) (v stride hart : ℕ) (values : Values) (own : Form) → stride ≡ strides counter own.sum.terms % 2 ^ 32
+form-with : (counter : Counter) (v stride hart : ℕ) (values : Values) (own : AffineForm) → stride ≡ strides counter own.sum.terms % 2 ^ 32
     → form_value hart (with counter v values) own ≡ (rest counter hart values own + v * stride) % 2 ^ 32
 unfolding form_value
 form-with counter v stride hart values own e =

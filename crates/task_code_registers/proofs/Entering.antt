@@ -3,9 +3,9 @@ use Rattle.std.proofs.Common.{◌≡◌, ℕ, ◌+◌, ◌<◌, ◌≤◌, List,
 use Rattle.std.proofs.Common.{append_assoc}
 use Rattle.loop_ir.specs.declared.expressions.Counter.{Counter}
 use Rattle.loop_ir.specs.Counters.{with}
-use Rattle.multi_hart_logic.proofs.Paths.{line-then}
+use Rattle.multi_hart_laws.proofs.Paths.{line-then}
 use Rattle.task_code_scalar.proofs.Spelling.{emits_then}
-use Rattle.task_code_registers.specs.declared.scopes.Form.{Form}
+use Rattle.task_code_registers.specs.declared.scopes.AffineForm.{AffineForm}
 use Rattle.task_code_registers.specs.declared.scopes.Held.{Held}
 use Rattle.task_code_registers.specs.Emitting.{MakesValue, base_words, sum_words}
 use Rattle.task_code_registers.specs.Scopes.{IsKept, IsLeft, left_count}
@@ -18,7 +18,7 @@ use Rattle.task_code_registers.proofs.Striding.{others-fewer}
 
 -- ---- one form
 
-enters-one : (counter : Counter) (scope : List Held) (form start : Form) (r : ℕ) (c0 c1 : List ℕ) → IsLeft scope r → IsAt counter 0 form start
+enters-one : (counter : Counter) (scope : List Held) (form start : AffineForm) (r : ℕ) (c0 c1 : List ℕ) → IsLeft scope r → IsAt counter 0 form start
     → MakesValue c0 c1 scope start r
     → Enters c0 c1 (sum_words form.per_hart form.sum.terms) counter scope (record { register = r; form = form } ∷ scope)
 enters-one counter scope form start r c0 c1 is at x = record {
@@ -43,7 +43,7 @@ enters-one counter scope form start r c0 c1 is at x = record {
       };
 }
 
-pub takes-one : (counter : Counter) (scope made : List Held) (form start : Form) (reserved r : ℕ) (c0 c1 : List ℕ)
+pub takes-one : (counter : Counter) (scope made : List Held) (form start : AffineForm) (reserved r : ℕ) (c0 c1 : List ℕ)
     → IsLeft scope r × (reserved < left_count scope) → IsAt counter 0 form start
     → MakesValue c0 c1 scope start r → made ≡ record { register = r; form = form } ∷ scope → Takes c0 c1 counter scope form reserved r made
 takes-one counter scope made form start reserved r c0 c1 is at x e = record {
@@ -53,7 +53,7 @@ takes-one counter scope made form start reserved r c0 c1 is at x e = record {
   left = subst (λ s. reserved ≤ left_count s) (sym e) (still-left scope (record { register = r; form = form }) reserved is.1);
 }
 
--- ---- one scope behind another
+-- ---- one scope after another
 
 pub scopes-nest : ScopesNest
 scopes-nest c0 c1 c2 n k counter scope next inner x y =

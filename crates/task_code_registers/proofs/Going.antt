@@ -1,11 +1,11 @@
--- Parts of a statement's code, one behind the other.
+-- Parts of a statement's code, one after the other.
 use Rattle.std.proofs.Common.{◌≡◌, ℕ, ◌+◌, List, refl, ◌∙◌, subst, inl, inr}
 use Rattle.std.specs.Prelude.{◌⊎◌}
 use Rattle.rv_insn.specs.declared.instructions.Insn.{Insn}
 use Rattle.memory.specs.Access.{byte_at, AreBytes}
 use Rattle.halide_pipeline.specs.Pixel.{Planes}
-use Rattle.multi_hart_logic.specs.Paths.{Stand, end, Path, Writes}
-use Rattle.multi_hart_logic.proofs.Paths.{path-then, writes-first, writes-later}
+use Rattle.multi_hart_laws.specs.Paths.{Stand, end, Path, Writes}
+use Rattle.multi_hart_laws.proofs.Paths.{path-then, writes-first, writes-later}
 use Rattle.task_code_scalar.specs.Layout.{IsOf, IsElsewhere}
 use Rattle.task_code_scalar.specs.Doing.{Setting, HoldsFuncs}
 pub use Rattle.task_code_scalar.proofs.Tracing.{Hits}
@@ -31,7 +31,7 @@ module _ (own : Setting) where
     pub writes : (func x y byte at : ℕ) → hits func x y → IsOf own.world own.places func x y byte → Stand own.world.text at whole
         → Writes own.world (from at) n f memory byte
 
-  -- from the first instruction to behind the last
+  -- from the first instruction to after the last
   abbrev pub Does : List Insn → ℕ → (ℕ → ℕ) → List ℕ → (ℕ → Type 0) → Planes → Hits → Type 0
   Does code n f memory keeps_it funcs hits = Went code (λ at. at) (λ at. end at code) n f memory keeps_it funcs hits
 

@@ -11,9 +11,9 @@ use Rattle.loop_ir.specs.Counters.{Values, same_counter, with}
 use Rattle.loop_ir.specs.Expressions.{linear_value, sum_of}
 use Rattle.task_code_scalar.proofs.Spelling.{emits_then}
 use Rattle.task_code_registers.specs.declared.indexed.Indexed.{Indexed}
-use Rattle.task_code_registers.specs.declared.scopes.Form.{Form}
+use Rattle.task_code_registers.specs.declared.scopes.AffineForm.{AffineForm}
 use Rattle.task_code_registers.specs.declared.scopes.Held.{Held}
-use Rattle.task_code_registers.specs.declared.sums.Near.{Near}
+use Rattle.task_code_registers.specs.declared.sums.NearForm.{NearForm}
 use Rattle.task_code_registers.specs.Indexed.{IsIndexed}
 use Rattle.task_code_registers.specs.Emitting.{Fits, Makes, MakesOf, MakesForm, MakesAddress, IsNear, HoldsVariable, sum_words}
 use Rattle.task_code_registers.specs.Holding.{IsAt}
@@ -45,7 +45,7 @@ linear-split counter stride values own e =
     ∙ ap (λ s. ((own.number + sum_of values (others_of counter own.terms)) + values counter * s) % 2 ^ 32) (sym e)
 
 -- where the variable is 0, and what it adds
-form-split : (counter : Counter) (stride hart : ℕ) (values : Values) (own : Form) → stride ≡ strides counter own.sum.terms % 2 ^ 32
+form-split : (counter : Counter) (stride hart : ℕ) (values : Values) (own : AffineForm) → stride ≡ strides counter own.sum.terms % 2 ^ 32
     → form_value hart values own ≡ (form_value hart (with counter 0 values) own + values counter * stride) % 2 ^ 32
 unfolding form_value
 form-split counter stride hart values own e =
@@ -62,7 +62,7 @@ product-is n a v s e =
     sym (add-mod-mod n (v * s) (2 ^ 32)) ∙ ap (λ k. (n + k) % 2 ^ 32) (sym (mul-mod_first v s (2 ^ 32)) ∙ ap (λ k. (k * s) % 2 ^ 32) (sym e))
     ∙ add-mod-mod n (a * s) (2 ^ 32)
 
-module _ (scope : List Held) (form start : Form) (terms : List Term) (counter : Counter) (base : Near) (s stride : ℕ)
+module _ (scope : List Held) (form start : AffineForm) (terms : List Term) (counter : Counter) (base : NearForm) (s stride : ℕ)
     (at : IsAt counter 0 form start) (whole : terms ≡ form.sum.terms) (es : stride ≡ strides counter terms % 2 ^ 32)
     (is : IsNear scope start base.register base.number) (holds : HoldsVariable scope counter s) where
   at-zero : (hart : ℕ) (values : Values) → form_value hart values start ≡ form_value hart (with counter 0 values) form
@@ -92,7 +92,7 @@ module _ (scope : List Held) (form start : Form) (terms : List Term) (counter : 
 
 -- ---- code
 
-module _ (scope : List Held) (form : Form) (own : Indexed) (r : ℕ) (is : IsIndexed scope form own) (long : 2 ≤ length form.sum.terms) where
+module _ (scope : List Held) (form : AffineForm) (own : Indexed) (r : ℕ) (is : IsIndexed scope form own) (long : 2 ≤ length form.sum.terms) where
   abbrev q : ℕ
   q = own.base.register
 

@@ -7,7 +7,7 @@ use Rattle.std.proofs.lemmas.Bool.{and_parts, ltb-true}
 use Rattle.loop_ir.specs.declared.expressions.Linear.{Linear}
 use Rattle.loop_ir.specs.Counters.{Values}
 use Rattle.loop_ir.specs.Expressions.{linear_value}
-use Rattle.task_code_registers.specs.declared.scopes.Form.{Form}
+use Rattle.task_code_registers.specs.declared.scopes.AffineForm.{AffineForm}
 use Rattle.task_code_registers.specs.declared.scopes.Held.{Held}
 use Rattle.task_code_registers.specs.Registers.{zero_register, hart_number, scratch, second_scratch, address_register, first_value, may_hold, is_reserved}
 use Rattle.task_code_registers.specs.Registers.{IsWorking}
@@ -89,7 +89,7 @@ kept-low (own ∷ others) q all (inl e) =
     omega (arith, e, high)
 kept-low (own ∷ others) q all (inr h) = kept-low others q (and_parts (may_hold own.register) (are_registers others) all).1 h
 
--- the first of a list, and those behind it
+-- the first of a list, and those after it
 pub others-are : {A : Type 0} (xs : List A) (other : A) → 1 ≤ length xs → xs ≡ get_or xs 0 other ∷ take (length xs - 1) (drop 1 xs)
 others-are [] other some = absurd (omega (arith, some))
 others-are (x ∷ xs) other some =
@@ -102,6 +102,6 @@ pub linear-small : (values : Values) (own : Linear) → linear_value values own 
 unfolding linear_value
 linear-small values own = omega arith
 
-pub form-small : (hart : ℕ) (values : Values) (form : Form) → form_value hart values form < 2 ^ 32
+pub form-small : (hart : ℕ) (values : Values) (form : AffineForm) → form_value hart values form < 2 ^ 32
 unfolding form_value
 form-small hart values form = omega arith

@@ -9,16 +9,16 @@ use Rattle.rv_insn.specs.declared.instructions.Insn.TheVariants.{Branch}
 use Rattle.rv_insn.specs.declared.operations.BranchOp.{BranchOp}
 use Rattle.hart_core.specs.Scalar.{is_taken}
 use Rattle.halide_pipeline.specs.Pixel.{Planes}
-use Rattle.loop_ir.specs.Running.{turns}
-use Rattle.multi_hart_logic.specs.Alone.{World}
-use Rattle.multi_hart_logic.specs.Paths.{Stand, end, Path}
-use Rattle.multi_hart_logic.proofs.Jumps as rules
-use Rattle.multi_hart_logic.proofs.Paths.{spot, stay, stand-front, stand-back, end-append}
+use Rattle.loop_ir.specs.Running.{iterated}
+use Rattle.multi_hart_laws.specs.Alone.{World}
+use Rattle.multi_hart_laws.specs.Paths.{Stand, end, Path}
+use Rattle.multi_hart_laws.proofs.Jumps as rules
+use Rattle.multi_hart_laws.proofs.Paths.{spot, stay, stand-front, stand-back, end-append}
 use Rattle.task_code_scalar.specs.Code.{back}
 use Rattle.task_code_scalar.specs.Fitting.{total}
 use Rattle.task_code_scalar.specs.Doing.{Setting, HoldsFuncs}
 use Rattle.task_code_scalar.proofs.Looping.{end-length, back-to}
-use Rattle.task_code_registers.specs.Looping.{looped, LoopsGoRound}
+use Rattle.task_code_registers.specs.Looping.{looped, LoopsIterate}
 use Rattle.loop_ir.specs.Buffers.{Points}
 use Rattle.loop_ir.specs.Counters.{with}
 use Rattle.task_code_registers.specs.Scopes.{Knows, IsKept}
@@ -108,10 +108,10 @@ module _ (own : Setting) (keeps_it : ℕ → Type 0) (inv : ℕ → (ℕ → ℕ
 
   module _ (hits : ℕ → Planes → Hits) (none_hit : (funcs : Planes) (func x y : ℕ) → hits zero funcs func x y → ⊥)
       (more_hit : (i : ℕ) (funcs : Planes) (func x y : ℕ) → hits (suc i) funcs func x y
-      → hits i funcs func x y ⊎ body_hits i (turns i one funcs) func x y) where
+      → hits i funcs func x y ⊎ body_hits i (iterated i one funcs) func x y) where
     iterations : (k : ℕ) → k < n → (f : ℕ → ℕ) (memory : List ℕ) (funcs : Planes) → HoldsFuncs own memory funcs → inv 0 f
-        → Marked own (inv k) whole (λ at. at) (λ at. at) (total k cost) f memory keeps_it (turns k one funcs) (hits k funcs)
-    unfolding turns total
+        → Marked own (inv k) whole (λ at. at) (λ at. at) (total k cost) f memory keeps_it (iterated k one funcs) (hits k funcs)
+    unfolding iterated total
     iterations zero few f memory funcs holds is = record {
       went = went-hits own (λ func x y hit. none_hit funcs func x y hit)
           (still own (λ at. at) (λ at. at) 0 f holds (λ q kept. refl) (λ at s. stay w at f memory));
@@ -120,23 +120,23 @@ module _ (own : Setting) (keeps_it : ℕ → Type 0) (inv : ℕ → (ℕ → ℕ
     iterations (suc k) few f memory funcs holds is =
         let so_far = iterations k (omega (arith, few)) f memory funcs holds is in
         let a = so_far.went in
-        let b = iteration (λ at. at) k a.after a.left (turns k one funcs) (omega (arith, few))
+        let b = iteration (λ at. at) k a.after a.left (iterated k one funcs) (omega (arith, few))
         (λ g m known l at s. again k g m few known l at s) a.holds so_far.mark in
         record { went = went-hits own (more_hit k funcs) (went-then own a b.went); mark = b.mark }
 
     loop-out : (k : ℕ) → suc k ≡ n → (f : ℕ → ℕ) (memory : List ℕ) (funcs : Planes) → HoldsFuncs own memory funcs → inv 0 f
-        → Marked own (inv (suc k)) whole (λ at. at) out (total (suc k) cost) f memory keeps_it (turns (suc k) one funcs) (hits (suc k) funcs)
-    unfolding turns total
+        → Marked own (inv (suc k)) whole (λ at. at) out (total (suc k) cost) f memory keeps_it (iterated (suc k) one funcs) (hits (suc k) funcs)
+    unfolding iterated total
     loop-out k last f memory funcs holds is =
         let so_far = iterations k (omega (arith, last)) f memory funcs holds is in
         let a = so_far.went in
-        let b = iteration out k a.after a.left (turns k one funcs) (omega (arith, last))
+        let b = iteration out k a.after a.left (iterated k one funcs) (omega (arith, last))
         (λ g m known l at s. leaves k g m last known l at s) a.holds so_far.mark in
         record { went = went-hits own (more_hit k funcs) (went-then own a b.went); mark = b.mark }
 
     ended : (k : ℕ) (f : ℕ → ℕ) (memory : List ℕ) (funcs : Planes)
-        → Marked own (inv k) whole (λ at. at) out (total k cost) f memory keeps_it (turns k one funcs) (hits k funcs)
-        → Marked own (inv k) whole (λ at. at) (λ at. end at whole) (total k cost) f memory keeps_it (turns k one funcs) (hits k funcs)
+        → Marked own (inv k) whole (λ at. at) out (total k cost) f memory keeps_it (iterated k one funcs) (hits k funcs)
+        → Marked own (inv k) whole (λ at. at) (λ at. end at whole) (total k cost) f memory keeps_it (iterated k one funcs) (hits k funcs)
     ended k f memory funcs x =
         let a = x.went in
         record {
@@ -154,10 +154,10 @@ module _ (own : Setting) (keeps_it : ℕ → Type 0) (inv : ℕ → (ℕ → ℕ
         }
 
     pub loop-goes : 1 ≤ n → (f : ℕ → ℕ) (memory : List ℕ) (funcs : Planes) → HoldsFuncs own memory funcs → inv 0 f
-        → Marked own (inv n) whole (λ at. at) (λ at. end at whole) (total n cost) f memory keeps_it (turns n one funcs) (hits n funcs)
+        → Marked own (inv n) whole (λ at. at) (λ at. end at whole) (total n cost) f memory keeps_it (iterated n one funcs) (hits n funcs)
     loop-goes any f memory funcs holds is =
         let e : suc (n - 1) ≡ n = omega (arith, any) in
-        subst (λ k. Marked own (inv k) whole (λ at. at) (λ at. end at whole) (total k cost) f memory keeps_it (turns k one funcs) (hits k funcs)) e
+        subst (λ k. Marked own (inv k) whole (λ at. at) (λ at. end at whole) (total k cost) f memory keeps_it (iterated k one funcs) (hits k funcs)) e
         (ended (suc (n - 1)) f memory funcs (loop-out (n - 1) e f memory funcs holds is))
 
 -- ---- of scopes
@@ -197,8 +197,8 @@ module _ {own : Setting} {code : List Insn} {n : ℕ} {f : ℕ → ℕ} {memory 
     writes = a.writes;
   }
 
-pub loops-go-round : LoopsGoRound
-loops-go-round own hart scope inner counter values n body advance op a b t one body_stored stored any it all f memory funcs holds is =
+pub loops-iterate : LoopsIterate
+loops-iterate own hart scope inner counter values n body advance op a b t one body_stored stored any it all f memory funcs holds is =
     did-went (loop-goes own (IsKept scope) (λ i g. Knows hart inner (with counter i values) g) n body advance op a b it.first it.second it.some t one
     (λ i p. points_hit (body_stored i p))
     (λ i g m p l o known. marked-did (IsKept inner) (IsKept scope) (Knows hart inner (with counter i values)) it.kept

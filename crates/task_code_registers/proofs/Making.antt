@@ -11,10 +11,10 @@ use Rattle.rv_insn.specs.declared.operations.ShiftOp.TheVariants as shifts
 use Rattle.rv_insn.specs.declared.operations.AluOp.TheVariants as alus
 use Rattle.hart_core.specs.Scalar.{extended}
 use Rattle.lanes.specs.Words as lanes
-use Rattle.multi_hart_logic.specs.Alone.{World}
-use Rattle.multi_hart_logic.specs.Paths.{update}
-use Rattle.multi_hart_logic.proofs.Paths.{update-same, update-other, line-then, stay}
-use Rattle.multi_hart_logic.proofs.Rows as rows
+use Rattle.multi_hart_laws.specs.Alone.{World}
+use Rattle.multi_hart_laws.specs.Paths.{update}
+use Rattle.multi_hart_laws.proofs.Paths.{update-same, update-other, line-then, stay}
+use Rattle.multi_hart_laws.proofs.Rows as rows
 use Rattle.task_code_scalar.specs.Code.{upper, lower, literal}
 use Rattle.task_code_scalar.specs.Words.{Emits}
 use Rattle.task_code_scalar.proofs.Spelling.{emits_then, emits-none}
@@ -35,7 +35,7 @@ small-lower v (inr b) l =
 whole-upper : (v : ℕ) → v % 4096 ≡ 0 → v < 2 ^ 32 → upper v * 2 ^ 12 ≡ v
 whole-upper v e l = omega (arith, e, l)
 
--- ---- instructions one behind the other
+-- ---- instructions one after the other
 
 module _ (w : World) (m : List ℕ) (l : length m ≡ w.size) where
   pub puts-set : {is : List Insn} {f : ℕ → ℕ} {r v u : ℕ} → v ≡ u → Sets w m l is f r v → Puts w m is f r u

@@ -10,9 +10,9 @@ use Rattle.loop_ir.specs.declared.expressions.Linear.{Linear}
 use Rattle.loop_ir.specs.declared.expressions.Term.{Term}
 use Rattle.loop_ir.specs.Counters.{Values}
 use Rattle.loop_ir.specs.Expressions.{linear_value, sum_of}
-use Rattle.task_code_scalar.specs.declared.places.Place.{Place}
+use Rattle.task_code_scalar.specs.declared.layouts.BufferLayout.{BufferLayout}
 use Rattle.task_code_scalar.specs.Code.{pixel_bytes}
-use Rattle.task_code_registers.specs.declared.scopes.Form.{Form}
+use Rattle.task_code_registers.specs.declared.scopes.AffineForm.{AffineForm}
 use Rattle.task_code_registers.specs.declared.scopes.Held.{Held}
 use Rattle.task_code_registers.specs.Scopes.{form_value, has_variable, have_registers}
 use Rattle.task_code_registers.specs.Points.{times, IsPoint}
@@ -147,7 +147,7 @@ moved a s b d h e =
     let g : (s + b) + d * h ≡ s + d * h + b = omega arith in
     mod-add-mod a (2 ^ 32) (h * d) ∙ ap (λ k. (a + k) % 2 ^ 32) p ∙ both-sums a (s + b) (d * h) (d * h) e refl ∙ ap (λ k. k % 2 ^ 32) g
 
-pub point-is : (place : Place) (x y : Linear) (made : Form) (bytes row rows columns far : ℕ) → bytes ≡ pixel_bytes place.pixels
+pub point-is : (place : BufferLayout) (x y : Linear) (made : AffineForm) (bytes row rows columns far : ℕ) → bytes ≡ pixel_bytes place.pixels
     → row ≡ word.multiply bytes place.width
     → made.sum.terms ≡ times row y.terms ++ times bytes x.terms → rows ≡ word.multiply y.number row → columns ≡ word.multiply x.number bytes
     → far ≡ word.add rows columns

@@ -14,7 +14,7 @@ use Rattle.loop_ir.specs.Expressions.{linear_value, sum_of}
 use Rattle.task_code_registers.specs.Scopes.{form_value}
 use Rattle.task_code_registers.specs.Strides.{strides, others_of, has_counter}
 use Rattle.task_code_registers.specs.Holding.{IsAt}
-use Rattle.task_code_registers.specs.declared.scopes.Form.{Form}
+use Rattle.task_code_registers.specs.declared.scopes.AffineForm.{AffineForm}
 use Rattle.task_code_registers.proofs.Knowing.{others-are}
 
 -- a sum where the variable stands at a number
@@ -106,21 +106,21 @@ linear-at counter v value stride values own made es et en =
     ap (sum_of (with counter v values)) et ∙ sum-with counter v values (others_of counter own.terms)
     ∙ ap (λ s. v * s + sum_of values (others_of counter (others_of counter own.terms))) (strides-others counter own.terms)
     ∙ ap (λ ts. v * 0 + sum_of values ts) (others-others counter own.terms) ∙ z in
-    let turn : stride * value ≡ value * stride = omega arith in
+    let iteration : stride * value ≡ value * stride = omega arith in
     let swap : (own.number + value * stride) + rest ≡ (own.number + rest) + value * stride = omega arith in
     ap (λ s. (made.number + s) % 2 ^ 32) sum ∙ ap (λ n. (n + rest) % 2 ^ 32) en ∙ mod-add-mod (own.number + (stride * value) % 2 ^ 32) (2 ^ 32) rest
     ∙ sym (mod-add-mod (own.number + (stride * value) % 2 ^ 32) (2 ^ 32) rest)
     ∙ ap (λ n. (n + rest) % 2 ^ 32) (add-mod-mod own.number (stride * value) (2 ^ 32)) ∙ mod-add-mod (own.number + stride * value) (2 ^ 32) rest
-    ∙ ap (λ p. ((own.number + p) + rest) % 2 ^ 32) turn ∙ ap (λ n. n % 2 ^ 32) swap ∙ sym (linear-with counter value stride values own es)
+    ∙ ap (λ p. ((own.number + p) + rest) % 2 ^ 32) iteration ∙ ap (λ n. n % 2 ^ 32) swap ∙ sym (linear-with counter value stride values own es)
 
 -- ---- forms
 
-pub form-steady : (counter : Counter) (v hart : ℕ) (values : Values) (own : Form) → has_counter counter own.sum.terms ≡ false
+pub form-steady : (counter : Counter) (v hart : ℕ) (values : Values) (own : AffineForm) → has_counter counter own.sum.terms ≡ false
     → form_value hart (with counter v values) own ≡ form_value hart values own
 unfolding form_value
 form-steady counter v hart values own e = ap (λ n. (n + hart * own.per_hart) % 2 ^ 32) (linear-steady counter v values own.sum e)
 
-pub form-next : (counter : Counter) (i stride hart : ℕ) (values : Values) (own : Form) → stride ≡ strides counter own.sum.terms % 2 ^ 32
+pub form-next : (counter : Counter) (i stride hart : ℕ) (values : Values) (own : AffineForm) → stride ≡ strides counter own.sum.terms % 2 ^ 32
     → (form_value hart (with counter i values) own + stride) % 2 ^ 32 ≡ form_value hart (with counter (suc i) values) own
 unfolding form_value
 form-next counter i stride hart values own e =
@@ -129,7 +129,7 @@ form-next counter i stride hart values own e =
     let g : ((a + h) % 2 ^ 32 + stride) % 2 ^ 32 ≡ ((a + stride) % 2 ^ 32 + h) % 2 ^ 32 = omega arith in
     g ∙ ap (λ n. (n + h) % 2 ^ 32) (linear-next counter i stride values own.sum e)
 
-pub form-at : (counter : Counter) (value stride : ℕ) (own made : Form) → stride ≡ strides counter own.sum.terms % 2 ^ 32
+pub form-at : (counter : Counter) (value stride : ℕ) (own made : AffineForm) → stride ≡ strides counter own.sum.terms % 2 ^ 32
     → made.sum.terms ≡ others_of counter own.sum.terms
     → made.sum.number ≡ word.add own.sum.number (word.multiply stride value) → made.per_hart ≡ own.per_hart → IsAt counter value own made
 unfolding form_value

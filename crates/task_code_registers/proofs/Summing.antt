@@ -8,9 +8,9 @@ use Rattle.loop_ir.specs.declared.expressions.Linear.{Linear}
 use Rattle.loop_ir.specs.declared.expressions.Term.{Term}
 use Rattle.loop_ir.specs.Counters.{Values}
 use Rattle.loop_ir.specs.Expressions.{linear_value, sum_of}
-use Rattle.multi_hart_logic.proofs.Paths.{stay}
+use Rattle.multi_hart_laws.proofs.Paths.{stay}
 use Rattle.task_code_scalar.proofs.Spelling.{emits_then, emits-none}
-use Rattle.task_code_registers.specs.declared.scopes.Form.{Form}
+use Rattle.task_code_registers.specs.declared.scopes.AffineForm.{AffineForm}
 use Rattle.task_code_registers.specs.declared.scopes.Held.{Held}
 use Rattle.task_code_registers.specs.Emitting.{Fits, Makes, MakesOf, MakesForm, MakesAddress, IsNear, IsRest, IsWorth, HoldsVariable}
 use Rattle.task_code_registers.specs.Emitting.{base_words, sum_words, sum_value}
@@ -35,7 +35,7 @@ moved : (a b h d : ℕ) → a ≡ (b + d) % 2 ^ 32 → (a + h) % 2 ^ 32 ≡ ((b 
 moved a b h d e = omega (arith, e)
 
 -- two forms with the same part of the hart's number and the same sum of terms
-pub form-apart : (own base : Form) (d : ℕ) → base.sum.number < 2 ^ 32 → own.per_hart ≡ base.per_hart
+pub form-apart : (own base : AffineForm) (d : ℕ) → base.sum.number < 2 ^ 32 → own.per_hart ≡ base.per_hart
     → d ≡ word.subtract own.sum.number base.sum.number
     → ((values : Values) → sum_of values own.sum.terms % 2 ^ 32 ≡ sum_of values base.sum.terms % 2 ^ 32)
     → (hart : ℕ) (values : Values) → form_value hart values own ≡ (form_value hart values base + d) % 2 ^ 32
@@ -45,13 +45,13 @@ form-apart own base d small part e same hart values =
     ∙ moved (linear_value values own.sum) (linear_value values base.sum) (hart * base.per_hart) d
     (linear-apart values own.sum base.sum d small e (same values))
 
-pub difference-word : (own base : Form) (d : ℕ) → d ≡ word.subtract own.sum.number base.sum.number → d < 2 ^ 32
+pub difference-word : (own base : AffineForm) (d : ℕ) → d ≡ word.subtract own.sum.number base.sum.number → d < 2 ^ 32
 unfolding word.subtract
 difference-word own base d e = omega (arith, e)
 
 -- ---- what is near
 
-pub near-first : (scope : List Held) (item other : Held) (own : Form) (d : ℕ) → 1 ≤ length scope → item ≡ get_or scope 0 other → may_hold item.register ≡ true
+pub near-first : (scope : List Held) (item other : Held) (own : AffineForm) (d : ℕ) → 1 ≤ length scope → item ≡ get_or scope 0 other → may_hold item.register ≡ true
     → (d < 2 ^ 32) × ((hart : ℕ) (values : Values) → form_value hart values own ≡ (form_value hart values item.form + d) % 2 ^ 32)
     → IsNear scope own item.register d
 near-first [] item other own d some ei may e = absurd (omega (arith, some))
@@ -98,7 +98,7 @@ form-is scope n most r c0 c1 of other fits x e = record {
   does = λ w m hart values f l holders free knows. puts-is w m l (e hart values) (x.does w m hart values f l holders free knows);
 }
 
-pub near-form : (scope : List Held) (own : Form) (s n r : ℕ) (c0 c1 : List ℕ) → IsNear scope own s n → IsWorth own n
+pub near-form : (scope : List Held) (own : AffineForm) (s n r : ℕ) (c0 c1 : List ℕ) → IsNear scope own s n → IsWorth own n
     → MakesOf c0 c1 3 r s (λ v. (v + n) % 2 ^ 32) → (Fits n → MakesOf c0 c1 1 r s (λ v. (v + n) % 2 ^ 32))
     → MakesForm c0 c1 (sum_words own.per_hart own.sum.terms) scope r (λ hart values. form_value hart values own)
 near-form scope own s n r c0 c1 near worth x one = by-worth worth
@@ -115,7 +115,7 @@ near-form scope own s n r c0 c1 near worth x one = by-worth worth
 
 -- ---- sums, term by term
 
-pub sum-none : (scope : List Held) (form : Form) (terms : List Term) (r : ℕ) (c0 c1 : List ℕ) → length terms < 1
+pub sum-none : (scope : List Held) (form : AffineForm) (terms : List Term) (r : ℕ) (c0 c1 : List ℕ) → length terms < 1
     → Makes c0 c1 (base_words form.per_hart) r (λ f. (form.sum.number + f hart_number * form.per_hart) % 2 ^ 32)
     → MakesForm c0 c1 (sum_words form.per_hart terms) scope r (sum_value form terms)
 sum-none scope form [] r c0 c1 none x =
@@ -125,7 +125,7 @@ sum-none scope form [] r c0 c1 none x =
     ap (λ h. (form.sum.number + h * form.per_hart) % 2 ^ 32) (knows-hart hart scope values f knows) ∙ g)
 sum-none scope form (first ∷ others) r c0 c1 none x = absurd (omega (arith, none))
 
-module _ (scope : List Held) (form : Form) (terms : List Term) (other : Term) (r : ℕ) (some : 1 ≤ length terms) where
+module _ (scope : List Held) (form : AffineForm) (terms : List Term) (other : Term) (r : ℕ) (some : 1 ≤ length terms) where
   abbrev first : Term
   first = get_or terms 0 other
 
@@ -197,7 +197,7 @@ module _ (scope : List Held) (form : Form) (terms : List Term) (other : Term) (r
   }
 
 -- the sum of all terms
-pub sum-is : (form : Form) (terms : List Term) (hart : ℕ) (values : Values) → terms ≡ form.sum.terms
+pub sum-is : (form : AffineForm) (terms : List Term) (hart : ℕ) (values : Values) → terms ≡ form.sum.terms
     → sum_value form terms hart values ≡ form_value hart values form
 unfolding form_value linear_value
 sum-is form terms hart values e =
@@ -207,7 +207,7 @@ sum-is form terms hart values e =
     let g : (n + h + s) % 2 ^ 32 ≡ ((n + s) % 2 ^ 32 + h) % 2 ^ 32 = omega arith in
     ap (λ ts. (n + h + sum_of values ts) % 2 ^ 32) e ∙ g
 
-pub whole-form : (scope : List Held) (form : Form) (terms : List Term) (r : ℕ) (c0 c1 : List ℕ) → terms ≡ form.sum.terms
+pub whole-form : (scope : List Held) (form : AffineForm) (terms : List Term) (r : ℕ) (c0 c1 : List ℕ) → terms ≡ form.sum.terms
     → MakesForm c0 c1 (sum_words form.per_hart terms) scope r (sum_value form terms)
     → MakesForm c0 c1 (sum_words form.per_hart form.sum.terms) scope r (λ hart values. form_value hart values form)
 whole-form scope form terms r c0 c1 e x =
@@ -218,7 +218,7 @@ whole-form scope form terms r c0 c1 e x =
 -- ---- addresses
 
 -- where a form is near enough
-pub address-near : (scope : List Held) (own : Form) (s n most r : ℕ) (c : List ℕ) → IsNear scope own s n → Fits n
+pub address-near : (scope : List Held) (own : AffineForm) (s n most r : ℕ) (c : List ℕ) → IsNear scope own s n → Fits n
     → MakesAddress c c most scope r s n (λ hart values. form_value hart values own)
 address-near scope own s n most r c near fit = record {
   insns = [];
@@ -237,7 +237,7 @@ address-near scope own s n most r c near fit = record {
 }
 
 -- and where the rest of the form is made
-pub address-made : (scope : List Held) (own rest : Form) (offset r : ℕ) (c0 c1 : List ℕ) → r < 32 → IsRest own rest offset
+pub address-made : (scope : List Held) (own rest : AffineForm) (offset r : ℕ) (c0 c1 : List ℕ) → r < 32 → IsRest own rest offset
     → MakesForm c0 c1 (sum_words rest.per_hart rest.sum.terms) scope r (λ hart values. form_value hart values rest)
     → MakesAddress c0 c1 (sum_words own.per_hart own.sum.terms) scope r r offset (λ hart values. form_value hart values own)
 address-made scope own rest offset r c0 c1 low is x = record {
@@ -262,7 +262,7 @@ rest-number : (n offset s h : ℕ) → offset < 2 ^ 32
     → ((n + s) % 2 ^ 32 + h) % 2 ^ 32 ≡ ((((n + (2 ^ 32 - offset)) % 2 ^ 32 + s) % 2 ^ 32 + h) % 2 ^ 32 + offset) % 2 ^ 32
 rest-number n offset s h small = omega (arith, small)
 
-pub rest-is : (form rest : Form) (offset : ℕ) → Fits offset → offset < 2 ^ 32 → rest.sum.terms ≡ form.sum.terms → rest.per_hart ≡ form.per_hart
+pub rest-is : (form rest : AffineForm) (offset : ℕ) → Fits offset → offset < 2 ^ 32 → rest.sum.terms ≡ form.sum.terms → rest.per_hart ≡ form.per_hart
     → rest.sum.number ≡ word.subtract form.sum.number offset → IsRest form rest offset
 unfolding form_value linear_value word.subtract
 rest-is form rest offset fit small terms part e = record {

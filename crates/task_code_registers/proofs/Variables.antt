@@ -13,7 +13,7 @@ use Rattle.loop_ir.specs.declared.expressions.Counter.{Counter}
 use Rattle.loop_ir.specs.declared.expressions.Term.{Term}
 use Rattle.loop_ir.specs.Counters.{Values, same_counter}
 use Rattle.loop_ir.specs.Expressions.{linear_value, sum_of}
-use Rattle.task_code_registers.specs.declared.scopes.Form.{Form}
+use Rattle.task_code_registers.specs.declared.scopes.AffineForm.{AffineForm}
 use Rattle.task_code_registers.specs.declared.scopes.Held.{Held}
 use Rattle.task_code_registers.specs.Emitting.{HoldsVariable}
 use Rattle.task_code_registers.specs.Registers.{may_hold}
@@ -67,7 +67,7 @@ once-value counter (own ∷ []) values t =
     ap (λ c. values c * own.stride + 0) (same_counter-true own.counter counter each.0) ∙ ap (λ s. values counter * s + 0) stride ∙ g
 once-value counter (own ∷ (next ∷ others)) values t = absurd (true≢false (sym t))
 
-variable-value : (counter : Counter) (form : Form) (hart : ℕ) (values : Values) → is_variable counter form ≡ true
+variable-value : (counter : Counter) (form : AffineForm) (hart : ℕ) (values : Values) → is_variable counter form ≡ true
     → form_value hart values form ≡ values counter % 2 ^ 32
 unfolding form_value linear_value
 variable-value counter form hart values t =

@@ -4,7 +4,7 @@ use Rattle.rv_insn.specs.declared.instructions.Insn.{Insn}
 use Rattle.memory.specs.Access.{byte_at, AreBytes}
 use Rattle.halide_pipeline.specs.Pixel.{Planes}
 use Rattle.loop_ir.specs.Buffers.{Points}
-use Rattle.multi_hart_logic.specs.Paths.{Stand, Block, Writes}
+use Rattle.multi_hart_laws.specs.Paths.{Stand, Block, Writes}
 use Rattle.task_code_scalar.specs.Layout.{IsOf, IsElsewhere}
 use Rattle.task_code_scalar.specs.Doing.{Setting, HoldsFuncs}
 

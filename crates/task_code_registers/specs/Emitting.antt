@@ -5,10 +5,10 @@ use Rattle.loop_ir.specs.declared.expressions.Counter.{Counter}
 use Rattle.loop_ir.specs.declared.expressions.Term.{Term}
 use Rattle.loop_ir.specs.Counters.{Values}
 use Rattle.loop_ir.specs.Expressions.{sum_of}
-use Rattle.multi_hart_logic.specs.Alone.{World}
-use Rattle.multi_hart_logic.specs.Paths.{Line}
+use Rattle.multi_hart_laws.specs.Alone.{World}
+use Rattle.multi_hart_laws.specs.Paths.{Line}
 use Rattle.task_code_scalar.specs.Words.{Emits}
-use Rattle.task_code_registers.specs.declared.scopes.Form.{Form}
+use Rattle.task_code_registers.specs.declared.scopes.AffineForm.{AffineForm}
 use Rattle.task_code_registers.specs.declared.scopes.Held.{Held}
 use Rattle.task_code_registers.specs.declared.sums.At.{At}
 use Rattle.task_code_registers.specs.Registers.{zero_register, hart_number, scratch, second_scratch, may_hold}
@@ -59,19 +59,19 @@ abbrev pub sum_words : ℕ → List Term → ℕ
 sum_words per_hart terms = base_words per_hart + 4 * length terms
 
 -- so it is of a form's value
-abbrev pub MakesValue : List ℕ → List ℕ → List Held → Form → ℕ → Type 0
+abbrev pub MakesValue : List ℕ → List ℕ → List Held → AffineForm → ℕ → Type 0
 MakesValue old new scope form r =
     MakesForm old new (sum_words form.per_hart form.sum.terms) scope r (λ hart values. form_value hart values form)
 
 -- ---- what is near
 
 -- a form is so much more than another one, on all harts and in all iterations
-abbrev pub IsApart : Form → Form → ℕ → Type 0
+abbrev pub IsApart : AffineForm → AffineForm → ℕ → Type 0
 IsApart form base d =
     (d < 2 ^ 32) × ((hart : ℕ) (values : Values) → form_value hart values form ≡ (form_value hart values base + d) % 2 ^ 32)
 
 -- a form is so much more than what a register of the scope holds
-pub record IsNear (scope : List Held) (form : Form) (r d : ℕ) : Type 0 where
+pub record IsNear (scope : List Held) (form : AffineForm) (r d : ℕ) : Type 0 where
   pub may : may_hold r ≡ true
   pub kept : IsKept scope r
   pub word : d < 2 ^ 32
@@ -80,12 +80,12 @@ pub record IsNear (scope : List Held) (form : Form) (r d : ℕ) : Type 0 where
 
 -- Code that adds so much to a register is no longer than code that makes the form: an immediate stands for the number, or the form isn't a
 -- number alone.
-abbrev pub IsWorth : Form → ℕ → Type 0
+abbrev pub IsWorth : AffineForm → ℕ → Type 0
 IsWorth form d = Fits d ⊎ (6 ≤ sum_words form.per_hart form.sum.terms)
 
 -- ---- addresses
 
--- straight code behind which a register and an offset make v; r and the scratch registers may change
+-- straight code after which a register and an offset make v; r and the scratch registers may change
 pub record Addresses (world : World) (memory : List ℕ) (insns : List Insn) (f : ℕ → ℕ) (r base offset v : ℕ) : Type 0 where
   pub after : ℕ → ℕ
   pub line : Line world insns f memory after memory
@@ -105,12 +105,12 @@ pub record MakesAddress (old new : List ℕ) (most : ℕ) (scope : List Held) (r
       → IsFree scope r → Knows hart scope values f → Addresses world memory insns f r base offset (says hart values)
 
 -- so it is of an address that is a form
-abbrev pub MakesFormAddress : List ℕ → List ℕ → List Held → Form → ℕ → At → Type 0
+abbrev pub MakesFormAddress : List ℕ → List ℕ → List Held → AffineForm → ℕ → At → Type 0
 MakesFormAddress old new scope form r at =
     MakesAddress old new (sum_words form.per_hart form.sum.terms) scope r at.register at.offset (λ hart values. form_value hart values form)
 
 -- a form is another one and an offset, which fits an immediate, and both have the same terms and part of the hart's number
-pub record IsRest (form rest : Form) (offset : ℕ) : Type 0 where
+pub record IsRest (form rest : AffineForm) (offset : ℕ) : Type 0 where
   pub fits : Fits offset
   pub small : offset < 2 ^ 32
   pub terms : rest.sum.terms ≡ form.sum.terms
@@ -129,9 +129,9 @@ abbrev pub MakesBase : List ℕ → List ℕ → ℕ → ℕ → ℕ → Type 0
 MakesBase old new r number per_hart = Makes old new (base_words per_hart) r (λ f. (number + f hart_number * per_hart) % 2 ^ 32)
 
 -- a form's number, its part of the hart's number, and these terms
-abbrev pub sum_value : Form → List Term → ℕ → Values → ℕ
+abbrev pub sum_value : AffineForm → List Term → ℕ → Values → ℕ
 sum_value form terms hart values = (form.sum.number + hart * form.per_hart + sum_of values terms) % 2 ^ 32
 
 -- they are made
-abbrev pub MakesSum : List ℕ → List ℕ → List Held → Form → List Term → ℕ → Type 0
+abbrev pub MakesSum : List ℕ → List ℕ → List Held → AffineForm → List Term → ℕ → Type 0
 MakesSum old new scope form terms r = MakesForm old new (sum_words form.per_hart terms) scope r (sum_value form terms)

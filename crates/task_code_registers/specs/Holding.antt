@@ -4,18 +4,18 @@ use Rattle.std.specs.Prelude.{List, [], ◌∷◌, ◌++◌, length, Option, Non
 use Rattle.rv_insn.specs.declared.instructions.Insn.{Insn}
 use Rattle.loop_ir.specs.declared.expressions.Counter.{Counter}
 use Rattle.loop_ir.specs.Counters.{Values, with}
-use Rattle.multi_hart_logic.specs.Alone.{World}
-use Rattle.multi_hart_logic.specs.Paths.{Line}
+use Rattle.multi_hart_laws.specs.Alone.{World}
+use Rattle.multi_hart_laws.specs.Paths.{Line}
 use Rattle.task_code_scalar.specs.Words.{Emits}
-use Rattle.task_code_registers.specs.declared.holding.Taken.{Taken}
-use Rattle.task_code_registers.specs.declared.scopes.Form.{Form}
+use Rattle.task_code_registers.specs.declared.holding.WidenedScope.{WidenedScope}
+use Rattle.task_code_registers.specs.declared.scopes.AffineForm.{AffineForm}
 use Rattle.task_code_registers.specs.declared.scopes.Held.{Held}
 use Rattle.task_code_registers.specs.Registers.{scratch, second_scratch, may_hold}
 use Rattle.task_code_registers.specs.Emitting.{sum_words}
 use Rattle.task_code_registers.specs.Scopes.{Knows, AreHolders, IsKept, form_value, left_count}
 use Rattle.task_code_registers.specs.Strides.{has_counter, others_of}
 
--- straight code that changes registers, and keeps these; behind it something is so
+-- straight code that changes registers, and keeps these; after it something is so
 pub record Stepped (world : World) (memory : List ℕ) (insns : List Insn) (f : ℕ → ℕ) (keeps_it : ℕ → Type 0) (mark_is : (ℕ → ℕ) → Type 0) : Type 0 where
   pub after : ℕ → ℕ
   pub line : Line world insns f memory after memory
@@ -23,7 +23,7 @@ pub record Stepped (world : World) (memory : List ℕ) (insns : List Insn) (f : 
   pub mark : mark_is after
 
 -- a form where a variable stands at a number
-pub record IsAt (counter : Counter) (n : ℕ) (form made : Form) : Type 0 where
+pub record IsAt (counter : Counter) (n : ℕ) (form made : AffineForm) : Type 0 where
   pub terms : made.sum.terms ≡ others_of counter form.sum.terms
   pub per_hart : made.per_hart ≡ form.per_hart
   pub value : (hart v : ℕ) (values : Values) → form_value hart (with counter v values) made ≡ form_value hart (with counter n values) form
@@ -46,18 +46,18 @@ pub record Enters (old new : List ℕ) (most : ℕ) (counter : Counter) (scope i
       → Knows hart scope (with counter 0 values) f → Stepped world memory insns f (IsKept scope) (Knows hart inner (with counter 0 values))
 
 -- a register is given to a form, and so many stay free
-pub record Takes (old new : List ℕ) (counter : Counter) (scope : List Held) (form : Form) (reserved r : ℕ) (inner : List Held) : Type 0 where
+pub record Takes (old new : List ℕ) (counter : Counter) (scope : List Held) (form : AffineForm) (reserved r : ℕ) (inner : List Held) : Type 0 where
   pub enters : Enters old new (sum_words form.per_hart form.sum.terms) counter scope inner
   pub is : inner ≡ record { register = r; form = form } ∷ scope
   pub may : may_hold r ≡ true
   pub left : reserved ≤ left_count inner
 
 -- a register is taken
-abbrev pub TakesIf : List ℕ → List ℕ → Counter → List Held → Form → ℕ → Option Taken → Type 0
+abbrev pub TakesIf : List ℕ → List ℕ → Counter → List Held → AffineForm → ℕ → Option WidenedScope → Type 0
 TakesIf old new counter scope form reserved made = IfSome made (λ own. Takes old new counter scope form reserved own.register own.scope.items)
 
 -- or there are no more than so many, and there is no code
-abbrev pub IsFullIf : List ℕ → List ℕ → List Held → ℕ → Option Taken → Type 0
+abbrev pub IsFullIf : List ℕ → List ℕ → List Held → ℕ → Option WidenedScope → Type 0
 IsFullIf old new scope reserved made = made ≡ None → (new ≡ old) × (left_count scope ≤ reserved)
 
 -- ---- from one iteration to the next
@@ -97,7 +97,7 @@ ScopesStay =
     (counter : Counter) (scope inner : List Held) → Extends scope inner → mentions counter scope ≡ false → AreHolders inner
     → (q : ℕ) → IsKept scope q → IsKept inner q × IsSteady counter inner q
 
--- One scope is entered behind another.
+-- One scope is entered after another.
 abbrev pub ScopesNest : Type 0
 ScopesNest =
     (old middle new : List ℕ) (n k : ℕ) (counter : Counter) (scope next inner : List Held) → Enters old middle n counter scope next

@@ -9,11 +9,11 @@ use Rattle.halide_pipeline.specs.Pixel.{Planes}
 use Rattle.loop_ir.specs.declared.expressions.Counter.{Counter}
 use Rattle.loop_ir.specs.Buffers.{Points}
 use Rattle.loop_ir.specs.Counters.{Values, with}
-use Rattle.loop_ir.specs.Running.{turns}
+use Rattle.loop_ir.specs.Running.{iterated}
 use Rattle.task_code_scalar.specs.Code.{back}
 use Rattle.task_code_scalar.specs.Doing.{Setting, HoldsFuncs}
 use Rattle.task_code_scalar.specs.Fitting.{total}
-use Rattle.task_code_registers.specs.declared.scopes.Form.{Form}
+use Rattle.task_code_registers.specs.declared.scopes.AffineForm.{AffineForm}
 use Rattle.task_code_registers.specs.declared.scopes.Held.{Held}
 use Rattle.task_code_registers.specs.Scopes.{Knows, IsKept, form_value}
 use Rattle.task_code_registers.specs.Strides.{strides}
@@ -22,19 +22,19 @@ use Rattle.task_code_registers.specs.Doing.{Did}
 
 -- ---- when a loop ends
 
--- by so many iterations a form goes on, and by less than a turn of 2^32 in all
-abbrev pub is_test : Counter → ℕ → Form → Bool
+-- by so many iterations a form goes on, and by less than 2^32 in all
+abbrev pub is_test : Counter → ℕ → AffineForm → Bool
 is_test counter n form =
     nat_lt 0 (strides counter form.sum.terms % 2 ^ 32) && nat_lt (n * (strides counter form.sum.terms % 2 ^ 32)) (2 ^ 32)
 
--- Behind an iteration such a form differs from what it is behind the last one just if there is a next one.
+-- After an iteration such a form differs from what it is after the last one just if there is a next one.
 abbrev pub LimitsTell : Type 0
 LimitsTell =
-    (counter : Counter) (n i hart : ℕ) (values : Values) (form limit : Form) → IsAt counter n form limit → is_test counter n form ≡ true → i < n
+    (counter : Counter) (n i hart : ℕ) (values : Values) (form limit : AffineForm) → IsAt counter n form limit → is_test counter n form ≡ true → i < n
     → is_taken branches.Bne (form_value hart (with counter (suc i) values) form) (form_value hart (with counter (suc i) values) limit)
     ≡ nat_lt (suc i) n
 
--- ---- iterations one behind the other
+-- ---- iterations one after the other
 
 -- the body, what makes the next iteration's numbers of this one's, and a branch back while there is a next iteration
 abbrev pub looped : List Insn → List Insn → BranchOp → ℕ → ℕ → List Insn
@@ -59,13 +59,13 @@ pub record Iterates (own : Setting) (hart : ℕ) (scope inner : List Held) (coun
 pub record StoresOf (stored body_stored : ℕ → Planes → Points) (one : ℕ → Planes → Planes) : Type 0 where
   pub none : (funcs : Planes) (func x y : ℕ) → stored zero funcs func x y ≡ true → ⊥
   pub more : (i : ℕ) (funcs : Planes) (func x y : ℕ) → stored (suc i) funcs func x y ≡ true
-      → (stored i funcs func x y ≡ true) ⊎ (body_stored i (turns i one funcs) func x y ≡ true)
+      → (stored i funcs func x y ≡ true) ⊎ (body_stored i (iterated i one funcs) func x y ≡ true)
 
 -- A loop of one iteration or more does them one after the other.
-abbrev pub LoopsGoRound : Type 0
-LoopsGoRound =
+abbrev pub LoopsIterate : Type 0
+LoopsIterate =
     (own : Setting) (hart : ℕ) (scope inner : List Held) (counter : Counter) (values : Values) (n : ℕ) (body advance : List Insn) (op : BranchOp) (a b : ℕ)
     (t : ℕ → ℕ) (one : ℕ → Planes → Planes) (body_stored stored : ℕ → Planes → Points) → 1 ≤ n
     → Iterates own hart scope inner counter values n body advance op a b t one body_stored → StoresOf stored body_stored one
     → (f : ℕ → ℕ) (memory : List ℕ) (funcs : Planes) → HoldsFuncs own memory funcs → Knows hart inner (with counter 0 values) f
-    → Did own (looped body advance op a b) (total n (λ i. t i + length advance + 1)) f memory (IsKept scope) (turns n one funcs) (stored n funcs)
+    → Did own (looped body advance op a b) (total n (λ i. t i + length advance + 1)) f memory (IsKept scope) (iterated n one funcs) (stored n funcs)

@@ -5,15 +5,15 @@ use Rattle.loop_ir.specs.declared.expressions.Counter.{Counter}
 use Rattle.loop_ir.specs.declared.expressions.Term.{Term}
 use Rattle.loop_ir.specs.Counters.{Values, same_counter}
 use Rattle.loop_ir.specs.Expressions.{linear_value}
-use Rattle.multi_hart_logic.specs.Paths.{vl_number, vtype_number}
-use Rattle.task_code_registers.specs.declared.scopes.Form.{Form}
+use Rattle.multi_hart_laws.specs.Paths.{vl_number, vtype_number}
+use Rattle.task_code_registers.specs.declared.scopes.AffineForm.{AffineForm}
 use Rattle.task_code_registers.specs.declared.scopes.Held.{Held}
 use Rattle.task_code_registers.specs.Registers.{zero_register, hart_number, hart_count, first_value, may_hold, IsWorking}
 
 -- ---- forms
 
 -- on a hart, where loop variables have these values
-unfoldable pub form_value : ℕ → Values → Form → ℕ
+unfoldable pub form_value : ℕ → Values → AffineForm → ℕ
 form_value hart values form = (linear_value values form.sum + hart * form.per_hart) % 2 ^ 32
 
 -- ---- which registers a scope has
@@ -77,7 +77,7 @@ is_once counter (own ∷ []) = same_counter own.counter counter && own.stride ==
 is_once counter (own ∷ (next ∷ others)) = false
 
 -- the form is the variable alone
-abbrev pub is_variable : Counter → Form → Bool
+abbrev pub is_variable : Counter → AffineForm → Bool
 is_variable counter form = form.sum.number == 0 && (form.per_hart == 0 && is_once counter form.sum.terms)
 
 -- some register holds the variable alone

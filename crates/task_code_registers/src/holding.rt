@@ -7,7 +7,7 @@ ghost use Rattle.task_code_registers.specs.Scopes.{have_registers};
 ghost use Rattle.task_code_registers.specs.Strides.{others_of, strides};
 
 use crate::numbers::emit_plus;
-use crate::scopes::{Form, Held, free_register, with_held};
+use crate::scopes::{AffineForm, Held, free_register, with_held};
 use crate::sums::emit_form;
 use crate::terms::with_room;
 use halide_pipeline::words;
@@ -58,10 +58,10 @@ fn other_terms(made: &mut Items<Term>, terms: &[Term], counter: Counter) -> Resu
 /// Memory ran out.
 pub fn at_value(
     alloc: Global,
-    form: &Form,
+    form: &AffineForm,
     counter: Counter,
     value: u32,
-) -> Result<Form, AllocError>
+) -> Result<AffineForm, AllocError>
     ensures { IfOk result (λ made. IsAt counter value form.now made) }
 {
     let mut terms = with_room(alloc, form.sum.terms.len())?;
@@ -69,14 +69,14 @@ pub fn at_value(
     let stride = stride_of(form.sum.terms.as_slice(), counter);
     let far = words::multiply(stride, value);
     let number = words::add(form.sum.number, far);
-    Ok(Form {
+    Ok(AffineForm {
         sum: Linear { number, terms },
         per_hart: form.per_hart,
     })
 }
 
-/// Whether a form goes on by so many iterations, and by less than a turn of 2^32 in all. Then it tells when they end.
-pub fn is_test(form: &Form, counter: Counter, count: u32) -> bool
+/// Whether a form goes on by so many iterations, and by less than 2^32 in all. Then it tells when they end.
+pub fn is_test(form: &AffineForm, counter: Counter, count: u32) -> bool
     ensures { result ≡ spec.is_test counter count form.now }
 {
     let stride = stride_of(form.sum.terms.as_slice(), counter);
@@ -87,7 +87,7 @@ pub fn is_test(form: &Form, counter: Counter, count: u32) -> bool
 
 /// A scope with one form more, and the register that holds it.
 #[derive(Debug, Drop)]
-pub struct Taken {
+pub struct WidenedScope {
     pub scope: Vec<Held>,
     pub register: u8,
 }
@@ -103,9 +103,9 @@ pub fn hold(
     code: &mut Vec<u32>,
     scope: &[Held],
     counter: Counter,
-    form: &Form,
+    form: &AffineForm,
     reserved: usize,
-) -> Result<Option<Taken>, AllocError>
+) -> Result<Option<WidenedScope>, AllocError>
     requires { have_registers scope.now (others_of counter form.now.sum.terms) ≡ true }
     ensures some { IfOk result (TakesIf code.old.items code.new.items counter scope.now form.now reserved) }
     ensures none { IfOk result (IsFullIf code.old.items code.new.items scope.now reserved) }
@@ -116,7 +116,7 @@ pub fn hold(
             let start = at_value(alloc, form, counter, 0)?;
             emit_form(code, scope, &start, register)?;
             let inner = with_held(alloc, scope, register, form)?;
-            Ok(Some(Taken {
+            Ok(Some(WidenedScope {
                 scope: inner,
                 register,
             }))

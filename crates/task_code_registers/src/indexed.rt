@@ -8,15 +8,15 @@ ghost use Rattle.task_code_registers.specs.Registers.{IsPlace};
 
 use crate::holding::{at_value, stride_of};
 use crate::numbers::emit_times;
-use crate::scopes::{Form, Held};
-use crate::sums::{At, Near, emit_product, emit_term, find, has_variable, register_of};
+use crate::scopes::{AffineForm, Held};
+use crate::sums::{At, NearForm, emit_product, emit_term, find, has_variable, register_of};
 use loop_ir::expressions::Term;
 use std::alloc::{AllocError, Global};
 
 /// What a form is: a register and a number, and so many times the register of a loop variable.
 #[derive(Clone, Copy, Debug)]
 pub struct Indexed {
-    pub base: Near,
+    pub base: NearForm,
     pub index: u8,
     pub stride: u32,
 }
@@ -26,7 +26,7 @@ pub struct Indexed {
 fn find_term(
     alloc: Global,
     scope: &[Held],
-    form: &Form,
+    form: &AffineForm,
     terms: &[Term],
 ) -> Result<Option<Indexed>, AllocError>
     ensures { IfOk result (λ found. IfSome found (IsIndexed scope.now form.now)) }
@@ -55,7 +55,11 @@ fn find_term(
 const FEWEST_TERMS: usize = 2;
 
 /// What a form is, if it is a held one and a scaled index, and has so many terms that its own code may be as long.
-fn find_indexed(alloc: Global, scope: &[Held], form: &Form) -> Result<Option<Indexed>, AllocError>
+fn find_indexed(
+    alloc: Global,
+    scope: &[Held],
+    form: &AffineForm,
+) -> Result<Option<Indexed>, AllocError>
     ensures is { IfOk result (λ found. IfSome found (IsIndexed scope.now form.now)) }
     ensures long { IfOk result (λ found. IfSome found (λ own. 2 ≤ length form.now.sum.terms)) }
 {
@@ -77,7 +81,7 @@ pub fn emit_indexed_address(
     alloc: Global,
     code: &mut Vec<u32>,
     scope: &[Held],
-    form: &Form,
+    form: &AffineForm,
     r: u8,
 ) -> Result<Option<At>, AllocError>
     requires { IsPlace r }
@@ -108,7 +112,7 @@ pub fn emit_indexed_form(
     alloc: Global,
     code: &mut Vec<u32>,
     scope: &[Held],
-    form: &Form,
+    form: &AffineForm,
     r: u8,
 ) -> Result<bool, AllocError>
     requires { IsPlace r }

@@ -1,7 +1,7 @@
 //! Laws of scopes and of loops.
 
 ghost use Rattle.task_code_registers.specs.Holding.{ScopesNest, ScopesStay};
-ghost use Rattle.task_code_registers.specs.Looping.{LimitsTell, LoopsGoRound};
+ghost use Rattle.task_code_registers.specs.Looping.{LimitsTell, LoopsIterate};
 ghost use Rattle.task_code_registers.specs.Scopes.{WorkingRegistersAreFree};
 
 /// The registers in which values and addresses are made hold no form of any scope.
@@ -9,7 +9,7 @@ pub fn working_registers_are_free()
     ensures { WorkingRegistersAreFree }
 {}
 
-/// Scopes may be entered one behind the other.
+/// Scopes may be entered one after the other.
 pub fn scopes_nest()
     ensures { ScopesNest }
 {}
@@ -25,6 +25,6 @@ pub fn limits_tell()
 {}
 
 /// A loop that is tested at its bottom does its iterations.
-pub fn loops_go_round()
-    ensures { LoopsGoRound }
+pub fn loops_iterate()
+    ensures { LoopsIterate }
 {}

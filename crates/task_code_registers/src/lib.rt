@@ -13,7 +13,7 @@
 //! - [`holding`]: appends what holds a form in a register while a loop runs, and what makes of the forms of an
 //!   iteration those of the next one (`specs/Holding.antt`).
 //! - [`terms`]: room for the terms of a sum.
-//! - [`laws`]: scopes may be entered one behind the other; a loop that is tested at its bottom does its iterations
+//! - [`laws`]: scopes may be entered one after the other; a loop that is tested at its bottom does its iterations
 //!   (`specs/Looping.antt`).
 #![tactic(auto)]
 

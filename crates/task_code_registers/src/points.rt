@@ -4,13 +4,13 @@ ghost use Rattle.std.specs.Prelude.{◌≡◌, ◌++◌, IfOk, OnOk};
 ghost use Rattle.task_code_scalar.specs.Code.{pixel_bytes};
 ghost use Rattle.task_code_registers.specs.Points.{IsPoint, times};
 
-use crate::scopes::Form;
+use crate::scopes::AffineForm;
 use crate::terms::with_room;
 use halide_pipeline::words;
 use loop_ir::expressions::{Linear, Term};
 use sqlite_items::Items;
 use std::alloc::{AllocError, Global};
-use task_code_scalar::places::{Pixels, Place};
+use task_code_scalar::layouts::{BufferLayout, Pixels};
 
 /// Appends terms times a number.
 fn add_times(made: &mut Items<Term>, terms: &[Term], factor: u32) -> Result<(), AllocError>
@@ -44,7 +44,12 @@ fn bytes_of(pixels: Pixels) -> u32
 /// # Errors
 ///
 /// Memory ran out.
-pub fn point_form(alloc: Global, place: &Place, x: &Linear, y: &Linear) -> Result<Form, AllocError>
+pub fn point_form(
+    alloc: Global,
+    place: &BufferLayout,
+    x: &Linear,
+    y: &Linear,
+) -> Result<AffineForm, AllocError>
     ensures { IfOk result (IsPoint place.now x.now y.now) }
 {
     let bytes = bytes_of(place.pixels);
@@ -56,7 +61,7 @@ pub fn point_form(alloc: Global, place: &Place, x: &Linear, y: &Linear) -> Resul
     let columns = words::multiply(x.number, bytes);
     let far = words::add(rows, columns);
     let number = words::add(place.start, far);
-    Ok(Form {
+    Ok(AffineForm {
         sum: Linear { number, terms },
         per_hart: place.distance,
     })

@@ -10,22 +10,22 @@ use std::alloc::{AllocError, Global};
 
 /// A sum of loop variables, each times a stride, and so much times the hart's number, modulo 2^32.
 #[derive(Debug, Drop)]
-pub struct Form {
+pub struct AffineForm {
     pub sum: Linear,
     pub per_hart: u32,
 }
 
-impl Form {
+impl AffineForm {
     /// The same once more.
     ///
     /// # Errors
     ///
     /// Memory ran out.
-    pub fn copy(&self, alloc: Global) -> Result<Form, AllocError>
+    pub fn copy(&self, alloc: Global) -> Result<AffineForm, AllocError>
         ensures { IfOk result (λ made. made ≡ self.now) }
     {
         let sum = self.sum.copy(alloc)?;
-        Ok(Form {
+        Ok(AffineForm {
             sum,
             per_hart: self.per_hart,
         })
@@ -37,7 +37,7 @@ impl Form {
 #[derive(Debug)]
 pub struct Held {
     pub register: u8,
-    pub form: Form,
+    pub form: AffineForm,
 }
 
 /// Written out, so that a check sees a call wherever one is dropped, and not the drops of its parts.
@@ -89,7 +89,7 @@ pub fn with_held(
     alloc: Global,
     scope: &[Held],
     register: u8,
-    form: &Form,
+    form: &AffineForm,
 ) -> Result<Vec<Held>, AllocError>
     ensures { IfOk result (λ made. made.items ≡ record { register = register; form = form.now } ∷ scope.now) }
 {
@@ -109,7 +109,7 @@ pub fn holding_too(
     alloc: Global,
     scope: Vec<Held>,
     register: u8,
-    form: &Form,
+    form: &AffineForm,
 ) -> Result<Vec<Held>, AllocError>
     ensures { IfOk result (λ made. made.items ≡ record { register = register; form = form.now } ∷ scope.items) }
 {

@@ -12,7 +12,7 @@ ghost use Rattle.task_code_registers.specs.Strides.{AgreeOn};
 use crate::holding::stride_of;
 use crate::numbers::{emit_number, emit_plus, emit_times, fits};
 use crate::registers::{HART_NUMBER, SECOND_SCRATCH, may_hold};
-use crate::scopes::{Form, Held};
+use crate::scopes::{AffineForm, Held};
 use halide_pipeline::words;
 use loop_ir::expressions::{Counter, Term, same_counter};
 use rv_insn::AluOp;
@@ -95,7 +95,7 @@ fn are_same(a: &[Term], b: &[Term]) -> bool
 }
 
 /// By how much a form is more than another one, where that is the same number on all harts and in all iterations.
-pub fn distance(form: &Form, base: &Form) -> Option<u32>
+pub fn distance(form: &AffineForm, base: &AffineForm) -> Option<u32>
     ensures { IfSome result (IsApart form.now base.now) }
 {
     if form.per_hart == base.per_hart
@@ -108,7 +108,7 @@ pub fn distance(form: &Form, base: &Form) -> Option<u32>
 }
 
 /// So much it is, if that fits an immediate. Where their numbers are further apart, terms aren't looked at.
-pub fn small_distance(form: &Form, base: &Form) -> Option<u32>
+pub fn small_distance(form: &AffineForm, base: &AffineForm) -> Option<u32>
     ensures apart { IfSome result (IsApart form.now base.now) }
     ensures small { IfSome result Fits }
 {
@@ -122,7 +122,7 @@ pub fn small_distance(form: &Form, base: &Form) -> Option<u32>
 }
 
 /// Either of both.
-fn wanted_distance(form: &Form, base: &Form, is_small: bool) -> Option<u32>
+fn wanted_distance(form: &AffineForm, base: &AffineForm, is_small: bool) -> Option<u32>
     ensures apart { IfSome result (IsApart form.now base.now) }
     ensures small { is_small ≡ true → IfSome result Fits }
 {
@@ -135,13 +135,13 @@ fn wanted_distance(form: &Form, base: &Form, is_small: bool) -> Option<u32>
 
 /// A register, and by how much a form is more than what it holds.
 #[derive(Clone, Copy, Debug)]
-pub struct Near {
+pub struct NearForm {
     pub register: u8,
     pub number: u32,
 }
 
 /// A register whose form differs from this one by a number: by one that fits an immediate, if only these are wanted.
-pub fn find(scope: &[Held], form: &Form, is_small: bool) -> Option<Near>
+pub fn find(scope: &[Held], form: &AffineForm, is_small: bool) -> Option<NearForm>
     ensures small { is_small ≡ true → IfSome result (λ near. Fits near.number) }
     ensures near { IfSome result (λ near. IsNear scope.now form.now near.register near.number) }
 {
@@ -151,7 +151,7 @@ pub fn find(scope: &[Held], form: &Form, is_small: bool) -> Option<Near>
             match wanted_distance(form, &first.form, is_small) {
                 Some(number) => {
                     if may_hold(first.register) {
-                        return Some(Near {
+                        return Some(NearForm {
                             register: first.register,
                             number,
                         });
@@ -165,7 +165,7 @@ pub fn find(scope: &[Held], form: &Form, is_small: bool) -> Option<Near>
 }
 
 /// The nearest of them. For a number alone only a small difference counts, since a literal takes two instructions.
-pub fn nearest(scope: &[Held], form: &Form) -> Option<Near>
+pub fn nearest(scope: &[Held], form: &AffineForm) -> Option<NearForm>
     ensures near { IfSome result (λ near. IsNear scope.now form.now near.register near.number) }
     ensures worth { IfSome result (λ near. IsWorth form.now near.number) }
 {
@@ -183,7 +183,7 @@ pub fn nearest(scope: &[Held], form: &Form) -> Option<Near>
 // ---- registers of loop variables
 
 /// Whether a form is a loop variable alone.
-fn is_variable(counter: Counter, form: &Form) -> bool
+fn is_variable(counter: Counter, form: &AffineForm) -> bool
     ensures { result ≡ spec.is_variable counter form.now }
 {
     form.sum.number == 0 && (form.per_hart == 0 && is_once(counter, form.sum.terms.as_slice()))
@@ -298,7 +298,7 @@ fn emit_base(code: &mut Vec<u32>, number: u32, per_hart: u32, r: u8) -> Result<(
 fn emit_sum(
     code: &mut Vec<u32>,
     scope: &[Held],
-    form: &Form,
+    form: &AffineForm,
     terms: &[Term],
     r: u8,
 ) -> Result<(), AllocError>
@@ -333,7 +333,12 @@ fn emit_sum(
 /// # Errors
 ///
 /// Memory ran out.
-pub fn emit_form(code: &mut Vec<u32>, scope: &[Held], form: &Form, r: u8) -> Result<(), AllocError>
+pub fn emit_form(
+    code: &mut Vec<u32>,
+    scope: &[Held],
+    form: &AffineForm,
+    r: u8,
+) -> Result<(), AllocError>
     requires place { IsPlace r }
     requires held { spec.have_registers scope.now form.now.sum.terms ≡ true }
     ensures { OnOk result (MakesValue code.old.items code.new.items scope.now form.now r) }
@@ -368,7 +373,7 @@ fn offset_of(number: u32) -> u32
 }
 
 /// The form without that part of its number, and the part.
-fn without_offset(alloc: Global, form: &Form) -> Result<(Form, u32), AllocError>
+fn without_offset(alloc: Global, form: &AffineForm) -> Result<(AffineForm, u32), AllocError>
     ensures { IfOk result (λ made. IsRest form.now made.0 made.1) }
 {
     let offset = offset_of(form.sum.number);
@@ -387,7 +392,7 @@ pub fn emit_address(
     alloc: Global,
     code: &mut Vec<u32>,
     scope: &[Held],
-    form: &Form,
+    form: &AffineForm,
     r: u8,
 ) -> Result<At, AllocError>
     requires place { IsPlace r }

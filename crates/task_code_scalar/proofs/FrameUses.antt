@@ -5,10 +5,10 @@ use Rattle.std.proofs.lemmas.Bool.Decides.{nat_tests}
 use Rattle.memory.specs.Access.{Word, touched}
 use Rattle.hart_core.specs.Scalar.{one_access}
 use Rattle.multi_hart.specs.Run.{Within, is_in}
-use Rattle.multi_hart_logic.specs.Uses.{Use, Owned, Private, Job, Task, MayRead, MayWrite}
-use Rattle.multi_hart_logic.specs.Alone.{World}
+use Rattle.multi_hart_laws.specs.Uses.{Use, Owned, Private, Job, Task, MayRead, MayWrite}
+use Rattle.multi_hart_laws.specs.Alone.{World}
 use Rattle.halide_pipeline.specs.Points.{Point}
-use Rattle.task_code_scalar.specs.declared.places.Places.{Places}
+use Rattle.task_code_scalar.specs.declared.layouts.Places.{Places}
 use Rattle.task_code_scalar.specs.Code.{frame_words}
 use Rattle.task_code_scalar.specs.Layout.{frame_start, frame_word, OwnsFrame, IsFrame, address_of, bytes_of}
 

@@ -6,7 +6,7 @@ use Rattle.halide_pipeline.specs.declared.expressions.Source.{Source}
 use Rattle.halide_pipeline.specs.declared.expressions.Source.TheVariants as sources
 use Rattle.halide_pipeline.specs.Pixel.{Planes, Reads, reads_of}
 use Rattle.halide_pipeline.specs.Points.{Point}
-use Rattle.multi_hart_logic.specs.Alone.{World}
+use Rattle.multi_hart_laws.specs.Alone.{World}
 use Rattle.task_code_scalar.specs.Evaluation.{Loads}
 use Rattle.task_code_scalar.specs.Doing.{Setting, IsSetting, HoldsFuncs}
 

@@ -1,4 +1,4 @@
--- Where jumps go, and what every round passes.
+-- Where jumps go, and what every iteration passes.
 use Rattle.std.proofs.Common.{◌≡◌, ℕ, zero, suc, ◌+◌, ◌-◌, ◌*◌, ◌%◌, ◌^◌, ◌<◌, ◌≤◌, List, [], ◌∷◌, length, true, ap, ◌∙◌, subst, arith}
 use Rattle.std.proofs.Common.{inl, inr}
 use Rattle.std.specs.Prelude.{Bool, pos}
@@ -7,7 +7,7 @@ use Rattle.loop_ir.specs.Soundness.{every}
 use Rattle.std.proofs.Math.IntN.{pos-*ℤ-pos, pos-*ℤ-negsuc, neg_ℤ}
 use Rattle.rv_insn.specs.declared.instructions.Insn.{Insn}
 use Rattle.hart_core.specs.Scalar.{plus, offset_from}
-use Rattle.multi_hart_logic.specs.Paths.{end}
+use Rattle.multi_hart_laws.specs.Paths.{end}
 use Rattle.task_code_scalar.specs.Code.{forth, back}
 
 pub end-length : (at : ℕ) (is : List Insn) → end at is ≡ at + 4 * length is
@@ -23,13 +23,13 @@ back-to at n to e low l =
     ap (plus at) (pos-*ℤ-negsuc 2 (2 * n - 1) ∙ ap (λ z. neg_ℤ (pos z)) twice)
     ∙ (let g : (at + (2 ^ 32 - suc ((4 * n - 1) % 2 ^ 32))) % 2 ^ 32 ≡ to = omega (arith, e, l, low) in g)
 
--- what every round passes, each one does
-pub each-turn : (n : ℕ) (passes : ℕ → Bool) → every n passes ≡ true → (i : ℕ) → i < n → passes i ≡ true
+-- what every iteration passes, each one does
+pub each-iteration : (n : ℕ) (passes : ℕ → Bool) → every n passes ≡ true → (i : ℕ) → i < n → passes i ≡ true
 unfolding every
-each-turn zero passes is i l = absurd (omega (arith, l))
-each-turn (suc n) passes is i l =
+each-iteration zero passes is i l = absurd (omega (arith, l))
+each-iteration (suc n) passes is i l =
     let k = and_parts (every n passes) (passes n) is in
     elim (cases_lt i n) [
-      | inl a ↦ each-turn n passes k.0 i a
+      | inl a ↦ each-iteration n passes k.0 i a
       | inr b ↦ let e : n ≡ i = omega (arith, l, b) in subst (λ j. passes j ≡ true) e k.1
     ]

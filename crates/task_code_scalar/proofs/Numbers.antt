@@ -32,9 +32,9 @@ not-zero (suc c) a b =
     rw (t, u) refl
 
 -- 1 in place of 0 and 0 in place of 1
-pub turned : (c : Bool) → one_if (nat_lt (one_if c) 1) ≡ one_if (not c)
-turned true = refl
-turned false = refl
+pub swapped : (c : Bool) → one_if (nat_lt (one_if c) 1) ≡ one_if (not c)
+swapped true = refl
+swapped false = refl
 
 -- ---- order: that of signed numbers is that of the words half a turn further
 
@@ -54,24 +54,24 @@ lt-true a b l = grind (arith, nat_tests)
 lt-false : (a b : ℕ) → b ≤ a → nat_lt a b ≡ false
 lt-false a b l = grind (arith, nat_tests)
 
-low-turned : (x : ℕ) → x < 2147483648 → (x + 2147483648) % 4294967296 ≡ x + 2147483648
-low-turned x l = omega (arith, l)
+low-swapped : (x : ℕ) → x < 2147483648 → (x + 2147483648) % 4294967296 ≡ x + 2147483648
+low-swapped x l = omega (arith, l)
 
-high-turned : (x : ℕ) → 2147483648 ≤ x → x < 4294967296 → (x + 2147483648) % 4294967296 ≡ x - 2147483648
-high-turned x l h = omega (arith, l, h)
+high-swapped : (x : ℕ) → 2147483648 ≤ x → x < 4294967296 → (x + 2147483648) % 4294967296 ≡ x - 2147483648
+high-swapped x l h = omega (arith, l, h)
 
-less-turned : (x y : ℕ) → x < 4294967296 → y < 4294967296 → lanes.less_signed 32 x y ≡ nat_lt ((x + 2147483648) % 4294967296) ((y + 2147483648) % 4294967296)
-less-turned x y lx ly = elim (cases_lt x 2147483648) [
+less-swapped : (x y : ℕ) → x < 4294967296 → y < 4294967296 → lanes.less_signed 32 x y ≡ nat_lt ((x + 2147483648) % 4294967296) ((y + 2147483648) % 4294967296)
+less-swapped x y lx ly = elim (cases_lt x 2147483648) [
   | inl a ↦ elim (cases_lt y 2147483648) [
-    | inl c ↦ rw (lt-true x 2147483648 a, lt-true y 2147483648 c, low-turned x a, low-turned y c) (same-test x y (x + 2147483648) (y + 2147483648)
+    | inl c ↦ rw (lt-true x 2147483648 a, lt-true y 2147483648 c, low-swapped x a, low-swapped y c) (same-test x y (x + 2147483648) (y + 2147483648)
         (λ l. omega (arith, l)) (λ l. omega (arith, l)))
-    | inr c ↦ rw (lt-true x 2147483648 a, lt-false y 2147483648 c, low-turned x a, high-turned y c ly)
+    | inr c ↦ rw (lt-true x 2147483648 a, lt-false y 2147483648 c, low-swapped x a, high-swapped y c ly)
         (sym (lt-false (x + 2147483648) (y - 2147483648) (omega (arith, a, c, ly))))
   ]
   | inr a ↦ elim (cases_lt y 2147483648) [
-    | inl c ↦ rw (lt-false x 2147483648 a, lt-true y 2147483648 c, high-turned x a lx, low-turned y c)
+    | inl c ↦ rw (lt-false x 2147483648 a, lt-true y 2147483648 c, high-swapped x a lx, low-swapped y c)
         (sym (lt-true (x - 2147483648) (y + 2147483648) (omega (arith, a, c, lx))))
-    | inr c ↦ rw (lt-false x 2147483648 a, lt-false y 2147483648 c, high-turned x a lx, high-turned y c ly)
+    | inr c ↦ rw (lt-false x 2147483648 a, lt-false y 2147483648 c, high-swapped x a lx, high-swapped y c ly)
         (same-test (4294967296 - suc y) (4294967296 - suc x) (x - 2147483648) (y - 2147483648) (λ l. omega (arith, l, a, c, lx, ly))
         (λ l. omega (arith, l, a, c, lx, ly)))
   ]
@@ -79,7 +79,7 @@ less-turned x y lx ly = elim (cases_lt x 2147483648) [
 
 pub less-is : (x y : ℕ) → x < 2 ^ 32 → y < 2 ^ 32 → lanes.less_signed 32 x y ≡ word.less x y
 unfolding word.less
-less-is x y lx ly = less-turned x y lx ly
+less-is x y lx ly = less-swapped x y lx ly
 
 -- ---- equal words leave 0
 

@@ -8,7 +8,7 @@ use Rattle.std.proofs.lemmas.Bool.Decides.{nat_tests}
 use Rattle.rv_insn.specs.declared.instructions.Insn.{Insn}
 use Rattle.rv_encoding.specs.Decoding.{decoded}
 use Rattle.memory.specs.Access.{fetched}
-use Rattle.multi_hart_logic.specs.Paths.{Stand}
+use Rattle.multi_hart_laws.specs.Paths.{Stand}
 use Rattle.task_code_scalar.specs.Words.{Spell, Emits}
 
 spell-append : (ws vs : List ℕ) (is js : List Insn) → Spell ws is → Spell vs js → Spell (ws ++ vs) (is ++ js)

@@ -15,12 +15,12 @@ use Rattle.halide_pipeline.specs.declared.expressions.Source.TheVariants as sour
 use Rattle.halide_pipeline.specs.Pixel.{Planes, reads_of}
 use Rattle.halide_pipeline.specs.Points.{Point}
 use Rattle.loop_ir.specs.Buffers.{Points, put as put_point}
-use Rattle.multi_hart_logic.specs.Alone.{World}
+use Rattle.multi_hart_laws.specs.Alone.{World}
 use Rattle.multi_hart.specs.Run.{is_in}
-use Rattle.multi_hart_logic.specs.Paths.{stored_at}
-use Rattle.task_code_scalar.specs.declared.places.Pixels.{Pixels}
-use Rattle.task_code_scalar.specs.declared.places.Pixels.TheVariants as pixels
-use Rattle.task_code_scalar.specs.declared.places.Places.{Places}
+use Rattle.multi_hart_laws.specs.Paths.{stored_at}
+use Rattle.task_code_scalar.specs.declared.layouts.Pixels.{Pixels}
+use Rattle.task_code_scalar.specs.declared.layouts.Pixels.TheVariants as pixels
+use Rattle.task_code_scalar.specs.declared.layouts.Places.{Places}
 use Rattle.task_code_scalar.specs.Code.{place_of, pixel_bytes, address}
 use Rattle.task_code_scalar.specs.Evaluation.{load_op}
 use Rattle.task_code_scalar.specs.Layout.{func_point, address_of, bytes_of, size_of, Laid, Holds, IsElsewhere, AreWords}

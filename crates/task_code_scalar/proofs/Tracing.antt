@@ -14,7 +14,7 @@ use Rattle.loop_ir.specs.declared.statements.Stmt.TheVariants as s
 use Rattle.loop_ir.specs.Buffers.{Points}
 use Rattle.loop_ir.specs.Counters.{Values, with}
 use Rattle.loop_ir.specs.Expressions.{value}
-use Rattle.loop_ir.specs.Running.{run, turns, whole_value}
+use Rattle.loop_ir.specs.Running.{run, iterated, whole_value}
 use Rattle.loop_ir.specs.Stores.{Trace, trace, trace_at, is_stored_by}
 use Rattle.loop_ir.proofs.Trees.{run_store, run_sequence, run_for, run_bind}
 
@@ -56,7 +56,7 @@ module _ (points : Points) (inputs : Planes) (func x y : ℕ) where
       → Trace) (trace_at points inputs func x y) (layer.Sequence first second))
 
   trace-for : (counter : Counter) (count : ℕ) (kind : LoopKind) (body : Stmt) (values : Values) (t : Trace)
-      → traced (s.For counter count kind body) values t ≡ turns count (λ turn. traced body (with counter turn values)) t
+      → traced (s.For counter count kind body) values t ≡ iterated count (λ iteration. traced body (with counter iteration values)) t
   unfolding trace
   trace-for counter count kind body values t =
       ap (λ statement. traced statement values t) (sym (rolls-For counter count kind body))
@@ -72,7 +72,7 @@ module _ (points : Points) (inputs : Planes) (func x y : ℕ) where
       ∙ ap (λ (made : Values → Trace → Trace). made values t) (fold-roll-Stmt (Values → Trace
       → Trace) (trace_at points inputs func x y) (layer.Bind counter whole extent body))
 
-  -- its own run's points come behind those so far
+  -- its own run's points come after those so far
   abbrev Adds : Stmt → Type 0
   Adds statement = (values : Values) (funcs : Planes) (so_far : Bool) → traced statement values (mark funcs so_far)
       ≡ mark (run points inputs statement values funcs) (so_far || hit statement values funcs)
@@ -111,24 +111,24 @@ module _ (points : Points) (inputs : Planes) (func x y : ℕ) where
       (or-or so_far (hit first values funcs) (hit second values (run points inputs first values funcs))
       ∙ ap (λ b. so_far || b) (sym (hit-both first second one two values funcs)))
 
-  -- ---- turns of a loop
+  -- ---- iterations of a loop
 
   module _ (body : Stmt) (at : ℕ → Values) where
     abbrev pub made : ℕ → Planes → Planes
-    made n funcs = turns n (λ turn. run points inputs body (at turn)) funcs
+    made n funcs = iterated n (λ iteration. run points inputs body (at iteration)) funcs
 
     abbrev pub marked : ℕ → Trace → Trace
-    marked n t = turns n (λ turn. traced body (at turn)) t
+    marked n t = iterated n (λ iteration. traced body (at iteration)) t
 
     abbrev pub hit_before : ℕ → Planes → Bool
     hit_before n funcs = (marked n (mark funcs false)).is_stored
 
-    turns-add : (n : ℕ) → Adds body → (funcs : Planes) (so_far : Bool) → marked n (mark funcs so_far) ≡ mark (made n funcs) (so_far || hit_before n funcs)
-    unfolding turns
-    turns-add zero adds funcs so_far = ap (mark funcs) (or-false so_far)
-    turns-add (suc n) adds funcs so_far =
-        let one = turns-add n adds funcs so_far in
-        let zero-one = turns-add n adds funcs false in
+    iterations-add : (n : ℕ) → Adds body → (funcs : Planes) (so_far : Bool) → marked n (mark funcs so_far) ≡ mark (made n funcs) (so_far || hit_before n funcs)
+    unfolding iterated
+    iterations-add zero adds funcs so_far = ap (mark funcs) (or-false so_far)
+    iterations-add (suc n) adds funcs so_far =
+        let one = iterations-add n adds funcs so_far in
+        let zero-one = iterations-add n adds funcs false in
         let next : hit_before (suc n) funcs ≡ (hit_before n funcs || hit body (at n) (made n funcs)) =
         ap (λ (t : Trace). (traced body (at n) t).is_stored) zero-one ∙ ap (λ (t : Trace). t.is_stored) (adds (at n) (made n funcs) (hit_before n funcs)) in
         ap (traced body (at n)) one
@@ -137,26 +137,26 @@ module _ (points : Points) (inputs : Planes) (func x y : ℕ) where
         (or-or so_far (hit_before n funcs) (hit body (at n) (made n funcs)) ∙ ap (λ b. so_far || b) (sym next))
 
     hit-next : (n : ℕ) → Adds body → (funcs : Planes) → hit_before (suc n) funcs ≡ (hit_before n funcs || hit body (at n) (made n funcs))
-    unfolding turns
+    unfolding iterated
     hit-next n adds funcs =
-        ap (λ (t : Trace). (traced body (at n) t).is_stored) (turns-add n adds funcs false)
+        ap (λ (t : Trace). (traced body (at n) t).is_stored) (iterations-add n adds funcs false)
         ∙ ap (λ (t : Trace). t.is_stored) (adds (at n) (made n funcs) (hit_before n funcs))
 
     hit-none : (funcs : Planes) → hit_before zero funcs ≡ false
-    unfolding turns
+    unfolding iterated
     hit-none funcs = refl
 
-  hit-turns : (counter : Counter) (count : ℕ) (kind : LoopKind) (body : Stmt) (values : Values) (funcs : Planes)
-      → hit (s.For counter count kind body) values funcs ≡ hit_before body (λ turn. with counter turn values) count funcs
-  hit-turns counter count kind body values funcs = ap (λ (t : Trace). t.is_stored) (trace-for counter count kind body values (mark funcs false))
+  hit-iterations : (counter : Counter) (count : ℕ) (kind : LoopKind) (body : Stmt) (values : Values) (funcs : Planes)
+      → hit (s.For counter count kind body) values funcs ≡ hit_before body (λ iteration. with counter iteration values) count funcs
+  hit-iterations counter count kind body values funcs = ap (λ (t : Trace). t.is_stored) (trace-for counter count kind body values (mark funcs false))
 
   adds-for : (counter : Counter) (count : ℕ) (kind : LoopKind) (body : Stmt) → Adds body → Adds (s.For counter count kind body)
   adds-for counter count kind body adds values funcs so_far =
       trace-for counter count kind body values (mark funcs so_far)
-      ∙ turns-add body (λ turn. with counter turn values) count adds funcs so_far
-      ∙ ap (λ p. mark p (so_far || hit_before body (λ turn. with counter turn values) count funcs)) (sym (run_for points inputs counter count kind body values
+      ∙ iterations-add body (λ iteration. with counter iteration values) count adds funcs so_far
+      ∙ ap (λ p. mark p (so_far || hit_before body (λ iteration. with counter iteration values) count funcs)) (sym (run_for points inputs counter count kind body values
       funcs))
-      ∙ ap (λ b. mark (run points inputs (s.For counter count kind body) values funcs) (so_far || b)) (sym (hit-turns counter count kind body values funcs))
+      ∙ ap (λ b. mark (run points inputs (s.For counter count kind body) values funcs) (so_far || b)) (sym (hit-iterations counter count kind body values funcs))
 
   hit-test : (counter : Counter) (whole : Whole) (extent : ℕ) (body : Stmt) (values : Values) (funcs : Planes)
       → hit (s.Bind counter whole extent body) values funcs ≡ (if nat_lt (whole_value whole values) extent then hit body
@@ -201,8 +201,8 @@ module _ (points : Points) (inputs : Planes) (func x y : ℕ) where
   hit-sequence first second values funcs = hit-both first second (adds-all first) (adds-all second) values funcs
 
   pub hit-for : (counter : Counter) (count : ℕ) (kind : LoopKind) (body : Stmt) (values : Values) (funcs : Planes)
-      → hit (s.For counter count kind body) values funcs ≡ hit_before body (λ turn. with counter turn values) count funcs
-  hit-for = hit-turns
+      → hit (s.For counter count kind body) values funcs ≡ hit_before body (λ iteration. with counter iteration values) count funcs
+  hit-for = hit-iterations
 
   pub hit-later : (body : Stmt) (at : ℕ → Values) (n : ℕ) (funcs : Planes) → hit_before body at (suc n) funcs ≡ (hit_before body at n funcs
       || hit body (at n) (made body at n funcs))

@@ -9,10 +9,10 @@ use Rattle.rv_insn.specs.declared.operations.ShiftOp.{ShiftOp}
 use Rattle.rv_insn.specs.declared.operations.AluOp.{AluOp}
 use Rattle.hart_core.specs.Scalar.{extended, computed, computed_with_immediate, shifted}
 use Rattle.lanes.specs.Words as lanes
-use Rattle.multi_hart_logic.specs.Alone.{World}
-use Rattle.multi_hart_logic.specs.Paths.{update, Line}
-use Rattle.multi_hart_logic.proofs.Paths.{update-same, update-other, line-then}
-use Rattle.multi_hart_logic.proofs.Rows as rows
+use Rattle.multi_hart_laws.specs.Alone.{World}
+use Rattle.multi_hart_laws.specs.Paths.{update, Line}
+use Rattle.multi_hart_laws.proofs.Paths.{update-same, update-other, line-then}
+use Rattle.multi_hart_laws.proofs.Rows as rows
 use Rattle.task_code_scalar.specs.Code.{upper, lower, literal}
 use Rattle.task_code_scalar.proofs.Numbers.{parts}
 

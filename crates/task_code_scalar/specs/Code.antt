@@ -5,10 +5,10 @@ use Rattle.rv_insn.specs.declared.instructions.Insn.TheVariants.{Lui, AluImm}
 use Rattle.rv_insn.specs.declared.operations.AluImmOp.TheVariants.{Addi}
 use Rattle.halide_pipeline.specs.declared.expressions.Source.{Source}
 use Rattle.halide_pipeline.specs.declared.expressions.Source.TheVariants as sources
-use Rattle.task_code_scalar.specs.declared.places.Place.{Place}
-use Rattle.task_code_scalar.specs.declared.places.Pixels.{Pixels}
-use Rattle.task_code_scalar.specs.declared.places.Pixels.TheVariants as pixels
-use Rattle.task_code_scalar.specs.declared.places.Places.{Places}
+use Rattle.task_code_scalar.specs.declared.layouts.BufferLayout.{BufferLayout}
+use Rattle.task_code_scalar.specs.declared.layouts.Pixels.{Pixels}
+use Rattle.task_code_scalar.specs.declared.layouts.Pixels.TheVariants as pixels
+use Rattle.task_code_scalar.specs.declared.layouts.Places.{Places}
 
 -- ---- a number in a register: its upper 20 bits, rounded, and what is added to them, from -2048 to 2047
 
@@ -31,10 +31,10 @@ back n = negsuc (2 * n - 1)
 
 -- ---- points
 
-abbrev pub nowhere : Place
+abbrev pub nowhere : BufferLayout
 nowhere = record { start = 0; width = 0; distance = 0; pixels = pixels.Words }
 
-abbrev pub place_of : Places → Source → Place
+abbrev pub place_of : Places → Source → BufferLayout
 place_of places (sources.Input k) = slice_index_or places.inputs k nowhere
 place_of places (sources.Func k) = slice_index_or places.funcs k nowhere
 
@@ -43,7 +43,7 @@ pixel_bytes pixels.Words = 4
 pixel_bytes pixels.Bytes = 1
 
 -- of a point of the copy of a hart
-abbrev pub address : Place → ℕ → ℕ → ℕ → ℕ
+abbrev pub address : BufferLayout → ℕ → ℕ → ℕ → ℕ
 address place hart x y = place.start + place.distance * hart + pixel_bytes place.pixels * (y * place.width + x)
 
 -- ---- frames, where values wait for which registers don't suffice

@@ -9,9 +9,9 @@ use Rattle.loop_ir.specs.Counters.{Values}
 use Rattle.loop_ir.specs.Runs.{stores_in_runs}
 use Rattle.loop_ir.specs.Soundness.{is_sound, Have}
 use Rattle.loop_ir.specs.Stores.{is_stored_by}
-use Rattle.multi_hart_logic.specs.Alone.{World, Keeps}
-use Rattle.multi_hart_logic.specs.LaneMemory.{accesses_to}
-use Rattle.task_code_scalar.specs.declared.places.Places.{Places}
+use Rattle.multi_hart_laws.specs.Alone.{World, Keeps}
+use Rattle.multi_hart_laws.specs.LaneMemory.{accesses_to}
+use Rattle.task_code_scalar.specs.declared.layouts.Places.{Places}
 use Rattle.task_code_scalar.specs.Evaluation.{ArePlaces}
 use Rattle.task_code_scalar.specs.Layout.{func_point, address_of, Laid, Holds, AreWords}
 

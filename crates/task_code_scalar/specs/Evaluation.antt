@@ -7,16 +7,16 @@ use Rattle.hart_core.specs.Scalar.{load_size}
 use Rattle.halide_pipeline.specs.declared.expressions.Source.{Source}
 use Rattle.halide_pipeline.specs.Pixel.{Reads}
 use Rattle.halide_pipeline.specs.Points.{Point}
-use Rattle.multi_hart_logic.specs.Alone.{World}
-use Rattle.multi_hart_logic.specs.Paths.{Readable}
-use Rattle.task_code_scalar.specs.declared.places.Pixels.{Pixels}
-use Rattle.task_code_scalar.specs.declared.places.Pixels.TheVariants as pixels
-use Rattle.task_code_scalar.specs.declared.places.Place.{Place}
-use Rattle.task_code_scalar.specs.declared.places.Places.{Places}
+use Rattle.multi_hart_laws.specs.Alone.{World}
+use Rattle.multi_hart_laws.specs.Paths.{Readable}
+use Rattle.task_code_scalar.specs.declared.layouts.Pixels.{Pixels}
+use Rattle.task_code_scalar.specs.declared.layouts.Pixels.TheVariants as pixels
+use Rattle.task_code_scalar.specs.declared.layouts.BufferLayout.{BufferLayout}
+use Rattle.task_code_scalar.specs.declared.layouts.Places.{Places}
 use Rattle.task_code_scalar.specs.Code.{place_of, address}
 
 -- the numbers that say where a buffer lies are words
-pub record IsPlace (place : Place) : Type 0 where
+pub record IsPlace (place : BufferLayout) : Type 0 where
   pub start : place.start < 2 ^ 32
   pub width : place.width < 2 ^ 32
   pub distance : place.distance < 2 ^ 32
@@ -33,7 +33,7 @@ abbrev pub word_start : ℕ → ℕ
 word_start byte = byte / 4 * 4
 
 -- a point of a source may be loaded, as may the word that holds it, and memory, which holds bytes, has there what reads of it answer
-pub record LoadsAt (world : World) (place : Place) (memory : List ℕ) (x y pixel : ℕ) : Type 0 where
+pub record LoadsAt (world : World) (place : BufferLayout) (memory : List ℕ) (x y pixel : ℕ) : Type 0 where
   pub low : address place world.hart x y < 2 ^ 32
   pub may : Readable world (load_size (load_op place.pixels)) (address place world.hart x y)
   pub holds : number_in world.text memory (load_size (load_op place.pixels)) (address place world.hart x y) ≡ pixel

@@ -6,11 +6,11 @@ use Rattle.halide_pipeline.specs.declared.expressions.Source.TheVariants as sour
 use Rattle.halide_pipeline.specs.Pixel.{Planes, Reads}
 use Rattle.halide_pipeline.specs.Points.{Point}
 use Rattle.loop_ir.specs.Buffers.{Points}
-use Rattle.multi_hart_logic.specs.Alone.{World}
-use Rattle.multi_hart_logic.specs.Paths.{Readable, MayBeWritten, Writable}
-use Rattle.multi_hart_logic.specs.Uses.{Owned, Private, Task}
-use Rattle.task_code_scalar.specs.declared.places.Pixels.TheVariants as pixels
-use Rattle.task_code_scalar.specs.declared.places.Places.{Places}
+use Rattle.multi_hart_laws.specs.Alone.{World}
+use Rattle.multi_hart_laws.specs.Paths.{Readable, MayBeWritten, Writable}
+use Rattle.multi_hart_laws.specs.Uses.{Owned, Private, Task}
+use Rattle.task_code_scalar.specs.declared.layouts.Pixels.TheVariants as pixels
+use Rattle.task_code_scalar.specs.declared.layouts.Places.{Places}
 use Rattle.task_code_scalar.specs.Code.{place_of, pixel_bytes, address, frames_of, frame_words}
 use Rattle.task_code_scalar.specs.Evaluation.{load_op, word_start}
 

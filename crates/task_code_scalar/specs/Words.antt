@@ -1,4 +1,4 @@
--- Words that spell instructions, one behind the other. This project's own.
+-- Words that spell instructions, one after the other. This project's own.
 use Rattle.std.specs.Prelude.{◌≡◌, ℕ, List, [], ◌∷◌, ◌++◌, Some}
 use Rattle.rv_insn.specs.declared.instructions.Insn.{Insn}
 use Rattle.rv_encoding.specs.Decoding.{decoded}

@@ -2,9 +2,9 @@
 //!
 //! - [`instructions`]: single scalar instructions, appended as words (`specs/Words.antt`); literals and jumps are those
 //!   of `specs/Code.antt`.
-//! - [`places`]: where buffers lie in memory. Which of their points may be written and loaded, and where a hart's frame
-//!   lies: `specs/Layout.antt`; what an expression loads: `specs/Evaluation.antt`.
-//! - [`loops`]: loop variables around a statement; `specs/Fitting.antt` adds up the turns of a loop's rounds.
+//! - [`layouts`]: where buffers lie in memory. Which of their points may be written and loaded, and where a hart's
+//!   frame lies: `specs/Layout.antt`; what an expression loads: `specs/Evaluation.antt`.
+//! - [`loops`]: loop variables around a statement; `specs/Fitting.antt` adds up the turns of a loop's iterations.
 //! - [`CodeFault`]: why no code is given, and what has room (`specs/Faults.antt`).
 //!
 //! A *setting* (`specs/Doing.antt`) is what stays while a task is done. There stands, too, what is asked of its
@@ -15,8 +15,8 @@ ghost use Rattle.std.specs.Prelude.{◌≡◌};
 ghost use Rattle.task_code_scalar.specs.declared.CodeFault.TheVariants as faults;
 
 pub mod instructions;
+pub mod layouts;
 pub mod loops;
-pub mod places;
 
 pub use crate::instructions::append;
 use std::alloc::AllocError;

@@ -1,4 +1,4 @@
--- A vectorized loop whose body is a single store, behind the values of split loops.
+-- A vectorized loop whose body is a single store, after the values of split loops.
 use Rattle.std.proofs.Common.{◌≡◌, ℕ, zero, suc, ◌+◌, ◌/◌, ◌*◌, ◌<◌, ◌≤◌, List, [], ◌∷◌, ◌++◌, length, Bool, true, false, refl, ap, ◌∙◌, sym, subst, arith}
 use Rattle.std.proofs.Common.{cond}
 use Rattle.std.specs.Prelude.{◌%◌, ◌^◌, ◌-◌, ◌&&◌, if◌then◌else◌, nat_lt, Option, Some, None}
@@ -26,7 +26,7 @@ use Rattle.loop_ir.specs.Running.{run, whole_value}
 use Rattle.loop_ir.specs.Soundness.{is_sound}
 use Rattle.loop_ir.proofs.AtOnce.{effect_store, effect_bind}
 use Rattle.loop_ir.proofs.Sound.{sound_store, sound_bind}
-use Rattle.task_code_scalar.specs.declared.places.Places.{Places}
+use Rattle.task_code_scalar.specs.declared.layouts.Places.{Places}
 use Rattle.task_code_scalar.specs.Doing.{stored_points}
 use Rattle.task_code_scalar.specs.Words.{Emits}
 use Rattle.task_code_registers.specs.declared.scopes.Held.{Held}
@@ -36,25 +36,25 @@ use Rattle.task_code_registers.proofs.Striding.{linear-with}
 use Rattle.task_code_loops.specs.declared.bounds.Bound.{Bound}
 use Rattle.task_code_loops.specs.Bounds.{AreBelow}
 use Rattle.task_code_loops.specs.Guarding.{stored_if}
-use Rattle.task_code_loops.specs.declared.known.Known.{Known}
+use Rattle.task_code_loops.specs.declared.known.KnownSum.{KnownSum}
 use Rattle.task_code_loops.specs.Known.{AreKnown}
 use Rattle.task_code_loops.proofs.Knowledge.{knows-with}
-use Rattle.task_code_lanes.specs.declared.groups.Group.{Group}
-use Rattle.task_code_lanes.specs.declared.groups.Group.TheVariants as groups
+use Rattle.task_code_lanes.specs.declared.groups.LaneGroup.{LaneGroup}
+use Rattle.task_code_lanes.specs.declared.groups.LaneGroup.TheVariants as groups
 use Rattle.task_code_lanes.specs.Groups.{registers}
-use Rattle.task_code_lane_values.specs.declared.vectorized.Lanes.{Lanes}
-use Rattle.task_code_runs.specs.Naming.{AreNamed}
-use Rattle.task_code_runs.specs.declared.left.Left.{Left}
-use Rattle.task_code_runs.specs.Runs.{EmitsRun, StoresAs, all_lanes, least_left, left_by, left_lanes, run_of}
-use Rattle.task_code_runs.proofs.Idling.{none-hit, none-run}
+use Rattle.task_code_lane_values.specs.declared.vectorized.VectorLanes.{VectorLanes}
+use Rattle.task_code_vector_loops.specs.Naming.{AreNamed}
+use Rattle.task_code_vector_loops.specs.declared.left.Left.{Left}
+use Rattle.task_code_vector_loops.specs.Runs.{EmitsRun, StoresAs, all_lanes, least_left, left_by, left_lanes, run_of}
+use Rattle.task_code_vector_loops.proofs.Idling.{none-hit, none-run}
 use Rattle.task_code_names.specs.declared.names.Named.{Named}
 use Rattle.task_code_names.specs.Names.{AreNames, IsNamedStore}
 use Rattle.task_code_names.proofs.Alike.{store-then}
 use Rattle.task_code_statements.specs.declared.contexts.Context.{Context}
 use Rattle.task_code_statements.specs.declared.guards.Guard.{Guard}
 use Rattle.task_code_statements.specs.declared.guards.Parted.{Parted}
-use Rattle.task_code_statements.specs.declared.vectorizing.Guarded.{Guarded}
-use Rattle.task_code_statements.specs.declared.vectorizing.Run.{Run}
+use Rattle.task_code_statements.specs.declared.vectorizing.GuardedStore.{GuardedStore}
+use Rattle.task_code_statements.specs.declared.vectorizing.VectorStore.{VectorStore}
 use Rattle.task_code_statements.specs.Contexts.{Meets, MeetsLoop, MeetsSum}
 use Rattle.task_code_statements.specs.Lacking.{StoreLacks}
 use Rattle.task_code_statements.specs.Plain.{IsPlainStore}
@@ -71,7 +71,7 @@ use Rattle.task_code_statements.proofs.Storing.{same-sound}
 
 -- ---- stores
 
-pub store-of : (context : Context) (known : List Known) (names : List Named) (body : Stmt) (store first made : Store) (own : Guarded) → IsPlainStore store
+pub store-of : (context : Context) (known : List KnownSum) (names : List Named) (body : Stmt) (store first made : Store) (own : GuardedStore) → IsPlainStore store
     → known ≡ context.known.items → names ≡ context.names.items → body ≡ s.Store store → IsSameStore known store first → IsNamedStore names first made
     → own.store ≡ made → own.guards.items ≡ [] → IsStoreOf context body own
 store-of context known names body store first made own plain ek en eb one two es eg = subst (λ b. IsStoreOf context b own) (sym eb) (record {
@@ -143,7 +143,7 @@ both-pass : (a b : Bool) → cond a b false ≡ true → (a ≡ true) × (b ≡ 
 both-pass true b is = (refl, is)
 both-pass false b is = absurd (true≢false (sym is))
 
-module _ (context within : Context) (counter : Counter) (whole : Whole) (extent : ℕ) (statement inside body : Stmt) (sum : Linear) (made : Guarded)
+module _ (context within : Context) (counter : Counter) (whole : Whole) (extent : ℕ) (statement inside body : Stmt) (sum : Linear) (made : GuardedStore)
     (es : statement ≡ s.Bind counter whole extent inside) (eb : body ≡ inside) (is : IsSplitSum context whole sum)
     (meets-sum : MeetsSum context counter sum within) (inner : IsStoreOf within body made) (lacks : StoreLacks counter made.store) where
   abbrev at : Values → Values
@@ -184,7 +184,7 @@ module _ (context within : Context) (counter : Counter) (whole : Whole) (extent 
         ∙ ap (λ k. cond (passes made.guards.items named) k None) (effect-left counter made.store lacks named (whole_value whole named) reads)
 
     -- the loop's own test is one of the store's
-    pub split-tested : (own : Guarded) → own.store ≡ made.store
+    pub split-tested : (own : GuardedStore) → own.store ≡ made.store
         → TestToo context.bounds.items made.guards.items (record { sum = sum; extent = extent }) own.guards.items → IsStoreOf context statement own
     split-tested own es more = subst (λ b. IsStoreOf context b own) statement-is (record {
       stores = λ reads values named same meets.
@@ -204,12 +204,12 @@ module _ (context within : Context) (counter : Counter) (whole : Whole) (extent 
 
 -- ---- the loop
 
-some-lanes : (group : Group) → 1 ≤ 4 * registers group
+some-lanes : (group : LaneGroup) → 1 ≤ 4 * registers group
 some-lanes groups.One = omega arith
 some-lanes groups.Two = omega arith
 some-lanes groups.Four = omega arith
 
-few-lanes : (group : Group) → 4 * registers group ≤ 16
+few-lanes : (group : LaneGroup) → 4 * registers group ≤ 16
 few-lanes groups.One = omega arith
 few-lanes groups.Two = omega arith
 few-lanes groups.Four = omega arith
@@ -311,10 +311,10 @@ module _ (first extent stride : ℕ) (some : 1 ≤ stride) (begins : first < ext
           let high : room_of first extent stride < quotient_of first extent stride * stride + stride = lt-div-mul-add some in
           is-past (first + i * stride) extent (omega (arith, more, high, some, begins))
 
-module _ (context inner : Context) (counter : Counter) (count : ℕ) (group : Group) (body : Stmt) (made : Guarded) (parts : Parted)
+module _ (context inner : Context) (counter : Counter) (count : ℕ) (group : LaneGroup) (body : Stmt) (made : GuardedStore) (parts : Parted)
     (ec : count ≡ 4 * registers group) (loop : MeetsLoop context counter count inner) (of : IsStoreOf inner body made)
     (parted : IsParted counter made.guards.items parts) (values named : Values) (same : AreNamed values named) (meets : Meets context named) where
-  abbrev lanes : Lanes
+  abbrev lanes : VectorLanes
   lanes = record { counter = counter; group = group }
 
   abbrev body_at : ℕ → Values
@@ -490,7 +490,7 @@ module _ (context inner : Context) (counter : Counter) (count : ℕ) (group : Gr
 
 -- ---- runs
 
-pub run-is : (context inner : Context) (lanes : Lanes) (count : ℕ) (body : Stmt) (made : Guarded) (parts : Parted) (run : Run) (bounds : List Bound)
+pub run-is : (context inner : Context) (lanes : VectorLanes) (count : ℕ) (body : Stmt) (made : GuardedStore) (parts : Parted) (run : VectorStore) (bounds : List Bound)
     → count ≡ all_lanes lanes → MeetsLoop context lanes.counter count inner → IsStoreOf inner body made → bounds ≡ inner.bounds.items
     → IsParted lanes.counter made.guards.items parts → AreLeft bounds lanes.counter parts.hanging.items run.left.items
     → TestFirst bounds lanes.counter parts.fixed.items parts.hanging.items run.fixed.items → run.store ≡ made.store → IsRunOf context lanes body run
@@ -514,7 +514,7 @@ run-is context inner lanes count body made parts run bounds ec loop of ebs parte
 
 -- ---- code
 
-pub vector-emits : (places : Places) (scope : List Held) (context : Context) (own : Bound) (lanes : Lanes) (body : Stmt) (made : Run)
+pub vector-emits : (places : Places) (scope : List Held) (context : Context) (own : Bound) (lanes : VectorLanes) (body : Stmt) (made : VectorStore)
     (c0 c1 none words : List ℕ) → none ≡ [] → AreLanes scope own lanes → IsRunOf context lanes body made
     → EmitsRun none words places scope lanes (left_lanes lanes made.left.items) made.store → WordsBehind c0 c1 scope made.fixed.items words
     → EmitsStatement c0 c1 places scope (Meets context) (s.For own.counter own.count Vectorized body)
@@ -554,7 +554,7 @@ vector-emits places scope context own lanes body made c0 c1 none words en are is
     stored-as false stored func x y absent h = absurd (absent refl h)
 
 -- as the emitters call it
-pub vector-behind : (places : Places) (scope : List Held) (context : Context) (own : Bound) (lanes : Lanes) (body : Stmt) (made : Run)
+pub vector-behind : (places : Places) (scope : List Held) (context : Context) (own : Bound) (lanes : VectorLanes) (body : Stmt) (made : VectorStore)
     (c0 c1 none words : List ℕ) (fixed : List Guard) (left : List Left) (seen : List ℕ) → none ≡ [] → AreLanes scope own lanes
     → IsRunOf context lanes body made → EmitsRun none words places scope lanes (left_lanes lanes left) made.store → left ≡ made.left.items
     → fixed ≡ made.fixed.items → seen ≡ words

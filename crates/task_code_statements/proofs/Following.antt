@@ -11,18 +11,18 @@ use Rattle.loop_ir.specs.declared.statements.Stmt.TheVariants as s
 use Rattle.loop_ir.specs.declared.statements.Whole.{Whole}
 use Rattle.loop_ir.specs.Buffers.{Points}
 use Rattle.loop_ir.specs.Counters.{Values, with}
-use Rattle.loop_ir.specs.Rounds.{Rounds, rounds, is_vectorized, is_round_count, are_apart, all_step_up, may_be_at_once}
+use Rattle.loop_ir.specs.LoopLanes.{LoopLanes, loop_lanes, is_vectorized, is_lane_count, are_apart, all_step_up, may_be_at_once}
 use Rattle.loop_ir.specs.Runs.{Runs, runs, are_same, stores_in_runs}
 use Rattle.loop_ir.specs.Running.{whole_value}
 use Rattle.loop_ir.specs.Soundness.{every, is_sound}
-use Rattle.loop_ir.proofs.Rounds.{rounds_sequence, rounds_for, rounds_bind}
+use Rattle.loop_ir.proofs.LoopLanes.{lanes_sequence, lanes_of_loop, lanes_bind}
 use Rattle.loop_ir.proofs.Runs.{runs_sequence, runs_for, runs_bind}
 use Rattle.loop_ir.proofs.Sound.{sound_sequence, sound_for, sound_bind}
 use Rattle.task_code_scalar.specs.Doing.{Setting, SoundIn, RunsIn}
 use Rattle.task_code_scalar.specs.Layout.{AreWords}
-use Rattle.task_code_scalar.proofs.Looping.{each-turn}
+use Rattle.task_code_scalar.proofs.Looping.{each-iteration}
 use Rattle.task_code_registers.specs.Doing.{Did}
-use Rattle.task_code_runs.specs.AtOnce.{AtOnceIn, MayRun}
+use Rattle.task_code_vector_loops.specs.AtOnce.{AtOnceIn, MayRun}
 
 -- ---- code that did something
 
@@ -79,7 +79,7 @@ module _ (own : Setting) where
         → (may_be_at_once (reads_of own.inputs p) first values ≡ true) × (may_be_at_once (reads_of own.inputs p) second values ≡ true)
     once-both once p words =
         and_parts (may_be_at_once (reads_of own.inputs p) first values) (may_be_at_once (reads_of own.inputs p) second values)
-        (sym (ap (λ (r : Rounds). r.may_be_at_once values) (rounds_sequence (reads_of own.inputs p) first second)) ∙ once p words)
+        (sym (ap (λ (r : LoopLanes). r.may_be_at_once values) (lanes_sequence (reads_of own.inputs p) first second)) ∙ once p words)
 
     pub may-first : MayRun own (s.Sequence first second) values → MayRun own first values
     may-first may = record {
@@ -98,7 +98,7 @@ module _ (own : Setting) where
   module _ (counter : Counter) (count : ℕ) (kind : LoopKind) (body : Stmt) (values : Values) where
     sound-each : SoundIn own (s.For counter count kind body) values → (i : ℕ) → i < count → SoundIn own body (with counter i values)
     sound-each sound i less p words =
-        each-turn count (λ turn. is_sound (reads_of own.inputs p) own.written own.loaded body (with counter turn values))
+        each-iteration count (λ iteration. is_sound (reads_of own.inputs p) own.written own.loaded body (with counter iteration values))
         (sym (sound_for (reads_of own.inputs p) own.written own.loaded counter count kind body values) ∙ sound p words) i less
 
     -- iterations of a loop that is not vectorized store in runs as it does
@@ -106,21 +106,21 @@ module _ (own : Setting) where
         → RunsIn own body (with counter i values)
     runs-each sure plain i less p words func in_runs x y =
         let r = runs (reads_of own.inputs p) func x y (own.run func x y) body in
-        each-turn count (λ turn. r.are_runs (with counter turn values))
-        (sym (ap (λ t. if t && counter.func == func then are_same (every count (λ round. r.misses (with counter round values)))
-        (not (own.run func x y values)) else every count (λ turn. r.are_runs (with counter turn values))) plain)
+        each-iteration count (λ iteration. r.are_runs (with counter iteration values))
+        (sym (ap (λ t. if t && counter.func == func then are_same (every count (λ lane. r.misses (with counter lane values)))
+        (not (own.run func x y values)) else every count (λ iteration. r.are_runs (with counter iteration values))) plain)
         ∙ sym (ap (λ (a : Runs). a.are_runs values) (runs_for (reads_of own.inputs p) func x y (own.run func x y) counter count kind body))
         ∙ sure p words func in_runs x y) i less
 
     once-each : AtOnceIn own (s.For counter count kind body) values → (i : ℕ) → i < count → AtOnceIn own body (with counter i values)
     once-each once i less p words =
         let reads = reads_of own.inputs p in
-        let at : ℕ → Values = (λ turn. with counter turn values) in
-        let r = rounds reads body in
-        each-turn count (λ turn. may_be_at_once reads body (at turn))
-        (and_parts (not (is_vectorized kind) || (is_round_count count && (r.is_one_store && (are_apart r at count && all_step_up r at count))))
-        (every count (λ turn. may_be_at_once reads body (at turn)))
-        (sym (ap (λ (r : Rounds). r.may_be_at_once values) (rounds_for reads counter count kind body)) ∙ once p words)).1 i less
+        let at : ℕ → Values = (λ iteration. with counter iteration values) in
+        let r = loop_lanes reads body in
+        each-iteration count (λ iteration. may_be_at_once reads body (at iteration))
+        (and_parts (not (is_vectorized kind) || (is_lane_count count && (r.is_one_store && (are_apart r at count && all_step_up r at count))))
+        (every count (λ iteration. may_be_at_once reads body (at iteration)))
+        (sym (ap (λ (r : LoopLanes). r.may_be_at_once values) (lanes_of_loop reads counter count kind body)) ∙ once p words)).1 i less
 
     pub may-each : MayRun own (s.For counter count kind body) values → is_vectorized kind ≡ false → (i : ℕ) → i < count
         → MayRun own body (with counter i values)
@@ -139,17 +139,17 @@ module _ (own : Setting) where
     sound-fewer : SoundIn own (s.For counter (suc k) kind body) values → SoundIn own (s.For counter k kind body) values
     sound-fewer sound p words =
         sound_for (reads_of own.inputs p) own.written own.loaded counter k kind body values
-        ∙ fewer-every (λ turn. is_sound (reads_of own.inputs p) own.written own.loaded body (with counter turn values))
+        ∙ fewer-every (λ iteration. is_sound (reads_of own.inputs p) own.written own.loaded body (with counter iteration values))
         (sym (sound_for (reads_of own.inputs p) own.written own.loaded counter (suc k) kind body values) ∙ sound p words)
 
     runs-fewer : RunsIn own (s.For counter (suc k) kind body) values → is_vectorized kind ≡ false → RunsIn own (s.For counter k kind body) values
     runs-fewer sure plain p words func in_runs x y =
         let r = runs (reads_of own.inputs p) func x y (own.run func x y) body in
-        let among = λ (n : ℕ) (t : Bool). if t && counter.func == func then are_same (every n (λ round. r.misses (with counter round values)))
-        (not (own.run func x y values)) else every n (λ turn. r.are_runs (with counter turn values)) in
+        let among = λ (n : ℕ) (t : Bool). if t && counter.func == func then are_same (every n (λ lane. r.misses (with counter lane values)))
+        (not (own.run func x y values)) else every n (λ iteration. r.are_runs (with counter iteration values)) in
         ap (λ (a : Runs). a.are_runs values) (runs_for (reads_of own.inputs p) func x y (own.run func x y) counter k kind body)
         ∙ ap (among k) plain
-        ∙ fewer-every (λ turn. r.are_runs (with counter turn values))
+        ∙ fewer-every (λ iteration. r.are_runs (with counter iteration values))
         (sym (ap (among (suc k)) plain)
         ∙ sym (ap (λ (a : Runs). a.are_runs values) (runs_for (reads_of own.inputs p) func x y (own.run func x y) counter (suc k) kind body))
         ∙ sure p words func in_runs x y)
@@ -157,13 +157,13 @@ module _ (own : Setting) where
     once-fewer : AtOnceIn own (s.For counter (suc k) kind body) values → is_vectorized kind ≡ false → AtOnceIn own (s.For counter k kind body) values
     once-fewer once plain p words =
         let reads = reads_of own.inputs p in
-        let at : ℕ → Values = (λ turn. with counter turn values) in
-        let r = rounds reads body in
-        let all = λ (n : ℕ) (t : Bool). (not t || (is_round_count n && (r.is_one_store && (are_apart r at n && all_step_up r at n))))
-        && every n (λ turn. may_be_at_once reads body (at turn)) in
-        ap (λ (a : Rounds). a.may_be_at_once values) (rounds_for reads counter k kind body) ∙ ap (all k) plain
-        ∙ fewer-every (λ turn. may_be_at_once reads body (at turn))
-        (sym (ap (all (suc k)) plain) ∙ sym (ap (λ (a : Rounds). a.may_be_at_once values) (rounds_for reads counter (suc k) kind body)) ∙ once p words)
+        let at : ℕ → Values = (λ iteration. with counter iteration values) in
+        let r = loop_lanes reads body in
+        let all = λ (n : ℕ) (t : Bool). (not t || (is_lane_count n && (r.is_one_store && (are_apart r at n && all_step_up r at n))))
+        && every n (λ iteration. may_be_at_once reads body (at iteration)) in
+        ap (λ (a : LoopLanes). a.may_be_at_once values) (lanes_of_loop reads counter k kind body) ∙ ap (all k) plain
+        ∙ fewer-every (λ iteration. may_be_at_once reads body (at iteration))
+        (sym (ap (all (suc k)) plain) ∙ sym (ap (λ (a : LoopLanes). a.may_be_at_once values) (lanes_of_loop reads counter (suc k) kind body)) ∙ once p words)
 
     pub may-fewer : MayRun own (s.For counter (suc k) kind body) values → is_vectorized kind ≡ false → MayRun own (s.For counter k kind body) values
     may-fewer may plain = record {
@@ -191,7 +191,7 @@ module _ (own : Setting) where
     once-split : AtOnceIn own (s.Bind counter whole extent body) values → AtOnceIn own body entered
     once-split once p words =
         sym (ap (λ b. if b then may_be_at_once (reads_of own.inputs p) body entered else true) passes)
-        ∙ sym (ap (λ (r : Rounds). r.may_be_at_once values) (rounds_bind (reads_of own.inputs p) counter whole extent body)) ∙ once p words
+        ∙ sym (ap (λ (r : LoopLanes). r.may_be_at_once values) (lanes_bind (reads_of own.inputs p) counter whole extent body)) ∙ once p words
 
     pub may-split : MayRun own (s.Bind counter whole extent body) values → MayRun own body entered
     may-split may = record { sound = sound-split may.sound; at_once = once-split may.at_once; in_runs = runs-split may.in_runs }

@@ -1,4 +1,4 @@
--- Code that gives names their values, and what stands behind it.
+-- Code that gives names their values, and what stands after it.
 use Rattle.std.proofs.Common.{◌≡◌, ℕ, ◌+◌, ◌*◌, ◌%◌, ◌^◌, ◌<◌, List, [], ◌∷◌, ◌++◌, length, length-append, Bool, true, false, refl, ap, ◌∙◌, sym, subst, arith}
 use Rattle.std.proofs.Common.{inl, inr}
 use Rattle.std.specs.Prelude.{Option, Some, None}
@@ -13,12 +13,12 @@ use Rattle.loop_ir.specs.declared.statements.Stmt.TheVariants as s
 use Rattle.loop_ir.specs.Counters.{Values, with}
 use Rattle.loop_ir.specs.Expressions.{value, linear_value}
 use Rattle.loop_ir.specs.Running.{run}
-use Rattle.multi_hart_logic.specs.Paths.{Path, Writes, end}
-use Rattle.multi_hart_logic.proofs.Paths.{stand-front, stand-back, end-append}
-use Rattle.task_code_scalar.specs.declared.places.Places.{Places}
+use Rattle.multi_hart_laws.specs.Paths.{Path, Writes, end}
+use Rattle.multi_hart_laws.proofs.Paths.{stand-front, stand-back, end-append}
+use Rattle.task_code_scalar.specs.declared.layouts.Places.{Places}
 use Rattle.task_code_scalar.specs.Doing.{Setting, stored_points}
 use Rattle.task_code_scalar.proofs.Spelling.{emits_then, emits-apart}
-use Rattle.task_code_registers.specs.declared.scopes.Form.{Form}
+use Rattle.task_code_registers.specs.declared.scopes.AffineForm.{AffineForm}
 use Rattle.task_code_registers.specs.declared.scopes.Held.{Held}
 use Rattle.task_code_registers.specs.Doing.{Did}
 use Rattle.task_code_registers.specs.Emitting.{MakesOf}
@@ -33,7 +33,7 @@ use Rattle.task_code_loops.proofs.Knowledge.{knows-with, stands-at}
 use Rattle.task_code_values.specs.Storing.{MakesValue}
 use Rattle.task_code_values.proofs.Standing.{kept-below}
 use Rattle.task_code_names.specs.Copies.{IsStill}
-use Rattle.task_code_runs.specs.Naming.{is_name}
+use Rattle.task_code_vector_loops.specs.Naming.{is_name}
 use Rattle.task_code_statements.specs.declared.contexts.Context.{Context}
 use Rattle.task_code_statements.specs.declared.names.Naming.{Naming}
 use Rattle.task_code_statements.specs.Contexts.{Meets, MeetsName}
@@ -41,7 +41,7 @@ use Rattle.task_code_statements.specs.Naming.{KeepsValue, NamesHold, NamesIf, no
 use Rattle.task_code_statements.specs.Statements.{EmitsLoop, EmitsStatement}
 use Rattle.task_code_statements.proofs.Plainness.{name-with}
 
--- ---- code behind other code
+-- ---- code after other code
 
 module _ {own : Setting} {code : List Insn} {n : ℕ} {f : ℕ → ℕ} {memory : List ℕ} {funcs : Planes} {stored : ℕ → ℕ → ℕ → Bool} where
   abbrev went-of : {keeps_it fewer : ℕ → Type 0} → ((q : ℕ) → fewer q → keeps_it q) → Did own code n f memory keeps_it funcs stored
@@ -189,7 +189,7 @@ variable-form hart values counter small =
     g
 
 pub name-holds : (places : Places) (scope : List Held) (context : Context) (counter : Counter) (e : Expr) (register : ℕ) (words : List ℕ)
-    (made : Context) (form : Form) (inner : List Held) (c0 c1 : List ℕ) → is_name counter ≡ true → IsStill e → mentions counter scope ≡ false
+    (made : Context) (form : AffineForm) (inner : List Held) (c0 c1 : List ℕ) → is_name counter ≡ true → IsStill e → mentions counter scope ≡ false
     → MeetsName context counter e made → IsLeft scope register → KeepsValue places scope register e words → form ≡ variable counter
     → inner ≡ record { register = register; form = form } ∷ scope → c1 ≡ c0 ++ words
     → NamesHold c0 c1 places scope (Meets context) inner (Meets made)
@@ -241,7 +241,7 @@ more-if places scope context one more found view c0 c1 c2 n is ev all =
     (subst (λ l. NamesHold c1 c2 places l (Meets one.context) more.scope.items (Meets more.context)) ev
     (some-given places view one.context more found c1 c2 is all))
 
--- a loop behind them
+-- a loop after them
 pub loop-behind : (places : Places) (scope view : List Held) (context : Context) (made : Naming) (counter : Counter) (count : ℕ) (body : Stmt)
     (c0 c1 c2 : List ℕ) → NamesHold c0 c1 places scope (Meets context) made.scope.items (Meets made.context) → view ≡ made.scope.items
     → EmitsLoop c1 c2 places view (Meets made.context) counter count body → EmitsLoop c0 c2 places scope (Meets context) counter count body
@@ -254,7 +254,7 @@ pub loop-alone : (places : Places) (scope : List Held) (is_so : Values → Type 
 loop-alone places scope is_so counter count body c0 c1 c2 is loop kind plain =
     subst (λ c. EmitsStatement c c2 places scope is_so (s.For counter count kind body)) is (loop kind plain)
 
--- a statement behind them
+-- a statement after them
 pub statement-after : (places : Places) (scope view : List Held) (context : Context) (made : Naming) (statement : Stmt) (c0 c1 c2 : List ℕ)
     → NamesHold c0 c1 places scope (Meets context) made.scope.items (Meets made.context) → view ≡ made.scope.items
     → EmitsStatement c1 c2 places view (Meets made.context) statement → EmitsStatement c0 c2 places scope (Meets context) statement

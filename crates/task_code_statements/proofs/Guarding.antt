@@ -1,4 +1,4 @@
--- Tests that a vectorized loop's store stands behind.
+-- Tests that a vectorized loop's store stands after.
 use Rattle.std.proofs.Common.{◌≡◌, ℕ, ◌+◌, ◌<◌, ◌≤◌, ◌%◌, ◌^◌, List, [], ◌∷◌, ◌++◌, ◌-◌, length, get_or, take, drop, Bool, true, false, refl, ap, ◌∙◌, sym}
 use Rattle.std.proofs.Common.{subst, arith, cond}
 use Rattle.std.specs.Prelude.{if◌then◌else◌, nat_lt}
@@ -11,7 +11,7 @@ use Rattle.loop_ir.specs.Buffers.{Points}
 use Rattle.loop_ir.specs.Counters.{Values, with}
 use Rattle.loop_ir.specs.Expressions.{linear_value}
 use Rattle.task_code_scalar.proofs.Spelling.{emits-apart}
-use Rattle.task_code_registers.specs.declared.scopes.Form.{Form}
+use Rattle.task_code_registers.specs.declared.scopes.AffineForm.{AffineForm}
 use Rattle.task_code_registers.specs.declared.scopes.Held.{Held}
 use Rattle.task_code_registers.specs.Holding.{IsAt}
 use Rattle.task_code_registers.specs.Scopes.{form_value}
@@ -20,7 +20,7 @@ use Rattle.task_code_registers.proofs.Striding.{linear-steady}
 use Rattle.task_code_loops.specs.declared.bounds.Bound.{Bound}
 use Rattle.task_code_loops.specs.Bounds.{IsBelow}
 use Rattle.task_code_loops.specs.Guarding.{GuardsWords, stored_if}
-use Rattle.task_code_runs.proofs.Fronts.{cons-of}
+use Rattle.task_code_vector_loops.proofs.Fronts.{cons-of}
 use Rattle.task_code_statements.specs.declared.guards.Guard.{Guard}
 use Rattle.task_code_statements.specs.declared.guards.Parted.{Parted}
 use Rattle.task_code_statements.specs.Vectorizing.{GuardsLack, IsLeft, IsParted, OneMore, StandsBehind, TestFirst, TestToo, WordsBehind, is_passed}
@@ -59,7 +59,7 @@ pub one-more : (guards made : List Guard) (own : Guard) → made ≡ guards ++ (
 one-more guards made own is values = ap (λ l. passes l values) is ∙ passes-last guards own values
 
 -- a test that always passes is one more too
-pub passes-so : (bounds : List Bound) (guards made : List Guard) (form : Form) (extent : ℕ) → made ≡ guards → IsBelow bounds form extent
+pub passes-so : (bounds : List Bound) (guards made : List Guard) (form : AffineForm) (extent : ℕ) → made ≡ guards → IsBelow bounds form extent
     → TestToo bounds guards (record { sum = form.sum; extent = extent }) made
 passes-so bounds guards made form extent is below values are =
     let passed : nat_lt (linear_value values form.sum) extent ≡ true =
@@ -111,7 +111,7 @@ module _ (counter : Counter) (guards others : List Guard) (first own : Guard) (r
 
 -- ---- how many iterations are left
 
-pub left-is-of : (bounds : List Bound) (counter : Counter) (guard : Guard) (sum extent : Linear) (start : Form) (stride : ℕ)
+pub left-is-of : (bounds : List Bound) (counter : Counter) (guard : Guard) (sum extent : Linear) (start : AffineForm) (stride : ℕ)
     → ((values : Values) → linear_value values extent ≡ guard.extent + (stride - 1))
     → ((values : Values) → linear_value values sum ≡ word.subtract (linear_value values extent) (linear_value values guard.sum))
     → stride ≡ strides counter guard.sum.terms % 2 ^ 32 → (stride ≡ 0 → ⊥) → stride ≤ 134217728 → guard.extent ≤ 2147483647
@@ -131,7 +131,7 @@ left-is-of bounds counter guard sum extent start stride ex is est some few small
 
 -- ---- the first iteration
 
-pub first-more : (bounds : List Bound) (counter : Counter) (fixed made new hanging others : List Guard) (first : Guard) (start : Form)
+pub first-more : (bounds : List Bound) (counter : Counter) (fixed made new hanging others : List Guard) (first : Guard) (start : AffineForm)
     → hanging ≡ first ∷ others → IsAt counter 0 (record { sum = first.sum; per_hart = 0 }) start
     → TestToo bounds fixed (record { sum = start.sum; extent = first.extent }) made → TestFirst bounds counter made others new
     → TestFirst bounds counter fixed hanging new
@@ -144,7 +144,7 @@ first-more bounds counter fixed made new hanging others first start is law one r
     ∙ gathered (is_passed first at) (passes fixed at) (passes others at)
     ∙ sym (ap (λ l. cond (passes fixed at) (passes l at) false) is)
 
--- ---- code behind tests
+-- ---- code after tests
 
 pub behind-none : (c0 c1 : List ℕ) (scope : List Held) (guards : List Guard) (words : List ℕ) → guards ≡ [] → c1 ≡ c0 ++ words
     → WordsBehind c0 c1 scope guards words

@@ -8,9 +8,9 @@ use Rattle.loop_ir.specs.declared.statements.Stmt.{Stmt}
 use Rattle.loop_ir.specs.declared.statements.Stmt.TheVariants as s
 use Rattle.loop_ir.specs.Counters.{Values, with}
 use Rattle.loop_ir.specs.Expressions.{linear_value}
-use Rattle.loop_ir.specs.Rounds.{is_vectorized}
+use Rattle.loop_ir.specs.LoopLanes.{is_vectorized}
 use Rattle.loop_ir.proofs.Trees.{run_for}
-use Rattle.task_code_scalar.specs.declared.places.Places.{Places}
+use Rattle.task_code_scalar.specs.declared.layouts.Places.{Places}
 use Rattle.task_code_scalar.proofs.Spelling.{emits_then, emits-none}
 use Rattle.task_code_scalar.proofs.Tracing.{hit-for}
 use Rattle.task_code_registers.specs.declared.scopes.Held.{Held}
@@ -65,7 +65,7 @@ module _ (places : Places) (scope : List Held) (is_so : Values → Type 0) (coun
         ((x.does own good at-places values named are holders meets (may-each own counter count kind body values may plain)).does f memory funcs holds knows);
   }
 
-  -- a loop, and its last iteration behind it
+  -- a loop, and its last iteration after it
   pub parted-emits : (k : ℕ) (kind : LoopKind) (within_so : Values → Type 0) (c0 c1 c2 : List ℕ) → is_vectorized kind ≡ false → mentions counter scope ≡ false
       → ((values : Values) → is_so values → within_so (with counter k values))
       → EmitsStatement c0 c1 places scope is_so (s.For counter k kind body) → EmitsStatement c1 c2 places scope within_so body

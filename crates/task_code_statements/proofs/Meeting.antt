@@ -1,4 +1,4 @@
--- What is known of loop variables, inside of loops and behind what binds them.
+-- What is known of loop variables, inside of loops and after what binds them.
 use Rattle.std.proofs.Common.{◌≡◌, ℕ, ◌%◌, ◌^◌, ◌<◌, List, [], ◌∷◌, ◌++◌, Bool, true, false, refl, ap, ◌∙◌, sym, subst}
 use Rattle.std.specs.Prelude.{◌&&◌, ◌||◌, not, if◌then◌else◌}
 use Rattle.std.proofs.lemmas.Bool.{true≢false}
@@ -9,7 +9,7 @@ use Rattle.loop_ir.specs.Counters.{Values, same_counter, with}
 use Rattle.task_code_registers.specs.Strides.{has_counter}
 use Rattle.loop_ir.specs.Expressions.{linear_value}
 use Rattle.task_code_loops.specs.declared.bounds.Bound.{Bound}
-use Rattle.task_code_loops.specs.declared.known.Known.{Known}
+use Rattle.task_code_loops.specs.declared.known.KnownSum.{KnownSum}
 use Rattle.task_code_loops.specs.Bounds.{AreBelow}
 use Rattle.task_code_loops.specs.Known.{AreKnown, is_fresh}
 use Rattle.task_code_loops.proofs.Knowledge.{stands-at}
@@ -36,7 +36,7 @@ below-stays counter v (own ∷ others) values free are =
 
 -- ---- what is known of others
 
-without-fresh : (counter : Counter) (known : List Known) → is_fresh counter (without counter known) ≡ true
+without-fresh : (counter : Counter) (known : List KnownSum) → is_fresh counter (without counter known) ≡ true
 without-fresh counter [] = refl
 without-fresh counter (own ∷ others) =
     by (same_counter own.counter counter || has_counter counter own.sum.terms) refl (without-fresh counter others)
@@ -46,7 +46,7 @@ without-fresh counter (own ∷ others) =
     by true e rest = rest
     by false e rest = ap (λ t. not t && is_fresh counter (without counter others)) e ∙ rest
 
-without-known : (counter : Counter) (known : List Known) (values : Values) → AreKnown known values → AreKnown (without counter known) values
+without-known : (counter : Counter) (known : List KnownSum) (values : Values) → AreKnown known values → AreKnown (without counter known) values
 without-known counter [] values are = tt
 without-known counter (own ∷ others) values are =
     by (same_counter own.counter counter || has_counter counter own.sum.terms) (without-known counter others values are.1)
@@ -91,7 +91,7 @@ one-kept counter names others old mid new first own is other lacks same em keeps
     (append-named old (own ∷ []) (with counter v values) kept (here, tt))))
 
 module _ (context : Context) (counter : Counter) where
-  abbrev rest : List Known
+  abbrev rest : List KnownSum
   rest = without counter context.known.items
 
   pub loop-meets : (free : is_bounded context.bounds.items counter ≡ false) (count : ℕ) (made : Context) → made.known.items ≡ rest

@@ -1,4 +1,4 @@
--- What a store without names does hangs on no name.
+-- What a store without names does depends on no name.
 use Rattle.std.proofs.Common.{◌≡◌, ℕ, ◌++◌, Bool, ap, ◌∙◌, sym}
 use Rattle.std.specs.Prelude.{◌==◌, ◌&&◌}
 use Rattle.std.specs.List.{list_all}
@@ -17,7 +17,7 @@ use Rattle.loop_ir.proofs.Sound.{sound_store}
 use Rattle.loop_ir.proofs.Trees.{run_store}
 use Rattle.task_code_scalar.specs.Doing.{Setting, SoundIn, RunsIn, stored_points}
 use Rattle.task_code_scalar.proofs.Tracing.{hit-store}
-use Rattle.task_code_runs.specs.Naming.{AreNamed}
+use Rattle.task_code_vector_loops.specs.Naming.{AreNamed}
 use Rattle.task_code_statements.specs.Plain.{IsPlainStore}
 
 module _ (store : Store) (plain : IsPlainStore store) (values named : Values) (are : AreNamed values named) where

@@ -1,4 +1,4 @@
--- Statements one behind the other, and loops.
+-- Statements one after the other, and loops.
 use Rattle.std.proofs.Common.{◌≡◌, ℕ, zero, ◌+◌, ◌-◌, ◌<◌, List, [], ◌++◌, length, false, refl, ap, ◌∙◌, sym, subst}
 use Rattle.std.proofs.lemmas.Bool.{or_cases, true≢false}
 use Rattle.halide_pipeline.specs.Pixel.{Planes}
@@ -8,10 +8,10 @@ use Rattle.loop_ir.specs.declared.statements.Stmt.{Stmt}
 use Rattle.loop_ir.specs.declared.statements.Stmt.TheVariants as s
 use Rattle.loop_ir.specs.Buffers.{Points}
 use Rattle.loop_ir.specs.Counters.{Values, with}
-use Rattle.loop_ir.specs.Rounds.{is_vectorized}
-use Rattle.loop_ir.specs.Running.{run, turns}
+use Rattle.loop_ir.specs.LoopLanes.{is_vectorized}
+use Rattle.loop_ir.specs.Running.{run, iterated}
 use Rattle.loop_ir.proofs.Trees.{run_sequence, run_for}
-use Rattle.task_code_scalar.specs.declared.places.Places.{Places}
+use Rattle.task_code_scalar.specs.declared.layouts.Places.{Places}
 use Rattle.task_code_scalar.specs.Doing.{Setting, stored_points}
 use Rattle.task_code_scalar.specs.Fitting.{total}
 use Rattle.task_code_scalar.proofs.Spelling.{emits_then, emits-none}
@@ -21,9 +21,9 @@ use Rattle.task_code_registers.specs.Holding.{mentions}
 use Rattle.task_code_registers.specs.Looping.{StoresOf}
 use Rattle.task_code_registers.proofs.Going.{still}
 use Rattle.task_code_registers.proofs.Looping.{did-went}
-use Rattle.multi_hart_logic.proofs.Paths.{stay}
+use Rattle.multi_hart_laws.proofs.Paths.{stay}
 use Rattle.task_code_registers.proofs.Going.{went-hits}
-use Rattle.task_code_loops.specs.declared.beginning.Begun.{Begun}
+use Rattle.task_code_loops.specs.declared.beginning.BegunLoop.{BegunLoop}
 use Rattle.task_code_loops.specs.Beginning.{IsBegun}
 use Rattle.task_code_loops.specs.Ending.{EndsLoop, MakesLoop}
 use Rattle.task_code_loops.proofs.Following.{code-follows}
@@ -32,7 +32,7 @@ use Rattle.task_code_statements.specs.Statements.{EmitsStatement}
 use Rattle.task_code_statements.proofs.Following.{did-is, may-first, may-second, may-each}
 use Rattle.task_code_statements.proofs.Plainness.{named-with}
 
--- ---- one behind the other
+-- ---- one after the other
 
 pub sequence-emits : (places : Places) (scope : List Held) (is_so : Values → Type 0) (first second : Stmt) (c0 c1 c2 : List ℕ)
     → EmitsStatement c0 c1 places scope is_so first → EmitsStatement c1 c2 places scope is_so second
@@ -88,7 +88,7 @@ module _ (own : Setting) (counter : Counter) (body : Stmt) (values : Values) whe
 -- a loop of no iterations is no code
 pub none-emits : (places : Places) (scope : List Held) (is_so : Values → Type 0) (counter : Counter) (count : ℕ) (kind : LoopKind) (body : Stmt) (c : List ℕ)
     → count ≡ 0 → EmitsStatement c c places scope is_so (s.For counter count kind body)
-unfolding turns
+unfolding iterated
 none-emits places scope is_so counter count kind body c none =
     subst (λ n. EmitsStatement c c places scope is_so (s.For counter n kind body)) (sym none) (record {
       insns = [];
@@ -125,7 +125,7 @@ module _ (places : Places) (scope inner : List Held) (is_so within_so : Values �
   }
 
 pub loop-arm : (places : Places) (scope : List Held) (is_so within_so : Values → Type 0) (counter : Counter) (count : ℕ) (kind : LoopKind) (body : Stmt)
-    (begun : Begun) (view : List Held) (most reserved start : ℕ) (c0 c1 c2 c3 : List ℕ) → is_vectorized kind ≡ false
+    (begun : BegunLoop) (view : List Held) (most reserved start : ℕ) (c0 c1 c2 c3 : List ℕ) → is_vectorized kind ≡ false
     → ((values : Values) (i : ℕ) → i < count → is_so values → within_so (with counter i values)) → mentions counter scope ≡ false
     → IsBegun c0 c1 most counter count scope reserved begun
     → view ≡ begun.inner.items → start ≡ length c1 → EmitsStatement c1 c2 places view within_so body

@@ -13,7 +13,7 @@ use Rattle.loop_ir.specs.declared.expressions.Linear.{Linear}
 use Rattle.loop_ir.specs.Counters.{Values, with, same_counter}
 use Rattle.loop_ir.specs.declared.expressions.Counter.{Counter}
 use Rattle.loop_ir.specs.Expressions.{value, loads, linear_value, sum_of}
-use Rattle.task_code_runs.specs.Naming.{AreNamed, is_name}
+use Rattle.task_code_vector_loops.specs.Naming.{AreNamed, is_name}
 use Rattle.task_code_registers.proofs.Variables.{same_counter-true}
 use Rattle.task_code_values.proofs.Evaluating.{value_number, value_linear, value_binary, value_divide, value_remainder, value_select, value_load}
 use Rattle.task_code_values.proofs.Evaluating.{loads_binary, loads_divide, loads_remainder, loads_select, loads_load}

@@ -8,10 +8,10 @@ use Rattle.loop_ir.specs.declared.expressions.Expr.TheVariants as e
 use Rattle.loop_ir.specs.declared.expressions.Linear.{Linear}
 use Rattle.loop_ir.specs.Counters.{Values}
 use Rattle.loop_ir.specs.Expressions.{linear_value, value, loads}
-use Rattle.task_code_registers.specs.declared.scopes.Form.{Form}
+use Rattle.task_code_registers.specs.declared.scopes.AffineForm.{AffineForm}
 use Rattle.task_code_registers.specs.Scopes.{form_value}
 use Rattle.task_code_registers.proofs.Knowing.{linear-small}
-use Rattle.task_code_loops.specs.declared.known.Known.{Known}
+use Rattle.task_code_loops.specs.declared.known.KnownSum.{KnownSum}
 use Rattle.task_code_loops.specs.Known.{AreKnown}
 use Rattle.task_code_loops.specs.Sums.{IsCombined}
 use Rattle.task_code_values.proofs.Evaluating.{value_number, value_linear, value_binary}
@@ -29,7 +29,7 @@ form-sum hart values own =
     let g : (linear_value values own + hart * 0) % 2 ^ 32 ≡ linear_value values own = omega (arith, l) in
     g
 
-pub first-form : (values : Values) (form : Form) → form_value 0 values form ≡ linear_value values form.sum
+pub first-form : (values : Values) (form : AffineForm) → form_value 0 values form ≡ linear_value values form.sum
 unfolding form_value
 first-form values form =
     let l = linear-small values form.sum in
@@ -60,7 +60,7 @@ binary-sum o a b x y sum one two is = record {
   loads_are = λ reads values. loads_linear reads values sum ∙ sym (ap (λ l. l ++ loads reads values b) (one.none reads values) ∙ two.none reads values);
 }
 
-pub same-made : (known : List Known) (own : Expr) (o : Operation) (a b x y p q made : Expr) → own ≡ e.Binary o a b → x ≡ a → y ≡ b
+pub same-made : (known : List KnownSum) (own : Expr) (o : Operation) (a b x y p q made : Expr) → own ≡ e.Binary o a b → x ≡ a → y ≡ b
     → IsSameExpr known x p → IsSameExpr known y q → IsBinary o p q made → IsSameExpr known own made
 same-made known own o a b x y p q made is ex ey one two m =
     let whole = alike-binary (AreKnown known) own o a b x y p q is ex ey one two in

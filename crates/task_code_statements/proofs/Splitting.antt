@@ -14,14 +14,14 @@ use Rattle.loop_ir.specs.Counters.{Values, with}
 use Rattle.loop_ir.specs.Expressions.{linear_value}
 use Rattle.loop_ir.specs.Running.{run, whole_value, at_most}
 use Rattle.loop_ir.proofs.Trees.{run_bind}
-use Rattle.task_code_scalar.specs.declared.places.Places.{Places}
+use Rattle.task_code_scalar.specs.declared.layouts.Places.{Places}
 use Rattle.task_code_scalar.specs.Doing.{stored_points}
 use Rattle.task_code_scalar.proofs.Tracing.{hit, hit-bind}
-use Rattle.task_code_registers.specs.declared.scopes.Form.{Form}
+use Rattle.task_code_registers.specs.declared.scopes.AffineForm.{AffineForm}
 use Rattle.task_code_registers.specs.declared.scopes.Held.{Held}
 use Rattle.task_code_registers.specs.Holding.{mentions}
 use Rattle.task_code_registers.specs.Scopes.{form_value}
-use Rattle.task_code_loops.specs.declared.known.Known.{Known}
+use Rattle.task_code_loops.specs.declared.known.KnownSum.{KnownSum}
 use Rattle.task_code_loops.specs.declared.bounds.Bound.{Bound}
 use Rattle.task_code_loops.specs.Bounds.{AreBelow, IsBelow}
 use Rattle.task_code_loops.specs.Guarding.{GuardsWords, stored_if}
@@ -30,12 +30,12 @@ use Rattle.task_code_loops.proofs.Knowledge.{knows-with}
 use Rattle.task_code_statements.specs.declared.contexts.Context.{Context}
 use Rattle.task_code_statements.specs.Contexts.{MeetsSum, Meets}
 use Rattle.task_code_loops.specs.Known.{IsRewrittenSum}
-use Rattle.task_code_statements.specs.declared.splits.Start.{Start}
-use Rattle.task_code_statements.specs.declared.splits.Start.TheVariants as starts
+use Rattle.task_code_statements.specs.declared.splits.TaskStart.{TaskStart}
+use Rattle.task_code_statements.specs.declared.splits.TaskStart.TheVariants as starts
 use Rattle.task_code_statements.specs.Splits.{AddsInner, BeginsRun, HasLesser, IsProduct, IsSplitSum, product, start_value}
 use Rattle.task_code_statements.specs.Statements.{EmitsStatement}
 use Rattle.task_code_statements.proofs.Following.{did-is, may-split}
-use Rattle.task_code_runs.specs.Naming.{AreNamed, is_name}
+use Rattle.task_code_vector_loops.specs.Naming.{AreNamed, is_name}
 use Rattle.task_code_statements.proofs.Plainness.{named-with}
 use Rattle.task_code_statements.proofs.Same.{form-sum}
 
@@ -59,7 +59,7 @@ product-made whole own none one e0 e1 es values =
     ap (linear_value values) (es ∙ ap (λ l. record { number = 0; terms = l }) (e1
     ∙ ap (λ l. l ++ (record { counter = whole.outer; stride = whole.factor } ∷ [])) e0)) ∙ g
 
-pub product-is : (context : Context) (known : List Known) (whole : Whole) (none one : List Term) (made : Linear) → known ≡ context.known.items → none ≡ []
+pub product-is : (context : Context) (known : List KnownSum) (whole : Whole) (none one : List Term) (made : Linear) → known ≡ context.known.items → none ≡ []
     → one ≡ none ++ (record { counter = whole.outer; stride = whole.factor } ∷ []) → IsRewrittenSum known (record { number = 0; terms = one }) made
     → IsProduct context whole made
 product-is context known whole none one made ek e0 e1 same = record {
@@ -105,7 +105,7 @@ pub two-terms : (first second : Term) (none one both : List Term) → none ≡ [
     → both ≡ first ∷ (second ∷ [])
 two-terms first second none one both e0 e1 e2 = e2 ∙ ap (λ l. l ++ (second ∷ [])) (e1 ∙ ap (λ l. l ++ (first ∷ [])) e0)
 
-pub product-adds : (whole : Whole) (start : Start) (none one both : List Term) → start ≡ starts.Product → none ≡ []
+pub product-adds : (whole : Whole) (start : TaskStart) (none one both : List Term) → start ≡ starts.Product → none ≡ []
     → one ≡ none ++ (record { counter = whole.outer; stride = whole.factor } ∷ []) → both ≡ one ++ (record { counter = whole.inner; stride = 1 } ∷ [])
     → AddsInner whole start (record { number = 0; terms = both })
 unfolding linear_value word.add word.multiply
@@ -116,7 +116,7 @@ product-adds whole start none one both es e0 e1 e2 other values =
     (two-terms (record { counter = whole.outer; stride = whole.factor }) (record { counter = whole.inner; stride = 1 }) none one both e0 e1 e2)
     ∙ g ∙ sym (ap (λ k. word.add (start_value whole other k values) (values whole.inner)) es)
 
-pub number-adds : (whole : Whole) (start : Start) (number : ℕ) (none one : List Term) → start ≡ starts.Number number → none ≡ []
+pub number-adds : (whole : Whole) (start : TaskStart) (number : ℕ) (none one : List Term) → start ≡ starts.Number number → none ≡ []
     → one ≡ none ++ (record { counter = whole.inner; stride = 1 } ∷ []) → AddsInner whole start (record { number = number; terms = one })
 unfolding linear_value word.add
 number-adds whole start number none one es e0 e1 other values =
@@ -124,7 +124,7 @@ number-adds whole start number none one es e0 e1 other values =
     ap (λ l. linear_value values (record { number = number; terms = l })) (e1 ∙ ap (λ l. l ++ (record { counter = whole.inner; stride = 1 } ∷ [])) e0)
     ∙ g ∙ sym (ap (λ k. word.add (start_value whole other k values) (values whole.inner)) es)
 
-pub name-adds : (whole : Whole) (start : Start) (name : Counter) (none one both : List Term) → start ≡ starts.Name name → none ≡ []
+pub name-adds : (whole : Whole) (start : TaskStart) (name : Counter) (none one both : List Term) → start ≡ starts.Name name → none ≡ []
     → one ≡ none ++ (record { counter = name; stride = 1 } ∷ []) → both ≡ one ++ (record { counter = whole.inner; stride = 1 } ∷ [])
     → AddsInner whole start (record { number = 0; terms = both })
 unfolding linear_value word.add
@@ -134,7 +134,7 @@ name-adds whole start name none one both es e0 e1 e2 other values =
     (two-terms (record { counter = name; stride = 1 }) (record { counter = whole.inner; stride = 1 }) none one both e0 e1 e2)
     ∙ g ∙ sym (ap (λ k. word.add (start_value whole other k values) (values whole.inner)) es)
 
-pub split-is : (context : Context) (known : List Known) (whole : Whole) (start : Start) (found : Option Linear) (own made : Linear)
+pub split-is : (context : Context) (known : List KnownSum) (whole : Whole) (start : TaskStart) (found : Option Linear) (own made : Linear)
     → known ≡ context.known.items → found ≡ Some own → is_name whole.outer ≡ false → is_name whole.inner ≡ false → BeginsRun context whole start
     → IfSome found (AddsInner whole start) → IsRewrittenSum known own made → IsSplitSum context whole made
 split-is context known whole start found own made ek ef outer inner begins adds same = record {
@@ -157,7 +157,7 @@ is-below a b l = grind (arith, nat_tests)
 
 module _ (places : Places) (scope : List Held) (context within : Context) (counter : Counter) (whole : Whole) (extent : ℕ) (body : Stmt) (sum : Linear)
     (none : mentions counter scope ≡ false) (is : IsSplitSum context whole sum) (meets-sum : MeetsSum context counter sum within) where
-  abbrev own_form : Form
+  abbrev own_form : AffineForm
   own_form = record { sum = sum; per_hart = 0 }
 
   -- the form is the split loop's value

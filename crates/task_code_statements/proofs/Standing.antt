@@ -23,20 +23,20 @@ use Rattle.loop_ir.specs.Soundness.{is_sound}
 use Rattle.loop_ir.proofs.AtOnce.{effect_store, effect_bind}
 use Rattle.loop_ir.proofs.Sound.{sound_store, sound_bind}
 use Rattle.task_code_values.proofs.Evaluating.{value_binary, value_linear, value_number, loads_binary}
-use Rattle.task_code_registers.specs.declared.scopes.Form.{Form}
+use Rattle.task_code_registers.specs.declared.scopes.AffineForm.{AffineForm}
 use Rattle.task_code_registers.specs.Holding.{IsAt}
 use Rattle.task_code_registers.specs.Strides.{others_of, strides}
 use Rattle.task_code_registers.proofs.Striding.{linear-with}
 use Rattle.task_code_loops.specs.declared.bounds.Bound.{Bound}
-use Rattle.task_code_loops.specs.declared.known.Known.{Known}
+use Rattle.task_code_loops.specs.declared.known.KnownSum.{KnownSum}
 use Rattle.task_code_loops.specs.Bounds.{AreBelow, IsBelow}
 use Rattle.task_code_loops.specs.Known.{AreKnown}
 use Rattle.task_code_names.specs.Copies.{IsStill}
 use Rattle.task_code_names.proofs.Alike.{loads_number, loads_linear}
-use Rattle.task_code_runs.specs.Naming.{AreNamed}
+use Rattle.task_code_vector_loops.specs.Naming.{AreNamed}
 use Rattle.task_code_statements.specs.declared.contexts.Context.{Context}
 use Rattle.task_code_statements.specs.declared.replacing.Standing.{Standing}
-use Rattle.task_code_statements.specs.declared.vectorizing.Guarded.{Guarded}
+use Rattle.task_code_statements.specs.declared.vectorizing.GuardedStore.{GuardedStore}
 use Rattle.task_code_statements.specs.Contexts.{Meets, MeetsLoop}
 use Rattle.task_code_statements.specs.Replacing.{AddsSum, IsReplaced, IsReplacedStore, IsRest, IsTimes, StandsAt}
 use Rattle.task_code_loops.specs.Known.{IsRewrittenSum}
@@ -94,7 +94,7 @@ plus-some own sum first second ef es = record {
     append-nil [] = refl
     append-nil (first ∷ others) = ap (λ l. first ∷ l) (append-nil others)
 
-pub rest-is : (counter : Counter) (sum own : Linear) (made : Form) → own ≡ sum → IsAt counter 0 (record { sum = own; per_hart = 0 }) made
+pub rest-is : (counter : Counter) (sum own : Linear) (made : AffineForm) → own ≡ sum → IsAt counter 0 (record { sum = own; per_hart = 0 }) made
     → IsRest counter sum made.sum
 rest-is counter sum own made eo is values v =
     sym (first-form (with counter v values) made) ∙ is.value 0 v values
@@ -141,7 +141,7 @@ rest-made own sum rest stride es none left = record {
 
 -- ---- values of split loops
 
-pub inner-is : (context : Context) (whole : Whole) (known : List Known) (bounds : List Bound) (count : ℕ) (own made : Linear) → known ≡ context.known.items
+pub inner-is : (context : Context) (whole : Whole) (known : List KnownSum) (bounds : List Bound) (count : ℕ) (own made : Linear) → known ≡ context.known.items
     → bounds ≡ context.bounds.items → ((values : Values) → linear_value values own ≡ values whole.inner % 2 ^ 32) → IsRewrittenSum known own made
     → IsBelow bounds (record { sum = made; per_hart = 0 }) count → IsInner context whole count made
 inner-is context whole known bounds count own made ek eb is same below = record {
@@ -198,7 +198,7 @@ module _ (own : Standing) (store made : Store) (is : IsReplacedStore own store m
       sound_store reads written loaded made values ∙ same-sound (StandsAt own) store made is values stands reads written loaded
       ∙ sym (sound_store reads written loaded store values)
 
-module _ (context within : Context) (whole : Whole) (extent : ℕ) (own : Standing) (statement inside body : Stmt) (old made : Guarded)
+module _ (context within : Context) (whole : Whole) (extent : ℕ) (own : Standing) (statement inside body : Stmt) (old made : GuardedStore)
     (es : statement ≡ s.Bind own.counter whole extent inside) (eb : body ≡ inside) (is : IsSplitValue context whole extent own.e)
     (meets-loop : MeetsLoop context own.counter extent within) (inner : IsStoreOf within body old) (replaces : ReplacesIn old own made) where
   abbrev at : Values → Values

@@ -15,7 +15,7 @@ use Rattle.loop_ir.specs.Counters.{Values, with}
 use Rattle.loop_ir.specs.Expressions.{linear_value, value}
 use Rattle.loop_ir.specs.Running.{at_most}
 use Rattle.task_code_values.proofs.Evaluating.{value_binary, value_linear, value_number}
-use Rattle.task_code_registers.specs.declared.scopes.Form.{Form}
+use Rattle.task_code_registers.specs.declared.scopes.AffineForm.{AffineForm}
 use Rattle.task_code_loops.specs.declared.bounds.Bound.{Bound}
 use Rattle.task_code_loops.specs.Bounds.{AreBelow, IsBelow}
 use Rattle.task_code_loops.specs.Known.{AreKnown}
@@ -68,7 +68,7 @@ start_made {context} {whole} {last} {sum} {own} el product lesser = record {
       ∙ sym (ap (λ l. signed_start l (word.multiply (values whole.outer) whole.factor)) el);
 }
 
-sum-below : (bounds : List Bound) (form : Form) → IsBelow bounds form (2 ^ 31) → (values : Values) → AreBelow bounds values
+sum-below : (bounds : List Bound) (form : AffineForm) → IsBelow bounds form (2 ^ 31) → (values : Values) → AreBelow bounds values
     → linear_value values form.sum < 2 ^ 31
 sum-below bounds form below values are = subst (λ n. n < 2 ^ 31) (first-form values form) (below 0 values are)
 
@@ -110,7 +110,7 @@ pub lesser-arm : (own : Expr) (o : Operation) (a b x y : Expr) (P : Expr → Typ
 lesser-arm own o a b x y P is eo ex ey p =
     subst P (sym (is ∙ ap (λ k. e.Binary k a b) eo ∙ ap (λ k. e.Binary op.Minimum k b) (sym ex) ∙ ap (e.Binary op.Minimum x) (sym ey))) p
 
-pub lesser-below : (bounds : List Bound) (own : Expr) (form : Form) (last : ℕ) → IsLesser form.sum last own → last < 2 ^ 31 → IsBelow bounds form (2 ^ 31)
+pub lesser-below : (bounds : List Bound) (own : Expr) (form : AffineForm) (last : ℕ) → IsLesser form.sum last own → last < 2 ^ 31 → IsBelow bounds form (2 ^ 31)
     → StaysBelow bounds own (last + 1)
 lesser-below bounds own form last is small below reads values are =
     let low = sum-below bounds form below values are in

@@ -7,10 +7,10 @@ use Rattle.loop_ir.specs.declared.expressions.Counter.{Counter}
 use Rattle.loop_ir.specs.declared.statements.Phase.{Phase}
 use Rattle.loop_ir.specs.Counters.{no_values}
 use Rattle.loop_ir.specs.Running.{run, task_values}
-use Rattle.multi_hart_logic.specs.Alone.{World}
-use Rattle.multi_hart_logic.specs.Paths.{Line}
-use Rattle.multi_hart_logic.proofs.Paths.{block-then, line-then, stand-front, writes-first}
-use Rattle.task_code_scalar.specs.declared.places.Places.{Places}
+use Rattle.multi_hart_laws.specs.Alone.{World}
+use Rattle.multi_hart_laws.specs.Paths.{Line}
+use Rattle.multi_hart_laws.proofs.Paths.{block-then, line-then, stand-front, writes-first}
+use Rattle.task_code_scalar.specs.declared.layouts.Places.{Places}
 use Rattle.task_code_scalar.specs.Code.{literal}
 use Rattle.task_code_scalar.specs.Doing.{Setting, IsSetting, HoldsFuncs, stored_points}
 use Rattle.task_code_scalar.specs.Words.{Emits}
@@ -24,7 +24,7 @@ use Rattle.task_code_loops.specs.Bounds.{AreBelow}
 use Rattle.task_code_loops.specs.Known.{AreKnown}
 use Rattle.task_code_statements.specs.declared.contexts.Context.{Context}
 use Rattle.task_code_names.specs.Names.{AreNames}
-use Rattle.task_code_runs.specs.AtOnce.{MayRun}
+use Rattle.task_code_vector_loops.specs.AtOnce.{MayRun}
 use Rattle.task_code_statements.specs.Contexts.{Meets, MeetsLoop, MeetsZero, IsEmpty}
 use Rattle.task_code_statements.specs.Statements.{EmitsStatement}
 use Rattle.task_code_statements.proofs.Plainness.{named-same}
@@ -109,7 +109,7 @@ module _ (phase : Phase) (places : Places) (ticket : ℕ) where
       → Did own insns (turns task) f memory (IsKept scope) (run own.points own.inputs phase.body (task_values phase.counter task) funcs)
       (stored_points own phase.body (task_values phase.counter task) funcs)
 
-  -- behind it stands what leaves the numbers that are looked for
+  -- after it stands what leaves the numbers that are looked for
   pub task-done : (insns : List Insn) (turns : ℕ → ℕ) (scope : List Held) → ticket + 4 < 2 ^ 32 → phase.tasks < 2 ^ 32 → DoesBody insns turns scope
       → DoesTask places phase ticket (insns ++ restored ticket phase.tasks)
   task-done insns turns scope lt ls body =

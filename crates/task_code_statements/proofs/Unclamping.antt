@@ -21,14 +21,14 @@ use Rattle.loop_ir.proofs.Sound.{sound_store}
 use Rattle.loop_ir.proofs.Trees.{run_store}
 use Rattle.loop_ir.specs.declared.statements.Store.{Store}
 use Rattle.loop_ir.specs.declared.statements.Stmt.TheVariants as s
-use Rattle.task_code_scalar.specs.declared.places.Places.{Places}
+use Rattle.task_code_scalar.specs.declared.layouts.Places.{Places}
 use Rattle.task_code_scalar.specs.Doing.{Setting, SoundIn, RunsIn, HoldsFuncs, stored_points}
 use Rattle.task_code_scalar.specs.Evaluation.{load_op}
 use Rattle.task_code_scalar.specs.Layout.{address_of}
 use Rattle.task_code_scalar.proofs.Tracing.{hit-store}
 use Rattle.task_code_registers.specs.declared.scopes.Held.{Held}
 use Rattle.task_code_loops.specs.declared.bounds.Bound.{Bound}
-use Rattle.task_code_loops.specs.declared.known.Known.{Known}
+use Rattle.task_code_loops.specs.declared.known.KnownSum.{KnownSum}
 use Rattle.task_code_loops.specs.Bounds.{AreBelow}
 use Rattle.task_code_loops.specs.Known.{AreKnown}
 use Rattle.task_code_clamps.specs.Clamps.{AreBytesAt}
@@ -173,7 +173,7 @@ module _ (own : Setting) (values : Values) (bounds : List Bound) (below : AreBel
   here-same sound =
       are-same funcs (sym (sound_store (reads_of own.inputs funcs) own.written own.loaded store values) ∙ sound funcs holds.are_words)
 
-pub made-is : (places : Places) (context : Context) (known : List Known) (bounds : List Bound) (names : List Named) (store first second made : Store)
+pub made-is : (places : Places) (context : Context) (known : List KnownSum) (bounds : List Bound) (names : List Named) (store first second made : Store)
     → known ≡ context.known.items → bounds ≡ context.bounds.items → names ≡ context.names.items → IsSameStore known store first
     → clamps.IsSameStore places bounds first second → IsNamedStore names second made → IsMadeStore places context store made
 made-is places context known bounds names store first second made ek eb en one two three = record {

@@ -7,7 +7,7 @@ use Rattle.loop_ir.specs.declared.expressions.Linear.{Linear}
 use Rattle.loop_ir.specs.Counters.{Values, same_counter, with}
 use Rattle.loop_ir.specs.Expressions.{linear_value, value, loads}
 use Rattle.task_code_registers.specs.Strides.{has_counter}
-use Rattle.task_code_loops.specs.declared.known.Known.{Known}
+use Rattle.task_code_loops.specs.declared.known.KnownSum.{KnownSum}
 use Rattle.task_code_loops.specs.declared.bounds.Bound.{Bound}
 use Rattle.task_code_loops.specs.Bounds.{AreBelow}
 use Rattle.task_code_loops.specs.Known.{AreKnown}
@@ -50,7 +50,7 @@ pub record MeetsName (context : Context) (counter : Counter) (e : Expr) (made : 
 abbrev pub StayNamed : Counter → List Named → List Named → Type 0
 StayNamed counter names made = (values : Values) (v : ℕ) → AreNames names values → AreNames made (with counter v values)
 
--- so it is with those behind others
+-- so it is with those after others
 abbrev pub KeepsNames : Counter → List Named → List Named → List Named → Type 0
 KeepsNames counter names old new =
     (values : Values) (v : ℕ) → AreNames names values → AreNames old (with counter v values) → AreNames new (with counter v values)
@@ -63,7 +63,7 @@ is_bounded [] counter = false
 is_bounded (own ∷ others) counter = if same_counter own.counter counter then true else is_bounded others counter
 
 -- what is known of other variables than one, by sums without it
-abbrev pub without : Counter → List Known → List Known
+abbrev pub without : Counter → List KnownSum → List KnownSum
 without counter [] = []
 without counter (own ∷ others) =
     if same_counter own.counter counter || has_counter counter own.sum.terms then without counter others else own ∷ without counter others

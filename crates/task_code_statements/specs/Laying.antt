@@ -6,21 +6,21 @@ use Rattle.loop_ir.specs.declared.expressions.Counter.{Counter}
 use Rattle.loop_ir.specs.declared.statements.Stmt.{Stmt}
 use Rattle.loop_ir.specs.Buffers.{Points}
 use Rattle.loop_ir.specs.Counters.{Values, with}
-use Rattle.loop_ir.specs.Running.{run, turns as iterated}
+use Rattle.loop_ir.specs.Running.{run, iterated}
 use Rattle.loop_ir.specs.Stores.{trace}
-use Rattle.task_code_scalar.specs.declared.places.Places.{Places}
+use Rattle.task_code_scalar.specs.declared.layouts.Places.{Places}
 use Rattle.task_code_scalar.specs.Doing.{Setting, IsSetting}
 use Rattle.task_code_scalar.specs.Words.{Emits}
 use Rattle.task_code_registers.specs.declared.scopes.Held.{Held}
 use Rattle.task_code_registers.specs.Scopes.{AreHolders}
 use Rattle.task_code_loops.specs.Guarding.{DoesFirst}
-use Rattle.task_code_runs.specs.AtOnce.{MayRun}
-use Rattle.task_code_runs.specs.Naming.{AreNamed}
+use Rattle.task_code_vector_loops.specs.AtOnce.{MayRun}
+use Rattle.task_code_vector_loops.specs.Naming.{AreNamed}
 
 -- the points at which the first so many iterations store
 abbrev pub stored_before : Setting → Counter → Stmt → Values → ℕ → Planes → Points
 stored_before own counter body values count funcs func x y =
-    (iterated count (λ turn. trace own.points own.inputs func x y body (with counter turn values)) (record { funcs = funcs; is_stored = false })).is_stored
+    (iterated count (λ iteration. trace own.points own.inputs func x y body (with counter iteration values)) (record { funcs = funcs; is_stored = false })).is_stored
 
 -- Appended code does a loop's first so many iterations, wherever registers hold the scope's forms and something is so of loop variables.
 pub record LaysOut (old new : List ℕ) (places : Places) (scope : List Held) (is_so : Values

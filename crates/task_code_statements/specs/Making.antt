@@ -2,13 +2,13 @@
 use Rattle.std.specs.Prelude.{◌≡◌, ℕ, false, List}
 use Rattle.loop_ir.specs.declared.expressions.Expr.{Expr}
 use Rattle.loop_ir.specs.declared.statements.Store.{Store}
-use Rattle.task_code_scalar.specs.declared.places.Places.{Places}
-use Rattle.task_code_registers.specs.declared.scopes.Form.{Form}
+use Rattle.task_code_scalar.specs.declared.layouts.Places.{Places}
+use Rattle.task_code_registers.specs.declared.scopes.AffineForm.{AffineForm}
 use Rattle.task_code_registers.specs.declared.scopes.Held.{Held}
 use Rattle.task_code_registers.specs.Holding.{mentions}
-use Rattle.task_code_loops.specs.declared.beginning.Begun.{Begun}
+use Rattle.task_code_loops.specs.declared.beginning.BegunLoop.{BegunLoop}
 use Rattle.task_code_loops.specs.declared.bounds.Bound.{Bound}
-use Rattle.task_code_loops.specs.declared.known.Known.{Known}
+use Rattle.task_code_loops.specs.declared.known.KnownSum.{KnownSum}
 use Rattle.task_code_loops.specs.Beginning.{Begins}
 use Rattle.task_code_clamps.specs.declared.clamps.Ranged.{Ranged}
 use Rattle.task_code_clamps.specs.Clamps as clamps
@@ -17,19 +17,19 @@ use Rattle.task_code_statements.specs.declared.contexts.Context.{Context}
 use Rattle.task_code_statements.specs.Rewriting.{IsSameExpr, IsSameStore}
 
 -- an expression without clamps that cut nothing off, made of one by other loop variables than the known ones
-pub record IsUnclamped (places : Places) (known : List Known) (bounds : List Bound) (own made : Expr) : Type 0 where
+pub record IsUnclamped (places : Places) (known : List KnownSum) (bounds : List Bound) (own made : Expr) : Type 0 where
   pub middle : Expr
   pub by_others : IsSameExpr known own middle
   pub without_clamps : clamps.IsSame places bounds middle made
 
 -- and it lies in a range
-pub record IsUnclampedIn (places : Places) (known : List Known) (bounds : List Bound) (own : Expr) (made : Ranged) : Type 0 where
+pub record IsUnclampedIn (places : Places) (known : List KnownSum) (bounds : List Bound) (own : Expr) (made : Ranged) : Type 0 where
   pub middle : Expr
   pub by_others : IsSameExpr known own middle
   pub ranged : clamps.IsRanged places bounds middle made
 
 -- so is a store
-pub record IsUnclampedStore (places : Places) (known : List Known) (bounds : List Bound) (own made : Store) : Type 0 where
+pub record IsUnclampedStore (places : Places) (known : List KnownSum) (bounds : List Bound) (own made : Store) : Type 0 where
   pub middle : Store
   pub by_others : IsSameStore known own middle
   pub without_clamps : clamps.IsSameStore places bounds middle made
@@ -43,8 +43,8 @@ pub record IsMadeStore (places : Places) (context : Context) (own made : Store) 
   pub by_names : IsNamedStore context.names.items second made
 
 -- Code stands in front of a loop whose variable no held form has: registers hold some forms, with so many registers left.
-pub record BeginsIterations (old new : List ℕ) (own : Bound) (scope : List Held) (begun : Begun) : Type 0 where
-  pub wanted : List Form
+pub record BeginsIterations (old new : List ℕ) (own : Bound) (scope : List Held) (begun : BegunLoop) : Type 0 where
+  pub wanted : List AffineForm
   pub reserved : ℕ
   pub begins : Begins old new wanted own.counter own.count scope reserved begun
   pub steady : mentions own.counter scope ≡ false

@@ -5,7 +5,7 @@ use Rattle.loop_ir.specs.declared.expressions.Expr.{Expr}
 use Rattle.loop_ir.specs.declared.statements.Store.{Store}
 use Rattle.loop_ir.specs.Counters.{Values}
 use Rattle.loop_ir.specs.Expressions.{value, loads}
-use Rattle.task_code_runs.specs.Naming.{AreNamed}
+use Rattle.task_code_vector_loops.specs.Naming.{AreNamed}
 
 -- an expression comes to the same whatever values names have, and loads the same points
 pub record IsPlain (own : Expr) : Type 0 where

@@ -8,16 +8,16 @@ use Rattle.loop_ir.specs.declared.expressions.Linear.{Linear}
 use Rattle.loop_ir.specs.declared.statements.Store.{Store}
 use Rattle.loop_ir.specs.Counters.{Values}
 use Rattle.loop_ir.specs.Expressions.{linear_value, value, loads}
-use Rattle.task_code_loops.specs.declared.known.Known.{Known}
+use Rattle.task_code_loops.specs.declared.known.KnownSum.{KnownSum}
 use Rattle.task_code_loops.specs.Known.{AreKnown}
 use Rattle.task_code_names.specs.Alike.{IsAlike, IsAlikeStore}
 
 -- an expression comes to the same wherever these are known, and loads the same points
-abbrev pub IsSameExpr : List Known → Expr → Expr → Type 0
+abbrev pub IsSameExpr : List KnownSum → Expr → Expr → Type 0
 IsSameExpr known own made = IsAlike (AreKnown known) own made
 
 -- a store writes the same value at the same point
-abbrev pub IsSameStore : List Known → Store → Store → Type 0
+abbrev pub IsSameStore : List KnownSum → Store → Store → Type 0
 IsSameStore known own made = IsAlikeStore (AreKnown known) own made
 
 -- ---- operations

@@ -10,14 +10,14 @@ use Rattle.loop_ir.specs.Counters.{Values}
 use Rattle.loop_ir.specs.Expressions.{linear_value, loads, value}
 use Rattle.loop_ir.specs.Running.{at_most, whole_value}
 use Rattle.task_code_loops.specs.Known.{AreKnown}
-use Rattle.task_code_runs.specs.Naming.{AreNamed}
+use Rattle.task_code_vector_loops.specs.Naming.{AreNamed}
 use Rattle.task_code_statements.specs.declared.contexts.Context.{Context}
 use Rattle.task_code_statements.specs.declared.splits.Entered.{Entered}
-use Rattle.task_code_statements.specs.declared.splits.Start.{Start}
-use Rattle.task_code_statements.specs.declared.splits.Start.TheVariants as starts
+use Rattle.task_code_statements.specs.declared.splits.TaskStart.{TaskStart}
+use Rattle.task_code_statements.specs.declared.splits.TaskStart.TheVariants as starts
 use Rattle.task_code_statements.specs.Contexts.{Meets, MeetsSum}
 
--- a sum has a split loop's value wherever the context holds, and that value hangs on no name
+-- a sum has a split loop's value wherever the context holds, and that value depends on no name
 pub record IsSplitSum (context : Context) (whole : Whole) (sum : Linear) : Type 0 where
   pub value_is : (values : Values) → Meets context values → linear_value values sum ≡ whole_value whole values
   pub plain : (values named : Values) → AreNamed values named → whole_value whole named ≡ whole_value whole values
@@ -53,20 +53,20 @@ pub record IsStart (context : Context) (whole : Whole) (e : Expr) : Type 0 where
       → value reads values e ≡ signed_start whole.last (product whole values)
 
 -- the value of a start, or another number where it isn't known
-abbrev pub start_value : Whole → ℕ → Start → Values → ℕ
+abbrev pub start_value : Whole → ℕ → TaskStart → Values → ℕ
 start_value whole other starts.Product values = product whole values
 start_value whole other (starts.Number number) values = number
 start_value whole other (starts.Name counter) values = values counter
 start_value whole other starts.Unknown values = other
 
 -- a run begins there, wherever the context holds; of an unknown start this says nothing
-abbrev pub BeginsRun : Context → Whole → Start → Type 0
+abbrev pub BeginsRun : Context → Whole → TaskStart → Type 0
 BeginsRun context whole start =
     (values : Values) → Meets context values
     → at_most whole.last (product whole values) ≡ start_value whole (at_most whole.last (product whole values)) start values
 
 -- a sum is that of a start and the inner variable, as no sum is of an unknown start
-abbrev pub AddsInner : Whole → Start → Linear → Type 0
+abbrev pub AddsInner : Whole → TaskStart → Linear → Type 0
 AddsInner whole start sum =
     (other : ℕ) (values : Values) → linear_value values sum ≡ word.add (start_value whole other start values) (values whole.inner)
 
@@ -78,7 +78,7 @@ pub record IsValueOf (context : Context) (whole : Whole) (extent : ℕ) (e : Exp
   pub none : (reads : Reads) (values : Values) → loads reads values e ≡ []
   pub below : (values : Values) → Meets context values → whole_value whole values < extent
 
--- so it is, and the value hangs on no name
+-- so it is, and the value depends on no name
 pub record IsSplitValue (context : Context) (whole : Whole) (extent : ℕ) (e : Expr) : Type 0 where
   pub own : IsValueOf context whole extent e
   pub plain : (values named : Values) → AreNamed values named → whole_value whole named ≡ whole_value whole values

@@ -7,19 +7,19 @@ use Rattle.loop_ir.specs.declared.statements.LoopKind.{LoopKind}
 use Rattle.loop_ir.specs.declared.statements.Stmt.{Stmt}
 use Rattle.loop_ir.specs.declared.statements.Stmt.TheVariants as statements
 use Rattle.loop_ir.specs.Counters.{Values}
-use Rattle.loop_ir.specs.Rounds.{is_vectorized}
+use Rattle.loop_ir.specs.LoopLanes.{is_vectorized}
 use Rattle.loop_ir.specs.Running.{run}
-use Rattle.task_code_scalar.specs.declared.places.Places.{Places}
+use Rattle.task_code_scalar.specs.declared.layouts.Places.{Places}
 use Rattle.task_code_scalar.specs.Doing.{Setting, IsSetting, HoldsFuncs, stored_points}
 use Rattle.task_code_scalar.specs.Words.{Emits}
 use Rattle.task_code_registers.specs.declared.scopes.Held.{Held}
 use Rattle.task_code_registers.specs.Doing.{Did}
 use Rattle.task_code_registers.specs.Scopes.{Knows, AreHolders, IsKept}
-use Rattle.task_code_runs.specs.AtOnce.{MayRun}
-use Rattle.task_code_runs.specs.Naming.{AreNamed}
+use Rattle.task_code_vector_loops.specs.AtOnce.{MayRun}
+use Rattle.task_code_vector_loops.specs.Naming.{AreNamed}
 
 -- Appended code does a statement, wherever registers hold the scope's forms and something is so of loop variables and names, and keeps these
--- registers. What the statement does hangs on no name. In how many turns hangs on the values of loop variables and names alone.
+-- registers. What the statement does depends on no name. How many turns it takes depends on the values of loop variables and names alone.
 pub record EmitsStatement (old new : List ℕ) (places : Places) (scope : List Held) (is_so : Values → Type 0) (statement : Stmt) : Type 0 where
   pub insns : List Insn
   pub emits : Emits old new insns

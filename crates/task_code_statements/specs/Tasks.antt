@@ -7,13 +7,13 @@ use Rattle.halide_pipeline.specs.Pixel.{Planes}
 use Rattle.loop_ir.specs.declared.statements.Phase.{Phase}
 use Rattle.loop_ir.specs.Running.{run_task, task_values}
 use Rattle.loop_ir.specs.Stores.{is_stored_by_task}
-use Rattle.multi_hart_logic.specs.Paths.{Stand, Block, Writes}
-use Rattle.task_code_scalar.specs.declared.places.Places.{Places}
+use Rattle.multi_hart_laws.specs.Paths.{Stand, Block, Writes}
+use Rattle.task_code_scalar.specs.declared.layouts.Places.{Places}
 use Rattle.task_code_scalar.specs.Code.{literal}
 use Rattle.task_code_scalar.specs.Layout.{IsOf, IsElsewhere}
 use Rattle.task_code_scalar.specs.Doing.{Setting, IsSetting, SoundIn, RunsIn, HoldsFuncs}
 use Rattle.task_code_scalar.specs.Words.{Emits}
-use Rattle.task_code_runs.specs.AtOnce.{AtOnceIn}
+use Rattle.task_code_vector_loops.specs.AtOnce.{AtOnceIn}
 
 -- where a task begins: its number was drawn
 pub record HasDrawn (own : Setting) (task : ℕ) (f : ℕ → ℕ) : Type 0 where
@@ -49,7 +49,7 @@ EachTaskEnds places phase ticket insns turns =
     → (f : ℕ → ℕ) (memory : List ℕ) (funcs : Planes) → HoldsFuncs own memory funcs → HasDrawn own task f
     → TaskEnds own phase insns (turns task) ticket task f memory funcs
 
--- These instructions do each task of the phase, wherever they stand, in turns that hang on the task alone.
+-- These instructions do each task of the phase, wherever they stand, in turns that depend on the task alone.
 pub record DoesTask (places : Places) (phase : Phase) (ticket : ℕ) (insns : List Insn) : Type 0 where
   pub turns : ℕ → ℕ
   pub does : EachTaskEnds places phase ticket insns turns

@@ -1,4 +1,4 @@
--- Bodies of vectorized loops as single stores, behind tests or not. This project's own.
+-- Bodies of vectorized loops as single stores, under tests or not. This project's own.
 use Rattle.std.specs.Prelude.{◌≡◌, ◌<◌, ◌≤◌, ℕ, ◌+◌, ◌-◌, ◌%◌, ◌^◌, true, false, Bool, nat_lt, cond, if◌then◌else◌, List, [], ◌∷◌, ◌++◌, None}
 use Rattle.rv_insn.specs.declared.instructions.Insn.{Insn}
 use Rattle.halide_pipeline.specs.Pixel.{Planes, Reads}
@@ -22,17 +22,17 @@ use Rattle.task_code_registers.specs.Strides.{strides}
 use Rattle.task_code_loops.specs.declared.bounds.Bound.{Bound}
 use Rattle.task_code_loops.specs.Bounds.{AreBelow}
 use Rattle.task_code_loops.specs.Guarding.{stored_if}
-use Rattle.task_code_lane_values.specs.declared.vectorized.Lanes.{Lanes}
-use Rattle.task_code_runs.specs.declared.left.Left.{Left}
-use Rattle.task_code_runs.specs.Naming.{AreNamed}
-use Rattle.task_code_runs.specs.Runs.{StoresAs, all_lanes, left_lanes}
+use Rattle.task_code_lane_values.specs.declared.vectorized.VectorLanes.{VectorLanes}
+use Rattle.task_code_vector_loops.specs.declared.left.Left.{Left}
+use Rattle.task_code_vector_loops.specs.Naming.{AreNamed}
+use Rattle.task_code_vector_loops.specs.Runs.{StoresAs, all_lanes, left_lanes}
 use Rattle.task_code_statements.specs.declared.contexts.Context.{Context}
 use Rattle.task_code_statements.specs.declared.guards.Guard.{Guard}
 use Rattle.task_code_statements.specs.declared.guards.Parted.{Parted}
 use Rattle.task_code_statements.specs.declared.guards.Tests.{Tests}
 use Rattle.task_code_statements.specs.declared.replacing.Standing.{Standing}
-use Rattle.task_code_statements.specs.declared.vectorizing.Guarded.{Guarded}
-use Rattle.task_code_statements.specs.declared.vectorizing.Run.{Run}
+use Rattle.task_code_statements.specs.declared.vectorizing.GuardedStore.{GuardedStore}
+use Rattle.task_code_statements.specs.declared.vectorizing.VectorStore.{VectorStore}
 use Rattle.task_code_statements.specs.Contexts.{Meets}
 use Rattle.task_code_statements.specs.Lacking.{Lacks, StoreLacks}
 use Rattle.task_code_statements.specs.Replacing.{IsReplacedStore}
@@ -51,12 +51,12 @@ abbrev pub GuardsLack : Counter → List Guard → Type 0
 GuardsLack counter guards = (values : Values) (v : ℕ) → passes guards (with counter v values) ≡ passes guards values
 
 -- so it is of a store and its tests
-pub record GuardedLacks (counter : Counter) (own : Guarded) : Type 0 where
+pub record GuardedLacks (counter : Counter) (own : GuardedStore) : Type 0 where
   pub store : StoreLacks counter own.store
   pub guards : GuardsLack counter own.guards.items
 
 -- An expression stands for a variable in a store, and neither the expression nor what is left has it.
-pub record ReplacesIn (old : Guarded) (own : Standing) (made : Guarded) : Type 0 where
+pub record ReplacesIn (old : GuardedStore) (own : Standing) (made : GuardedStore) : Type 0 where
   pub store : IsReplacedStore own old.store made.store
   pub guards_are : made.guards ≡ old.guards
   pub lacks : GuardedLacks own.counter made
@@ -73,7 +73,7 @@ TestToo bounds guards own made =
 
 -- Where all tests pass, a statement stores what the store stores, wherever loop variables and names are as known, and is sound there only if that is;
 -- else it stores nothing.
-pub record IsStoreOf (context : Context) (body : Stmt) (made : Guarded) : Type 0 where
+pub record IsStoreOf (context : Context) (body : Stmt) (made : GuardedStore) : Type 0 where
   pub stores : (reads : Reads) (values named : Values) → AreNamed values named → Meets context named
       → effect reads body values ≡ cond (passes made.guards.items named) (effect reads (statements.Store made.store) named) None
   pub sound : (reads : Reads) (written : Points) (loaded : Point → Bool) (values named : Values) → AreNamed values named → Meets context named
@@ -82,7 +82,7 @@ pub record IsStoreOf (context : Context) (body : Stmt) (made : Guarded) : Type 0
 
 -- ---- tests of lanes
 
--- Of tests some hang on no lane, and the others may.
+-- Of tests some depend on no lane, and the others may.
 pub record IsParted (counter : Counter) (guards : List Guard) (made : Parted) : Type 0 where
   pub passes_is : (values : Values) → passes guards values ≡ cond (passes made.fixed.items values) (passes made.hanging.items values) false
   pub lack : GuardsLack counter made.fixed.items
@@ -104,7 +104,7 @@ AreLeft bounds counter [] (own ∷ left) = ⊥
 AreLeft bounds counter (guard ∷ guards) [] = ⊥
 AreLeft bounds counter (guard ∷ guards) (own ∷ left) = IsLeft bounds counter guard own × AreLeft bounds counter guards left
 
--- such sums behind others
+-- such sums after others
 abbrev pub AddsLeft : List Bound → Counter → List Guard → List Left → List Left → Type 0
 AddsLeft bounds counter guards old new = (left : List Left) × (new ≡ old ++ left) × AreLeft bounds counter guards left
 
@@ -124,19 +124,19 @@ pub record AreTests (bounds : List Bound) (counter : Counter) (guards : List Gua
 -- ---- runs
 
 -- there is a lane for each iteration of a loop, whose variable no held form has
-pub record AreLanes (scope : List Held) (own : Bound) (lanes : Lanes) : Type 0 where
+pub record AreLanes (scope : List Held) (own : Bound) (lanes : VectorLanes) : Type 0 where
   pub counter_is : lanes.counter ≡ own.counter
   pub count_is : own.count ≡ all_lanes lanes
   pub steady : mentions own.counter scope ≡ false
 
 -- Where all tests pass in the first iteration, a body does a run's store in as many iterations; else it stores nothing.
-pub record IsRunOf (context : Context) (lanes : Lanes) (body : Stmt) (made : Run) : Type 0 where
+pub record IsRunOf (context : Context) (lanes : VectorLanes) (body : Stmt) (made : VectorStore) : Type 0 where
   pub does : (values named : Values) → AreNamed values named → Meets context named → passes made.fixed.items (with lanes.counter 0 named) ≡ true
       → StoresAs lanes body made.store values named (left_lanes lanes made.left.items named)
   pub none : (values named : Values) → AreNamed values named → Meets context named → passes made.fixed.items (with lanes.counter 0 named) ≡ false
       → (reads : Reads) (i : ℕ) → i < all_lanes lanes → effect reads body (with lanes.counter i values) ≡ None
 
--- Appended code does what a body does where all tests pass, and else nothing. Its turns hang on those of the body and on variables' values alone.
+-- Appended code does what a body does where all tests pass, and else nothing. Its turns depend on those of the body and on variables' values alone.
 pub record StandsBehind (old new : List ℕ) (scope : List Held) (guards : List Guard) (body : List Insn) : Type 0 where
   pub insns : List Insn
   pub emits : Emits old new insns

@@ -10,10 +10,10 @@ use crate::lessers::count_below;
 use loop_ir::expressions::{Counter, Expr, Linear, same_counter};
 use std::alloc::{AllocError, Global};
 use task_code_loops::bounds::Bound;
-use task_code_loops::known::Known;
+use task_code_loops::known::KnownSum;
 use task_code_names::names::{Named, new_named};
-use task_code_runs::terms::has_term;
 use task_code_scalar::CodeFault;
+use task_code_vector_loops::terms::has_term;
 
 /// What the loops of a task hold in registers. Each way asks for fewer of them than the one before.
 #[derive(Clone, Copy, Debug, PartialEq, Eq)]
@@ -47,7 +47,7 @@ impl Holding {
 /// Loop variables that are sums of others, numbers below which loop variables stay, and names.
 #[derive(Debug, Drop)]
 pub struct Context {
-    pub known: Vec<Known>,
+    pub known: Vec<KnownSum>,
     pub bounds: Vec<Bound>,
     pub names: Vec<Named>,
     pub holding: Holding,
@@ -68,8 +68,8 @@ pub fn nothing_known(alloc: Global, holding: Holding) -> Context
 /// Appends copies of those that are neither of a loop variable nor a sum of it.
 fn keep_others(
     alloc: Global,
-    made: &mut Vec<Known>,
-    known: &[Known],
+    made: &mut Vec<KnownSum>,
+    known: &[KnownSum],
     counter: Counter,
 ) -> Result<(), AllocError>
     ensures { OnOk result (made.new.items ≡ made.old.items ++ contexts.without counter known.now) }
@@ -84,7 +84,7 @@ fn keep_others(
                 return Ok(());
             }
             let sum = first.sum.copy(alloc)?;
-            made.push(Known {
+            made.push(KnownSum {
                 counter: first.counter,
                 sum,
             })?;
@@ -113,16 +113,16 @@ pub(crate) fn is_bounded(bounds: &[Bound], counter: Counter) -> bool
 /// A loop variable and the sum that it is, before what is known beside it of others.
 fn with_known(
     alloc: Global,
-    known: &[Known],
+    known: &[KnownSum],
     counter: Counter,
     sum: &Linear,
-) -> Result<Vec<Known>, AllocError>
+) -> Result<Vec<KnownSum>, AllocError>
     ensures { IfOk result (λ made. made.items
         ≡ record { counter = counter; sum = sum.now } ∷ contexts.without counter known.now) }
 {
     let sum = sum.copy(alloc)?;
     let mut made = Vec::new(alloc);
-    made.push(Known { counter, sum })?;
+    made.push(KnownSum { counter, sum })?;
     keep_others(alloc, &mut made, known, counter)?;
     Ok(made)
 }

@@ -1,4 +1,4 @@
-//! Tests that a vectorized loop's store stands behind: those that hang on no lane pass for all lanes or for none, and
+//! Tests that a vectorized loop's store stands under: those that depend on no lane pass for all lanes or for none, and
 //! the others for the first lanes alone.
 
 ghost use Rattle.std.specs.Prelude.{◌≡◌, IfOk, OnOk, true, [], ◌∷◌, ◌++◌};
@@ -11,15 +11,15 @@ use std::alloc::{AllocError, Global};
 use task_code_loops::bounds::{Bound, is_below};
 use task_code_loops::guards::emit_guarded;
 use task_code_registers::holding::{at_value, stride_of};
-use task_code_registers::scopes::{Form, Held};
-use task_code_runs::left::Left;
-use task_code_runs::terms::has_term;
+use task_code_registers::scopes::{AffineForm, Held};
 use task_code_scalar::{CodeFault, append};
+use task_code_vector_loops::left::Left;
+use task_code_vector_loops::terms::has_term;
 
 /// The largest extent that leaves no negative number.
 const MOST_EXTENT: u32 = (1 << 31) - 1;
 
-/// The largest stride at which no sum that begins below that extent turns over 2^32 in a run.
+/// The largest stride at which no sum that begins below that extent passes 2^32 in a run.
 const MOST_STRIDE: u32 = 1 << 27;
 
 /// A sum that has to be below an extent.
@@ -37,7 +37,7 @@ impl Drop for Guard {
     }
 }
 
-/// Tests that hang on no lane, and those that do.
+/// Tests that depend on no lane, and those that do.
 #[derive(Debug, Drop)]
 struct Parted {
     pub fixed: Vec<Guard>,
@@ -73,7 +73,7 @@ fn with_guard(guards: Vec<Guard>, sum: Linear, extent: u32) -> Result<Vec<Guard>
 pub fn add_test(
     bounds: &[Bound],
     guards: &mut Vec<Guard>,
-    form: Form,
+    form: AffineForm,
     extent: u32,
 ) -> Result<(), AllocError>
     ensures { OnOk result (TestToo bounds.now guards.old.items (record { sum = form.sum; extent = extent })
@@ -89,7 +89,7 @@ pub fn add_test(
     Ok(())
 }
 
-/// Tests by whether they hang on a loop's lanes.
+/// Tests by whether they depend on a loop's lanes.
 fn by_lanes(alloc: Global, guards: &[Guard], counter: Counter) -> Result<Parted, AllocError>
     ensures { IfOk result (IsParted counter guards.now) }
 {
@@ -113,11 +113,11 @@ fn by_lanes(alloc: Global, guards: &[Guard], counter: Counter) -> Result<Parted,
 }
 
 /// A test's form in the first iteration of a loop.
-fn first_of(alloc: Global, counter: Counter, guard: &Guard) -> Result<Form, AllocError>
+fn first_of(alloc: Global, counter: Counter, guard: &Guard) -> Result<AffineForm, AllocError>
     ensures { IfOk result (IsAt counter 0 (record { sum = guard.now.sum; per_hart = 0 })) }
 {
     let sum = guard.sum.copy(alloc)?;
-    let form = Form { sum, per_hart: 0 };
+    let form = AffineForm { sum, per_hart: 0 };
     let start = at_value(alloc, &form, counter, 0)?;
     Ok(start)
 }
@@ -194,7 +194,7 @@ fn add_tests_at_start(
     }
 }
 
-/// Tests of a loop's first iteration, and how many iterations pass from there on, by each test that hangs on lanes.
+/// Tests of a loop's first iteration, and how many iterations pass from there on, by each test that depends on lanes.
 #[derive(Drop)]
 pub struct Tests {
     pub fixed: Vec<Guard>,
@@ -205,8 +205,8 @@ pub struct Tests {
 ///
 /// # Errors
 ///
-/// Memory ran out, or the sum of a test that hangs on the loop's lanes grows by so much, or may be so large, that it
-/// turns over.
+/// Memory ran out, or the sum of a test that depends on the loop's lanes grows by so much, or may be so large, that it
+/// overflows.
 pub fn tests_of(
     alloc: Global,
     bounds: &[Bound],
@@ -239,7 +239,7 @@ pub fn emit_behind(
         }
         [first, others @ ..] => {
             let sum = first.sum.copy(alloc)?;
-            let form = Form { sum, per_hart: 0 };
+            let form = AffineForm { sum, per_hart: 0 };
             let mut inner = Vec::new(alloc);
             emit_guarded(&mut inner, scope, &form, first.extent, words)?;
             emit_behind(alloc, code, scope, others, inner.as_slice())?;

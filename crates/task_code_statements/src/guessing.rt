@@ -17,10 +17,10 @@ use task_code_loops::bounds::Bound;
 use task_code_names::copies::copy_of;
 use task_code_names::names::{Named, new_named};
 use task_code_names::renaming::renamed_store;
-use task_code_registers::scopes::Form;
+use task_code_registers::scopes::AffineForm;
 use task_code_registers::terms::with_room;
 use task_code_scalar::CodeFault;
-use task_code_scalar::places::Places;
+use task_code_scalar::layouts::Places;
 
 /// A store as its code is made, without clamps that cut nothing off, or with them.
 ///
@@ -226,14 +226,14 @@ pub fn add_sums(
     alloc: Global,
     bounds: &[Bound],
     e: &Expr,
-    found: &mut Vec<Form>,
+    found: &mut Vec<AffineForm>,
 ) -> Result<(), AllocError> {
     match e {
         Expr::Number(_) => Ok(()),
         Expr::Linear(own) => {
             if let Some(sum) = first_sum(alloc, bounds, own)? {
                 if !sum.terms.as_slice().is_empty() {
-                    found.push(Form { sum, per_hart: 0 })?;
+                    found.push(AffineForm { sum, per_hart: 0 })?;
                 }
             }
             Ok(())

@@ -5,7 +5,7 @@ ghost use Rattle.task_code_statements.specs.Lacking.{Lacks, StoreLacks};
 
 use loop_ir::expressions::{Counter, Expr};
 use loop_ir::statements::Store;
-use task_code_runs::terms::has_term;
+use task_code_vector_loops::terms::has_term;
 
 /// Whether no sum of an expression has a term of a loop variable.
 pub(crate) fn lacks(e: &Expr, counter: Counter) -> bool

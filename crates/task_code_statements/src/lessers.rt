@@ -11,7 +11,7 @@ use loop_ir::expressions::{Expr, Linear};
 use sqlite_items::Boxed;
 use std::alloc::{AllocError, Global};
 use task_code_loops::bounds::{Bound, is_below};
-use task_code_registers::scopes::Form;
+use task_code_registers::scopes::AffineForm;
 
 /// The least number that is negative as one with a sign.
 pub const NEGATIVE: u32 = 1 << 31;
@@ -19,7 +19,7 @@ pub const NEGATIVE: u32 = 1 << 31;
 /// A sum as a form, and a number.
 #[derive(Drop)]
 struct Lesser {
-    form: Form,
+    form: AffineForm,
     number: u32,
 }
 
@@ -41,7 +41,7 @@ fn lesser_of_both(alloc: Global, a: &Expr, b: &Expr) -> Result<Option<Lesser>, A
         Expr::Number(n) => match leaf_sum(alloc, a)? {
             None => Ok(None),
             Some(sum) => Ok(Some(Lesser {
-                form: Form { sum, per_hart: 0 },
+                form: AffineForm { sum, per_hart: 0 },
                 number: *n,
             })),
         },

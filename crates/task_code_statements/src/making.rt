@@ -4,7 +4,7 @@ ghost use Rattle.std.specs.Prelude.{IfOk};
 ghost use Rattle.loop_ir.specs.declared.expressions.Expr.{Expr};
 ghost use Rattle.loop_ir.specs.declared.expressions.Expr.TheVariants as expressions;
 ghost use Rattle.task_code_clamps.specs.Clamps.{IsRanged};
-ghost use Rattle.task_code_scalar.specs.declared.places.Places.{Places};
+ghost use Rattle.task_code_scalar.specs.declared.layouts.Places.{Places};
 ghost use Rattle.task_code_statements.specs.Making.{IsUnclamped, IsUnclampedIn, IsUnclampedStore};
 
 use crate::rewriting::sum_of_both;
@@ -15,8 +15,8 @@ use sqlite_items::Boxed;
 use std::alloc::{AllocError, Global};
 use task_code_clamps::clamps::{Ranged, anywhere, of_both, of_linear, of_load, of_number};
 use task_code_loops::bounds::Bound;
-use task_code_loops::known::{Known, sum_by_others};
-use task_code_scalar::places::Places;
+use task_code_loops::known::{KnownSum, sum_by_others};
+use task_code_scalar::layouts::Places;
 
 /// What an operation makes of two expressions without such clamps: a sum where both are sums and it is one.
 fn unclamped_binary(
@@ -38,12 +38,12 @@ fn unclamped_binary(
     }
 }
 
-/// An expression as `unclamped` makes it, behind a pointer; its range is not asked for.
+/// An expression as `unclamped` makes it, in a box; its range is not asked for.
 #[cycle(unclamping)]
 fn unclamped_part(
     alloc: Global,
     places: &Places,
-    known: &[Known],
+    known: &[KnownSum],
     bounds: &[Bound],
     e: &Expr,
 ) -> Result<Boxed<Expr>, AllocError>
@@ -60,7 +60,7 @@ fn unclamped_part(
 fn unclamped(
     alloc: Global,
     places: &Places,
-    known: &[Known],
+    known: &[KnownSum],
     bounds: &[Bound],
     e: &Expr,
 ) -> Result<Ranged, AllocError>
@@ -108,7 +108,7 @@ fn unclamped(
 pub fn unclamped_store(
     alloc: Global,
     places: &Places,
-    known: &[Known],
+    known: &[KnownSum],
     bounds: &[Bound],
     store: &Store,
 ) -> Result<Store, AllocError>

@@ -2,7 +2,7 @@
 
 ghost use Rattle.std.specs.Prelude.{◌≡◌, IfOk, IfSome, true};
 ghost use Rattle.task_code_registers.specs.Scopes.{IsLeft};
-ghost use Rattle.task_code_runs.specs.Naming.{is_name};
+ghost use Rattle.task_code_vector_loops.specs.Naming.{is_name};
 ghost use Rattle.task_code_statements.specs.Naming.{KeepsValue, NamesIf};
 
 use crate::contexts::{Context, is_bounded, with_value};
@@ -13,11 +13,11 @@ use task_code_loops::tests::variable;
 use task_code_names::copies::is_still;
 use task_code_registers::numbers::emit_plus;
 use task_code_registers::scopes::{Held, free_register, with_held};
-use task_code_runs::terms::mentions;
-use task_code_scalar::places::Places;
+use task_code_scalar::layouts::Places;
 use task_code_scalar::{CodeFault, append};
 use task_code_values::sites::Site;
 use task_code_values::stores::emit_value;
+use task_code_vector_loops::terms::mentions;
 
 /// How many names are tried.
 const TRIED: usize = 64;
@@ -31,7 +31,7 @@ pub struct Limits {
     pub registers: usize,
 }
 
-/// What registers hold behind code that gives names their values, and what is known there.
+/// What registers hold after code that gives names their values, and what is known there.
 #[derive(Debug)]
 pub struct Naming {
     pub scope: Vec<Held>,

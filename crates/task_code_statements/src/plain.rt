@@ -1,14 +1,14 @@
 //! Expressions without names: variables that no loop has, which registers alone hold.
 
 ghost use Rattle.std.specs.Prelude.{◌≡◌, true};
-ghost use Rattle.task_code_runs.specs.Naming.{is_name};
+ghost use Rattle.task_code_vector_loops.specs.Naming.{is_name};
 ghost use Rattle.task_code_statements.specs.Plain.{IsPlain, IsPlainStore};
 ghost use Rattle.task_code_statements.specs.Naming.{has_name};
 
 use loop_ir::expressions::{Counter, Expr, Term};
 use loop_ir::statements::Store;
 use schedule_lines::stages::LoopId;
-use task_code_runs::terms::NAMES;
+use task_code_vector_loops::terms::NAMES;
 
 /// The name of a number.
 pub fn name(number: usize) -> Counter

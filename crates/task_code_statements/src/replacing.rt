@@ -11,7 +11,7 @@ use sqlite_items::Boxed;
 use std::alloc::{AllocError, Global};
 use task_code_names::copies::copy_of;
 use task_code_registers::holding::{at_value, stride_of};
-use task_code_registers::scopes::Form;
+use task_code_registers::scopes::AffineForm;
 
 /// The value of a loop variable, and which one it is.
 #[derive(Debug)]
@@ -58,7 +58,7 @@ fn without_term(alloc: Global, sum: &Linear, counter: Counter) -> Result<Linear,
     ensures { IfOk result (IsRest counter sum.now) }
 {
     let own = sum.copy(alloc)?;
-    let form = Form {
+    let form = AffineForm {
         sum: own,
         per_hart: 0,
     };
@@ -80,7 +80,7 @@ fn sum_with(alloc: Global, sum: &Linear, own: &Standing) -> Result<Expr, AllocEr
     Ok(made)
 }
 
-/// So it is with an expression behind a pointer.
+/// So it is with an expression in a box.
 #[cycle(replacing)]
 fn part_with(alloc: Global, e: &Expr, own: &Standing) -> Result<Boxed<Expr>, AllocError>
     ensures { IfOk result (IsReplaced own.now e.now) }

@@ -10,7 +10,7 @@ use loop_ir::expressions::{Expr, Linear};
 use loop_ir::statements::Store;
 use sqlite_items::Boxed;
 use std::alloc::{AllocError, Global};
-use task_code_loops::known::{Known, sum_by_others};
+use task_code_loops::known::{KnownSum, sum_by_others};
 use task_code_loops::sums::{combined, may_combine};
 use task_code_values::needs::is_leaf;
 
@@ -87,9 +87,9 @@ fn binary_of(alloc: Global, operation: Operation, a: Expr, b: Expr) -> Result<Ex
     }
 }
 
-/// So it is with an expression behind a pointer.
+/// So it is with an expression in a box.
 #[cycle(rewriting)]
-fn part_by_others(alloc: Global, e: &Expr, known: &[Known]) -> Result<Boxed<Expr>, AllocError>
+fn part_by_others(alloc: Global, e: &Expr, known: &[KnownSum]) -> Result<Boxed<Expr>, AllocError>
     ensures { IfOk result (IsSameExpr known.now e.now) }
 {
     let made = by_other_variables(alloc, e, known)?;
@@ -103,7 +103,7 @@ fn part_by_others(alloc: Global, e: &Expr, known: &[Known]) -> Result<Boxed<Expr
 ///
 /// Memory ran out.
 #[cycle(rewriting)]
-pub fn by_other_variables(alloc: Global, e: &Expr, known: &[Known]) -> Result<Expr, AllocError>
+pub fn by_other_variables(alloc: Global, e: &Expr, known: &[KnownSum]) -> Result<Expr, AllocError>
     ensures { IfOk result (IsSameExpr known.now e.now) }
 {
     match e {
@@ -145,7 +145,11 @@ pub fn by_other_variables(alloc: Global, e: &Expr, known: &[Known]) -> Result<Ex
 /// # Errors
 ///
 /// Memory ran out.
-pub fn store_by_others(alloc: Global, store: &Store, known: &[Known]) -> Result<Store, AllocError>
+pub fn store_by_others(
+    alloc: Global,
+    store: &Store,
+    known: &[KnownSum],
+) -> Result<Store, AllocError>
     ensures { IfOk result (IsSameStore known.now store.now) }
 {
     let x = by_other_variables(alloc, &store.x, known)?;

@@ -7,13 +7,13 @@ use crate::vectorizing::is_at_once;
 use loop_ir::expressions::Counter;
 use loop_ir::statements::{LoopKind, Stmt};
 use std::alloc::{AllocError, Global};
-use task_code_loops::known::Known;
+use task_code_loops::known::KnownSum;
 use task_code_loops::tests::variable;
 use task_code_loops::uses::form_by_others;
 use task_code_loops::wanted::wanted_forms;
-use task_code_registers::scopes::{Form, Held, left_count};
+use task_code_registers::scopes::{AffineForm, Held, left_count};
 use task_code_scalar::CodeFault;
-use task_code_scalar::places::Places;
+use task_code_scalar::layouts::Places;
 
 /// How many registers a loop has good use for by pointers and their ends, and by its variable and its count.
 const POINTER_REGISTERS: usize = 4;
@@ -23,8 +23,8 @@ const VARIABLE_REGISTERS: usize = 2;
 /// How many registers a loop around the innermost one leaves to that.
 const INNERMOST_REGISTERS: usize = 6;
 
-/// Whether a loop's iterations come one behind the other.
-pub(crate) fn is_in_turn(kind: LoopKind, count: u32) -> bool {
+/// Whether a loop's iterations come one after the other.
+pub(crate) fn is_in_order(kind: LoopKind, count: u32) -> bool {
     !is_at_once(kind) && !is_laid_out(kind, count)
 }
 
@@ -39,7 +39,7 @@ pub(crate) fn depth(statement: &Stmt) -> usize {
             if one < other { other } else { one }
         }
         Stmt::For(_, count, kind, body) => {
-            let own = usize::from(is_in_turn(*kind, *count));
+            let own = usize::from(is_in_order(*kind, *count));
             depth(body.get()).saturating_add(own)
         }
         Stmt::Bind(_, _, _, body) => depth(body.get()),
@@ -77,9 +77,9 @@ pub(crate) fn reserve(scope: &[Held], inside: usize, holding: Holding) -> usize 
 /// Adds forms by other loop variables than the known ones.
 fn add_by_others(
     alloc: Global,
-    known: &[Known],
-    forms: Vec<Form>,
-    wanted: &mut Vec<Form>,
+    known: &[KnownSum],
+    forms: Vec<AffineForm>,
+    wanted: &mut Vec<AffineForm>,
 ) -> Result<(), AllocError> {
     for own in forms {
         let form = form_by_others(alloc, own, known)?;
@@ -100,7 +100,7 @@ pub(crate) fn wanted_by(
     context: &Context,
     counter: Counter,
     guess: &Guess,
-) -> Result<Vec<Form>, AllocError> {
+) -> Result<Vec<AffineForm>, AllocError> {
     let bounds = context.bounds.as_slice();
     let mut wanted = Vec::new(alloc);
     if context.holding.has_variable(depth(guess.body.get())) {
@@ -126,7 +126,7 @@ pub(crate) fn wanted_in(
     context: &Context,
     counter: Counter,
     body: &Stmt,
-) -> Result<Vec<Form>, CodeFault> {
+) -> Result<Vec<AffineForm>, CodeFault> {
     let guess = ready_in(alloc, places, context, body)?;
     let found = wanted_by(alloc, places, context, counter, &guess);
     drop(guess);

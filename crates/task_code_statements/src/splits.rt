@@ -8,7 +8,7 @@ use crate::contexts::{Context, with_sum};
 use crate::lessers::{NEGATIVE, lesser_of};
 use crate::plain::is_name;
 use crate::replacing::plus;
-use crate::room::is_in_turn;
+use crate::room::is_in_order;
 use loop_ir::expressions::{Counter, Expr, Linear, Term, same_counter};
 use loop_ir::statements::{Stmt, Whole};
 use std::alloc::{AllocError, Global};
@@ -16,13 +16,13 @@ use task_code_loops::bounds::{Bound, is_below};
 use task_code_loops::known::sum_by_others;
 use task_code_names::copies::is_still;
 use task_code_names::names::name_for;
-use task_code_registers::scopes::Form;
+use task_code_registers::scopes::AffineForm;
 use task_code_registers::terms::with_room;
 use task_code_scalar::CodeFault;
 
 /// Where a run of a split loop's inner loop begins.
 #[derive(Clone, Copy, Debug)]
-pub(crate) enum Start {
+pub(crate) enum TaskStart {
     /// At the product of the outer variable and the factor.
     Product,
     /// At a number.
@@ -63,7 +63,7 @@ fn name_of_lesser(
 ) -> Result<Option<Counter>, AllocError>
     ensures { IfOk result (λ found. IfSome found (HasLesser context.now product last)) }
 {
-    let form = Form {
+    let form = AffineForm {
         sum: product,
         per_hart: 0,
     };
@@ -81,34 +81,34 @@ fn start_up_to(
     context: &Context,
     whole: &Whole,
     last: u32,
-) -> Result<Start, AllocError>
+) -> Result<TaskStart, AllocError>
     requires { whole.now.last ≡ Some last }
     ensures { IfOk result (BeginsRun context.now whole.now) }
 {
     let product = product_of(alloc, context, whole)?;
     if product.terms.len() == 0 {
         let number = lesser(product.number, last);
-        return Ok(Start::Number(number));
+        return Ok(TaskStart::Number(number));
     }
-    let form = Form {
+    let form = AffineForm {
         sum: product,
         per_hart: 0,
     };
     if last < u32::MAX && is_below(&form, context.bounds.as_slice(), last + 1) {
-        return Ok(Start::Product);
+        return Ok(TaskStart::Product);
     }
     match name_of_lesser(alloc, context, form.sum, last)? {
-        None => Ok(Start::Unknown),
-        Some(name) => Ok(Start::Name(name)),
+        None => Ok(TaskStart::Unknown),
+        Some(name) => Ok(TaskStart::Name(name)),
     }
 }
 
 /// Where a run of a split loop's inner loop begins.
-fn start_of(alloc: Global, context: &Context, whole: &Whole) -> Result<Start, AllocError>
+fn start_of(alloc: Global, context: &Context, whole: &Whole) -> Result<TaskStart, AllocError>
     ensures { IfOk result (BeginsRun context.now whole.now) }
 {
     match whole.last {
-        None => Ok(Start::Product),
+        None => Ok(TaskStart::Product),
         Some(last) => {
             let start = start_up_to(alloc, context, whole, last)?;
             Ok(start)
@@ -117,7 +117,7 @@ fn start_of(alloc: Global, context: &Context, whole: &Whole) -> Result<Start, Al
 }
 
 /// The sum of the variables of a split loop's two loops, where a run begins so.
-fn sum_from(alloc: Global, whole: &Whole, start: Start) -> Result<Option<Linear>, AllocError>
+fn sum_from(alloc: Global, whole: &Whole, start: TaskStart) -> Result<Option<Linear>, AllocError>
     ensures { IfOk result (λ found. IfSome found (AddsInner whole.now start)) }
 {
     let inner = Term {
@@ -126,7 +126,7 @@ fn sum_from(alloc: Global, whole: &Whole, start: Start) -> Result<Option<Linear>
     };
     let mut terms = with_room(alloc, 2)?;
     match start {
-        Start::Product => {
+        TaskStart::Product => {
             terms.push(Term {
                 counter: whole.outer,
                 stride: whole.factor,
@@ -134,16 +134,16 @@ fn sum_from(alloc: Global, whole: &Whole, start: Start) -> Result<Option<Linear>
             terms.push(inner)?;
             Ok(Some(Linear { number: 0, terms }))
         }
-        Start::Number(number) => {
+        TaskStart::Number(number) => {
             terms.push(inner)?;
             Ok(Some(Linear { number, terms }))
         }
-        Start::Name(counter) => {
+        TaskStart::Name(counter) => {
             terms.push(Term { counter, stride: 1 })?;
             terms.push(inner)?;
             Ok(Some(Linear { number: 0, terms }))
         }
-        Start::Unknown => Ok(None),
+        TaskStart::Unknown => Ok(None),
     }
 }
 
@@ -161,7 +161,7 @@ pub(crate) fn unnamed_start(
     ensures { IfOk result (λ found. IfSome found (IsStart context.now whole.now)) }
 {
     match start_of(alloc, context, whole)? {
-        Start::Unknown => match whole.last {
+        TaskStart::Unknown => match whole.last {
             None => Ok(None),
             Some(last) => {
                 let product = product_of(alloc, context, whole)?;
@@ -203,7 +203,7 @@ fn start_as_lesser(
     ensures { IfOk result (λ found. IfSome found (BeginsAt context.now whole.now)) }
 {
     let sum = product_of(alloc, context, whole)?;
-    let form = Form { sum, per_hart: 0 };
+    let form = AffineForm { sum, per_hart: 0 };
     if last >= NEGATIVE || !is_below(&form, context.bounds.as_slice(), NEGATIVE) {
         return Ok(None);
     }
@@ -222,7 +222,7 @@ fn inner_below(
 {
     let own = Linear::of_counter(alloc, whole.inner)?;
     let sum = sum_by_others(alloc, &own, context.known.as_slice())?;
-    let form = Form { sum, per_hart: 0 };
+    let form = AffineForm { sum, per_hart: 0 };
     if is_below(&form, context.bounds.as_slice(), count) {
         Ok(Some(form.sum))
     } else {
@@ -257,7 +257,7 @@ fn value_up_to(
 /// Whether a split loop's runs begin where no sum is known to.
 fn is_unknown(alloc: Global, context: &Context, whole: &Whole) -> Result<bool, AllocError> {
     match start_of(alloc, context, whole)? {
-        Start::Unknown => Ok(true),
+        TaskStart::Unknown => Ok(true),
         _ => Ok(false),
     }
 }
@@ -292,7 +292,7 @@ pub(crate) fn split_value(
 /// What is known where a split loop's body runs, and the loop's value.
 pub(crate) struct Entered {
     pub inner: Context,
-    pub form: Form,
+    pub form: AffineForm,
 }
 
 /// Written out, so that a check sees a call wherever one is dropped, and not the drops of its parts.
@@ -304,7 +304,7 @@ impl Drop for Entered {
 
 impl Entered {
     /// The value alone.
-    pub(crate) fn into_form(self) -> Form
+    pub(crate) fn into_form(self) -> AffineForm
         ensures { result ≡ self.form }
     {
         let Entered { inner: _, form } = self;
@@ -329,7 +329,7 @@ pub(crate) fn enter_split(
         None => Err(CodeFault::TooDeep),
         Some(sum) => {
             let inner = with_sum(alloc, context, counter, &sum)?;
-            let form = Form { sum, per_hart: 0 };
+            let form = AffineForm { sum, per_hart: 0 };
             Ok(Entered { inner, form })
         }
     }
@@ -357,7 +357,7 @@ fn is_cut_by(whole: &Whole, own: Bound) -> bool
     same_counter(whole.outer, own.counter) && product > u64::from(last)
 }
 
-/// How many loops in turn around a split loop's value are enough to make code of its own for a last iteration not worth
+/// From how many serial loops around a split loop's value on code of its own for a last iteration isn't worth
 /// while: where a run begins gets a name in front of them, once for all their iterations.
 const ENOUGH_LOOPS: usize = 2;
 
@@ -372,7 +372,7 @@ pub(crate) fn is_cut(body: &Stmt, own: Bound) -> bool
     has_cut(body, own, 0)
 }
 
-/// So it is inside of so many loops in turn.
+/// So it is inside of so many serial loops.
 fn has_cut(body: &Stmt, own: Bound, around: usize) -> bool
     requires { 1 ≤ own.count }
 {
@@ -382,7 +382,7 @@ fn has_cut(body: &Stmt, own: Bound, around: usize) -> bool
             has_cut(first.get(), own, around) || has_cut(second.get(), own, around)
         }
         Stmt::For(_, count, kind, inside) => {
-            let inner = around.saturating_add(usize::from(is_in_turn(*kind, *count)));
+            let inner = around.saturating_add(usize::from(is_in_order(*kind, *count)));
             inner < ENOUGH_LOOPS && has_cut(inside.get(), own, inner)
         }
         Stmt::Bind(_, whole, _, inside) => {

@@ -13,7 +13,7 @@ pub struct CodeStage {
     pub stage: StageName,
     /// The place of the first word, from 0.
     pub first: u32,
-    /// The place behind the last word.
+    /// The place after the last word.
     pub behind: u32,
 }
 
@@ -116,7 +116,7 @@ fn add_nest(
     Ok(())
 }
 
-/// The update behind the stage that was added last.
+/// The update after the stage that was added last.
 fn next_update(list: &[CodeStage]) -> Option<usize> {
     match list {
         [.., last] => match last.stage.update {
@@ -144,7 +144,7 @@ pub fn add_first(
 }
 
 /// Adds the second statement of a sequence, whose code stands between these places: of another Func than the phase's it
-/// is the update behind the stages in front.
+/// is the update after the stages in front.
 ///
 /// # Errors
 ///
@@ -160,7 +160,7 @@ pub fn add_second(
     Ok(())
 }
 
-/// Adds stages whose words were copied to behind so many others.
+/// Adds stages whose words were copied after so many others.
 ///
 /// # Errors
 ///

@@ -78,7 +78,7 @@ pub fn emit_starts(
     Ok(found)
 }
 
-/// What registers hold behind the names that a loop gets, if there are any, and its body as its code is made, where
+/// What registers hold after the names that a loop gets, if there are any, and its body as its code is made, where
 /// that was guessed for them.
 #[derive(Debug, Drop)]
 pub struct Before {

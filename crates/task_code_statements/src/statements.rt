@@ -3,7 +3,7 @@
 ghost use Rattle.std.specs.Prelude.{◌≡◌, ◌≤◌, IfOk, OnOk, false, true};
 ghost use Rattle.loop_ir.specs.declared.statements.LoopKind.TheVariants.{Vectorized as vectorized};
 ghost use Rattle.loop_ir.specs.declared.statements.Stmt.TheVariants as stmts;
-ghost use Rattle.loop_ir.specs.Rounds.{is_vectorized};
+ghost use Rattle.loop_ir.specs.LoopLanes.{is_vectorized};
 ghost use Rattle.task_code_registers.specs.Holding as holding;
 ghost use Rattle.task_code_loops.specs.Beginning.{Begins};
 ghost use Rattle.task_code_loops.specs.Guarding.{GuardsWords};
@@ -23,24 +23,24 @@ use crate::vectorizing::emit_vectorized;
 use loop_ir::expressions::{Counter, Linear};
 use loop_ir::statements::{LoopKind, Stmt, Store, Whole};
 use std::alloc::{AllocError, Global};
-use task_code_loops::beginning::{Begun, begin_loop};
+use task_code_loops::beginning::{BegunLoop, begin_loop};
 use task_code_loops::bounds::{Bound, is_below};
 use task_code_loops::ending::end_loop;
 use task_code_loops::guards::emit_guarded;
 use task_code_names::renaming::renamed_store;
-use task_code_registers::scopes::{Form, Held};
-use task_code_runs::terms::mentions;
+use task_code_registers::scopes::{AffineForm, Held};
 use task_code_scalar::CodeFault;
-use task_code_scalar::places::Places;
+use task_code_scalar::layouts::Places;
 use task_code_values::sites::Site;
 use task_code_values::stores::emit_store;
+use task_code_vector_loops::terms::mentions;
 
 /// How many words a text may have.
 const MOST_WORDS: usize = 1 << 18;
 
 /// A loop variable that stands for a split loop, and the number below which its body is run.
 #[derive(Clone, Copy, Debug)]
-pub struct Split {
+pub struct SplitTest {
     pub counter: Counter,
     pub whole: Whole,
     pub extent: u32,
@@ -93,9 +93,9 @@ fn begin(
     code: &mut Vec<u32>,
     scope: &[Held],
     own: Bound,
-    wanted: &[Form],
+    wanted: &[AffineForm],
     reserved: usize,
-) -> Result<Begun, CodeFault>
+) -> Result<BegunLoop, CodeFault>
     requires { 1 ≤ own.count }
     ensures ok { IfOk result (Begins code.old.items code.new.items wanted.now own.counter own.count scope.now
         reserved) }
@@ -121,28 +121,28 @@ pub(crate) fn is_laid_out(kind: LoopKind, count: u32) -> bool
 
 /// How the iterations of a loop are done.
 #[derive(Clone, Copy, Debug)]
-enum Way {
+enum LoopMethod {
     AtOnce,
     /// Each with code of its own.
     LaidOut,
-    /// One behind the other.
-    InTurn,
+    /// One after the other.
+    InOrder,
 }
 
 /// How the iterations of so many of a loop of this kind are done.
-fn way_of(kind: LoopKind, count: u32) -> Way
-    ensures at_once { result ≡ Way.AtOnce → kind ≡ vectorized }
-    ensures laid_out { result ≡ Way.LaidOut → is_vectorized kind ≡ false }
-    ensures in_turn { result ≡ Way.InTurn → is_vectorized kind ≡ false }
+fn way_of(kind: LoopKind, count: u32) -> LoopMethod
+    ensures at_once { result ≡ LoopMethod.AtOnce → kind ≡ vectorized }
+    ensures laid_out { result ≡ LoopMethod.LaidOut → is_vectorized kind ≡ false }
+    ensures in_order { result ≡ LoopMethod.InOrder → is_vectorized kind ≡ false }
 {
     match kind {
-        LoopKind::Vectorized => Way::AtOnce,
-        LoopKind::Unrolled => Way::LaidOut,
+        LoopKind::Vectorized => LoopMethod::AtOnce,
+        LoopKind::Unrolled => LoopMethod::LaidOut,
         LoopKind::Serial => {
             if count == 1 {
-                Way::LaidOut
+                LoopMethod::LaidOut
             } else {
-                Way::InTurn
+                LoopMethod::InOrder
             }
         }
     }
@@ -150,7 +150,7 @@ fn way_of(kind: LoopKind, count: u32) -> Way
 
 // ---- statements
 
-/// A loop whose iterations come one behind the other, and its body as its code is made, if that is guessed already.
+/// A loop whose iterations come one after the other, and its body as its code is made, if that is guessed already.
 #[derive(Clone, Copy, Debug)]
 struct Iterations<'a> {
     own: Bound,
@@ -165,7 +165,7 @@ fn begin_iterations(
     site: &Site<'_>,
     inner: &Context,
     iterations: &Iterations<'_>,
-) -> Result<Begun, CodeFault>
+) -> Result<BegunLoop, CodeFault>
     requires { 1 ≤ iterations.now.own.count }
     ensures { IfOk result (BeginsIterations code.old.items code.new.items iterations.now.own site.now.scope.now) }
 {
@@ -179,7 +179,7 @@ fn begin_iterations(
     Ok(begun)
 }
 
-/// Appends a loop whose iterations come one behind the other.
+/// Appends a loop whose iterations come one after the other.
 #[cycle(statements)]
 fn emit_iterations(
     alloc: Global,
@@ -205,7 +205,7 @@ fn emit_iterations(
     Ok(())
 }
 
-/// Appends a loop, behind what stays the same in its iterations.
+/// Appends a loop, after what stays the same in its iterations.
 #[cycle(statements)]
 fn emit_loop(
     alloc: Global,
@@ -326,7 +326,7 @@ fn emit_parted(
 fn emit_tested(
     code: &mut Code,
     scope: &[Held],
-    form: &Form,
+    form: &AffineForm,
     extent: u32,
     made: &Code,
 ) -> Result<(), CodeFault>
@@ -341,14 +341,14 @@ fn emit_tested(
     Ok(())
 }
 
-/// Appends the body of a split loop, behind what gives a name to where its run begins, where that needs one.
+/// Appends the body of a split loop, after what gives a name to where its run begins, where that needs one.
 #[cycle(statements)]
 fn emit_split(
     alloc: Global,
     code: &mut Code,
     site: &Site<'_>,
     context: &Context,
-    split: Split,
+    split: SplitTest,
     body: &Stmt,
 ) -> Result<(), CodeFault>
     ensures { OnOk result (EmitsStatement code.old.words.items code.new.words.items site.now.places.now
@@ -377,7 +377,7 @@ fn emit_entered(
     code: &mut Code,
     site: &Site<'_>,
     context: &Context,
-    split: Split,
+    split: SplitTest,
     body: &Stmt,
 ) -> Result<(), CodeFault>
     ensures { OnOk result (EmitsStatement code.old.words.items code.new.words.items site.now.places.now
@@ -435,16 +435,16 @@ pub fn emit_statement(
                 count: *count,
             };
             match way_of(*kind, *count) {
-                Way::AtOnce => {
+                LoopMethod::AtOnce => {
                     emit_vectorized(alloc, &mut code.words, site, context, own, body.get())?;
                 }
-                Way::LaidOut => emit_laid_out(alloc, code, site, context, own, body.get())?,
-                Way::InTurn => emit_serial(alloc, code, site, context, own, body.get())?,
+                LoopMethod::LaidOut => emit_laid_out(alloc, code, site, context, own, body.get())?,
+                LoopMethod::InOrder => emit_serial(alloc, code, site, context, own, body.get())?,
             }
             Ok(())
         }
         Stmt::Bind(counter, whole, extent, body) => {
-            let split = Split {
+            let split = SplitTest {
                 counter: *counter,
                 whole: *whole,
                 extent: *extent,

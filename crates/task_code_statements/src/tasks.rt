@@ -19,7 +19,7 @@ use task_code_loops::bounds::Bound;
 use task_code_loops::tests::variable;
 use task_code_registers::scopes::{Held, with_held};
 use task_code_scalar::instructions::emit_literal;
-use task_code_scalar::places::Places;
+use task_code_scalar::layouts::Places;
 use task_code_scalar::{CodeFault, append};
 use task_code_values::sites::Site;
 
@@ -39,7 +39,7 @@ const MANY_LOOPS: usize = 3;
 
 /// What registers hold where a task begins, and what is known of its loop variable.
 #[derive(Debug, Drop)]
-struct Start {
+struct TaskStart {
     scope: Vec<Held>,
     context: Context,
 }
@@ -96,11 +96,11 @@ fn beginning(
     counter: Option<Counter>,
     tasks: u32,
     holding: Holding,
-) -> Result<Start, CodeFault>
+) -> Result<TaskStart, CodeFault>
     ensures { IfOk result (λ made. Begins counter tasks made.scope.items made.context) }
 {
     match counter {
-        None => Ok(Start {
+        None => Ok(TaskStart {
             scope: Vec::new(alloc),
             context: nothing_known(alloc, holding),
         }),
@@ -112,7 +112,7 @@ fn beginning(
                 count: tasks,
             };
             let context = in_loop(alloc, &outside, own)?;
-            Ok(Start { scope, context })
+            Ok(TaskStart { scope, context })
         }
     }
 }
@@ -259,8 +259,8 @@ fn words_of(
 ///
 /// It also adds which of the words it takes for the code of stages inside the phase; no clause speaks of that.
 ///
-/// It finds the task's number in x12 and the hart's in x10, and ends behind its last word, with the addresses of the
-/// ticket word and of the gate word behind it in x13 and x14, 1 in x15 and the number of tasks in x16.
+/// It finds the task's number in x12 and the hart's in x10, and ends after its last word, with the addresses of the
+/// ticket word and of the gate word after it in x13 and x14, 1 in x15 and the number of tasks in x16.
 ///
 /// # Errors
 ///

@@ -18,38 +18,38 @@ use crate::starts::emit_starts;
 use loop_ir::expressions::Counter;
 use loop_ir::statements::{LoopKind, Stmt, Store};
 use std::alloc::Global;
-use task_code_lane_values::vectorized::Lanes;
-use task_code_lanes::groups::Group;
+use task_code_lane_values::vectorized::VectorLanes;
+use task_code_lanes::groups::LaneGroup;
 use task_code_loops::bounds::Bound;
 use task_code_names::renaming::renamed_store;
 use task_code_registers::scopes::Held;
-use task_code_runs::left::Left;
-use task_code_runs::runs::emit_run;
-use task_code_runs::terms::mentions;
 use task_code_scalar::CodeFault;
 use task_code_values::sites::Site;
+use task_code_vector_loops::left::Left;
+use task_code_vector_loops::runs::emit_run;
+use task_code_vector_loops::terms::mentions;
 
-/// A store, and the tests that it stands behind.
+/// A store, and the tests that it stands under.
 #[derive(Debug)]
-pub struct Guarded {
+pub struct GuardedStore {
     pub store: Store,
     pub guards: Vec<Guard>,
 }
 
 /// Written out, so that a check sees a call wherever one is dropped, and not the drops of its parts.
-impl Drop for Guarded {
+impl Drop for GuardedStore {
     fn drop(self) {
-        let Guarded { store, guards: _ } = self;
+        let GuardedStore { store, guards: _ } = self;
         drop(store);
     }
 }
 
-impl Guarded {
+impl GuardedStore {
     /// The store alone.
     fn into_store(self) -> Store
         ensures { result ≡ self.store }
     {
-        let Guarded { store, guards: _ } = self;
+        let GuardedStore { store, guards: _ } = self;
         store
     }
 
@@ -57,7 +57,7 @@ impl Guarded {
     fn into_guards(self) -> Vec<Guard>
         ensures { result ≡ self.guards }
     {
-        let Guarded { store, guards } = self;
+        let GuardedStore { store, guards } = self;
         drop(store);
         guards
     }
@@ -74,8 +74,8 @@ pub fn is_at_once(kind: LoopKind) -> bool
     }
 }
 
-/// A store by the loop variables that aren't known and by names, behind no test.
-fn stored_alone(alloc: Global, context: &Context, store: &Store) -> Result<Guarded, CodeFault>
+/// A store by the loop variables that aren't known and by names, under no test.
+fn stored_alone(alloc: Global, context: &Context, store: &Store) -> Result<GuardedStore, CodeFault>
     ensures { IfOk result (IsStoreOf context.now (stmts.Store store.now)) }
 {
     if !is_plain_store(store) {
@@ -83,28 +83,28 @@ fn stored_alone(alloc: Global, context: &Context, store: &Store) -> Result<Guard
     }
     let made = store_by_others(alloc, store, context.known.as_slice())?;
     let store = renamed_store(alloc, context.names.as_slice(), made)?;
-    Ok(Guarded {
+    Ok(GuardedStore {
         store,
         guards: Vec::new(alloc),
     })
 }
 
 /// Whether neither a store nor its tests have a loop variable.
-fn guarded_lacks(own: &Guarded, counter: Counter) -> bool
+fn guarded_lacks(own: &GuardedStore, counter: Counter) -> bool
     ensures { result ≡ true → GuardedLacks counter own.now }
 {
     store_lacks(&own.store, counter) && guards_lack(own.guards.as_slice(), counter)
 }
 
 /// A store and its tests with an expression for a loop variable that none of the tests has.
-fn guarded_with(alloc: Global, made: Guarded, own: Standing) -> Result<Guarded, CodeFault>
+fn guarded_with(alloc: Global, made: GuardedStore, own: Standing) -> Result<GuardedStore, CodeFault>
     ensures { IfOk result (ReplacesIn made own) }
 {
     if !lacks(&own.e, own.counter) {
         return Err(CodeFault::TooDeep);
     }
     let store = store_with(alloc, &made.store, &own)?;
-    let guarded = Guarded {
+    let guarded = GuardedStore {
         store,
         guards: made.into_guards(),
     };
@@ -115,7 +115,7 @@ fn guarded_with(alloc: Global, made: Guarded, own: Standing) -> Result<Guarded, 
 }
 
 /// The store that a vectorized loop's body is, by the loop variables that aren't known.
-fn stored_by(alloc: Global, context: &Context, body: &Stmt) -> Result<Guarded, CodeFault>
+fn stored_by(alloc: Global, context: &Context, body: &Stmt) -> Result<GuardedStore, CodeFault>
     ensures { IfOk result (IsStoreOf context.now body.now) }
 {
     match body {
@@ -155,17 +155,17 @@ fn stored_by(alloc: Global, context: &Context, body: &Stmt) -> Result<Guarded, C
     }
 }
 
-/// A store that the first iterations of a loop do behind tests, and what says how many.
+/// A store that the first iterations of a loop do under tests, and what says how many.
 #[derive(Debug)]
-pub struct Run {
+pub struct VectorStore {
     pub store: Store,
     pub fixed: Vec<Guard>,
     pub left: Vec<Left>,
 }
 
-impl Drop for Run {
+impl Drop for VectorStore {
     fn drop(self) {
-        let Run {
+        let VectorStore {
             store,
             fixed: _,
             left: _,
@@ -178,9 +178,9 @@ impl Drop for Run {
 fn run_of_body(
     alloc: Global,
     context: &Context,
-    lanes: Lanes,
+    lanes: VectorLanes,
     body: &Stmt,
-) -> Result<Run, CodeFault>
+) -> Result<VectorStore, CodeFault>
     ensures { IfOk result (IsRunOf context.now lanes body.now) }
 {
     let own = Bound {
@@ -191,7 +191,7 @@ fn run_of_body(
     let made = stored_by(alloc, &inner, body)?;
     let bounds = inner.bounds.as_slice();
     let Tests { fixed, left } = tests_of(alloc, bounds, own.counter, made.guards.as_slice())?;
-    Ok(Run {
+    Ok(VectorStore {
         store: made.into_store(),
         fixed,
         left,
@@ -199,15 +199,15 @@ fn run_of_body(
 }
 
 /// A lane for each iteration of a loop whose variable no held form has.
-fn lanes_for(scope: &[Held], own: Bound) -> Result<Lanes, CodeFault>
+fn lanes_for(scope: &[Held], own: Bound) -> Result<VectorLanes, CodeFault>
     ensures { IfOk result (AreLanes scope.now own) }
 {
     if mentions(scope, own.counter) {
         return Err(CodeFault::TooDeep);
     }
-    match Group::of_rounds(own.count) {
+    match LaneGroup::of_lanes(own.count) {
         None => Err(CodeFault::TooDeep),
-        Some(group) => Ok(Lanes {
+        Some(group) => Ok(VectorLanes {
             counter: own.counter,
             group,
         }),
@@ -246,7 +246,7 @@ fn emit_at_once(
 ///
 /// # Errors
 ///
-/// Memory ran out, the body is no single store, the sum of a test may turn over, or groups and registers do not suffice
+/// Memory ran out, the body is no single store, the sum of a test may overflow, or groups and registers do not suffice
 /// for this way of making code.
 pub fn emit_vectorized(
     alloc: Global,

@@ -11,9 +11,9 @@ use Rattle.loop_ir.specs.Counters.{Values}
 use Rattle.loop_ir.specs.Expressions.{value, loads}
 use Rattle.loop_ir.specs.Sizes.{Size, size}
 use Rattle.loop_ir.proofs.Sizes.{size_select}
-use Rattle.multi_hart_logic.specs.Paths.{Line}
-use Rattle.multi_hart_logic.proofs.Paths.{line-then}
-use Rattle.task_code_scalar.specs.declared.places.Places.{Places}
+use Rattle.multi_hart_laws.specs.Paths.{Line}
+use Rattle.multi_hart_laws.proofs.Paths.{line-then}
+use Rattle.task_code_scalar.specs.declared.layouts.Places.{Places}
 use Rattle.task_code_scalar.specs.Code.{frame_words}
 use Rattle.task_code_scalar.specs.Doing.{Setting, IsSetting, HoldsFuncs}
 use Rattle.task_code_scalar.specs.Layout.{IsBefore, frame_word}

@@ -17,9 +17,9 @@ use Rattle.loop_ir.specs.Counters.{Values}
 use Rattle.loop_ir.specs.Expressions.{value, loads}
 use Rattle.loop_ir.specs.Sizes.{Size, kept, size_of, size}
 use Rattle.loop_ir.proofs.Sizes.{size_binary, size_divide, size_remainder, size_load}
-use Rattle.multi_hart_logic.proofs.Paths.{line-then, stay}
-use Rattle.task_code_scalar.specs.declared.places.Place.{Place}
-use Rattle.task_code_scalar.specs.declared.places.Places.{Places}
+use Rattle.multi_hart_laws.proofs.Paths.{line-then, stay}
+use Rattle.task_code_scalar.specs.declared.layouts.BufferLayout.{BufferLayout}
+use Rattle.task_code_scalar.specs.declared.layouts.Places.{Places}
 use Rattle.task_code_scalar.specs.Code.{place_of}
 use Rattle.task_code_scalar.specs.Doing.{Setting, IsSetting, HoldsFuncs}
 use Rattle.task_code_scalar.specs.Evaluation.{Loads, LoadsAt}
@@ -31,8 +31,8 @@ use Rattle.task_code_registers.specs.Registers.{address_register, first_value, I
 use Rattle.task_code_registers.specs.Scopes.{Knows, AreHolders, IsKept}
 use Rattle.task_code_registers.proofs.Knowing.{knows-zero, knows-still, linear-small}
 use Rattle.task_code_registers.proofs.Making.{short-then}
-use Rattle.task_code_values.specs.declared.points.Index.TheVariants as indexes
-use Rattle.task_code_values.specs.declared.spilling.Both.{Both}
+use Rattle.task_code_values.specs.declared.points.PointIndex.TheVariants as indexes
+use Rattle.task_code_values.specs.declared.spilling.OperandRegisters.{OperandRegisters}
 use Rattle.task_code_values.specs.declared.points.PointIndexes.{PointIndexes}
 use Rattle.task_code_values.specs.Making.{IsBelow, MakesOfTwo, MakesFrom}
 use Rattle.task_code_values.specs.Operands.{IsOperand, IsSum, IsIndex, MakesOperand, MakesPixel}
@@ -64,7 +64,7 @@ module _ (places : Places) (scope : List Held) where
 
   -- ---- a value, and a second one beside it
 
-  pub binary-deep : (o : Operation) (a b : Expr) (first s : ℕ) (both : Both) (c0 c1 c2 c3 : List ℕ) → MakesValue c0 c1 places scope first s a
+  pub binary-deep : (o : Operation) (a b : Expr) (first s : ℕ) (both : OperandRegisters) (c0 c1 c2 c3 : List ℕ) → MakesValue c0 c1 places scope first s a
       → MakesBoth c1 c2 places scope first s both b → MakesOfTwo c2 c3 4 first_value both.first both.second (word.applied o)
       → MakesValue c0 c3 places scope first first_value (e.Binary o a b)
   binary-deep o a b first s both c0 c1 c2 c3 x y z = record {
@@ -152,7 +152,7 @@ module _ (places : Places) (scope : List Held) where
 
   can-load : (own : Setting) → IsSetting own → own.places ≡ places → (values : Values) (funcs : Planes) (memory : List ℕ)
       → HoldsFuncs own memory funcs → (source : Source)
-      (place : Place) (x y : ℕ) → place ≡ place_of places source → own.loaded (record { source = source; x = x; y = y }) ≡ true
+      (place : BufferLayout) (x y : ℕ) → place ≡ place_of places source → own.loaded (record { source = source; x = x; y = y }) ≡ true
       → LoadsAt own.world place memory x y (reads_of own.inputs funcs source x y)
   can-load own good at values funcs memory holds source place x y ep is =
       subst (λ p. LoadsAt own.world p memory x y (reads_of own.inputs funcs source x y)) (sym ep)
@@ -167,7 +167,7 @@ module _ (places : Places) (scope : List Held) where
       let all = passes-parts own (loads reads values x ++ loads reads values y) (point ∷ []) (subst (Passes own) (loads_load reads values source x y) may) in
       (passes-parts own (loads reads values x) (loads reads values y) all.0, (and_parts (own.loaded point) true all.1).0)
 
-  pub load-deep : (source : Source) (place : Place) (x y : Expr) (point : PointIndexes) (first s : ℕ) (c0 c1 c2 c3 : List ℕ) → place ≡ place_of places source
+  pub load-deep : (source : Source) (place : BufferLayout) (x y : Expr) (point : PointIndexes) (first s : ℕ) (c0 c1 c2 c3 : List ℕ) → place ≡ place_of places source
       → MakesValue c0 c1 places scope first s x → MakesRow c1 c2 places scope first s point y → MakesPixel c2 c3 scope place point.column point.row
       first_value
       → MakesValue c0 c3 places scope first first_value (e.Load source x y)
@@ -319,7 +319,7 @@ module _ (places : Places) (scope : List Held) where
   pub value-as : (own x : Expr) (first s : ℕ) (c0 c1 : List ℕ) → own ≡ x → MakesValue c0 c1 places scope first s x → MakesValue c0 c1 places scope first s own
   value-as own x first s c0 c1 eo z = subst (MakesValue c0 c1 places scope first s) (sym eo) z
 
-  pub binary-deep-arm : (own : Expr) (o : Operation) (a b x y : Expr) (first s : ℕ) (both : Both) (c0 c1 c2 c3 : List ℕ) → own ≡ e.Binary o a b
+  pub binary-deep-arm : (own : Expr) (o : Operation) (a b x y : Expr) (first s : ℕ) (both : OperandRegisters) (c0 c1 c2 c3 : List ℕ) → own ≡ e.Binary o a b
       → x ≡ a → y ≡ b
       → MakesValue c0 c1 places scope first s x → MakesBoth c1 c2 places scope first s both y → MakesOfTwo c2 c3 4 first_value both.first both.second
       (word.applied o)
@@ -339,7 +339,7 @@ module _ (places : Places) (scope : List Held) where
   remainder-deep-arm own a x c first s c0 c1 c2 eo ex u z =
       value-as own (e.Remainder a c) first first_value c0 c2 eo (remainder-deep a c first s c0 c1 c2 (subst (MakesValue c0 c1 places scope first s) ex u) z)
 
-  pub load-deep-arm : (own : Expr) (source : Source) (place : Place) (a b x y : Expr) (point : PointIndexes) (first s : ℕ) (c0 c1 c2 c3 : List ℕ)
+  pub load-deep-arm : (own : Expr) (source : Source) (place : BufferLayout) (a b x y : Expr) (point : PointIndexes) (first s : ℕ) (c0 c1 c2 c3 : List ℕ)
       → own ≡ e.Load source a b
       → x ≡ a → y ≡ b → place ≡ place_of places source → MakesValue c0 c1 places scope first s x → MakesRow c1 c2 places scope first s point y
       → MakesPixel c2 c3 scope place point.column point.row first_value → MakesValue c0 c3 places scope first first_value own

@@ -16,8 +16,8 @@ use Rattle.rv_insn.specs.declared.operations.AluOp.TheVariants as alus
 use Rattle.rv_insn.specs.declared.operations.ShiftOp.TheVariants as shifts
 use Rattle.lanes.specs.Words as lanes
 use Rattle.halide_pipeline.specs.Words as word
-use Rattle.multi_hart_logic.specs.Alone.{World}
-use Rattle.multi_hart_logic.proofs.Paths.{line-then}
+use Rattle.multi_hart_laws.specs.Alone.{World}
+use Rattle.multi_hart_laws.proofs.Paths.{line-then}
 use Rattle.task_code_scalar.specs.Words.{Emits}
 use Rattle.task_code_scalar.proofs.Spelling.{emits_then}
 use Rattle.task_code_scalar.proofs.Values.{alu-sets, shift-sets}
@@ -80,16 +80,16 @@ and-ones c l = same_from_bits (bit_and (2 ^ 32 - 1) c) c (λ i. bit_at_and (2 ^ 
     each i (inl few) = ap (λ z. min z (bit_at c i)) (bit_at_ones 32 i few) ∙ least-one (bit_at c i) (bit_at-lt c i)
     each i (inr many) = ap (λ z. min z (bit_at c i)) (bit_at_ones_above 32 i many) ∙ least-zero (bit_at c i) ∙ sym (bit_at_above c 32 i l many)
 
-abbrev pub turned : Bool → ℕ → ℕ
-turned t x = if t then x else 2 ^ 32 - 1 - x
+abbrev pub swapped : Bool → ℕ → ℕ
+swapped t x = if t then x else 2 ^ 32 - 1 - x
 
-turned-is : (t : Bool) (x : ℕ) → x < 2 ^ 32 → bit_xor x (sign_word t) ≡ turned t x
-turned-is true x l = xor-none x
-turned-is false x l = xor-ones x l
+swapped-is : (t : Bool) (x : ℕ) → x < 2 ^ 32 → bit_xor x (sign_word t) ≡ swapped t x
+swapped-is true x l = xor-none x
+swapped-is false x l = xor-ones x l
 
-turned-below : (t : Bool) (x : ℕ) → x < 2 ^ 32 → turned t x < 2 ^ 32
-turned-below true x l = l
-turned-below false x l = omega arith
+swapped-below : (t : Bool) (x : ℕ) → x < 2 ^ 32 → swapped t x < 2 ^ 32
+swapped-below true x l = l
+swapped-below false x l = omega arith
 
 masked-is : (t : Bool) (c : ℕ) → c < 2 ^ 32 → bit_and (sign_word t) c ≡ (if t then 0 else c)
 masked-is true c l = and-none c
@@ -100,11 +100,11 @@ not-zero c l = grind (arith, nat_tests, l)
 
 -- ---- quotients
 
-by-sign : (t : Bool) (x c : ℕ) → turned t (turned t x / c) ≡ (if t then x / c else 2 ^ 32 - 1 - (2 ^ 32 - 1 - x) / c)
+by-sign : (t : Bool) (x c : ℕ) → swapped t (swapped t x / c) ≡ (if t then x / c else 2 ^ 32 - 1 - (2 ^ 32 - 1 - x) / c)
 by-sign true x c = refl
 by-sign false x c = refl
 
-quotient-is : (x c : ℕ) → 0 < c → turned (nat_lt x (2 ^ 31)) (turned (nat_lt x (2 ^ 31)) x / c) ≡ word.divide x c
+quotient-is : (x c : ℕ) → 0 < c → swapped (nat_lt x (2 ^ 31)) (swapped (nat_lt x (2 ^ 31)) x / c) ≡ word.divide x c
 unfolding word.divide
 quotient-is x c lc =
     by-sign (nat_lt x (2 ^ 31)) x c
@@ -113,25 +113,25 @@ quotient-is x c lc =
 pub divide-below : (x c : ℕ) → x < 2 ^ 32 → 0 < c → word.divide x c < 2 ^ 32
 divide-below x c lx lc =
     let t = nat_lt x (2 ^ 31) in
-    let y = turned-below t x lx in
-    let d = div-le_self (turned t x) c in
-    subst (λ n. n < 2 ^ 32) (quotient-is x c lc) (turned-below t (turned t x / c) (omega (arith, y, d)))
+    let y = swapped-below t x lx in
+    let d = div-le_self (swapped t x) c in
+    subst (λ n. n < 2 ^ 32) (quotient-is x c lc) (swapped-below t (swapped t x / c) (omega (arith, y, d)))
 
 -- ---- remainders
 
-turned-back : (c k : ℕ) → k < c → c < 2 ^ 32 → (2 ^ 32 - 1 - k + c) % 2 ^ 32 ≡ c - 1 - k
-turned-back c k l h = omega (arith, l, h)
+swapped-back : (c k : ℕ) → k < c → c < 2 ^ 32 → (2 ^ 32 - 1 - k + c) % 2 ^ 32 ≡ c - 1 - k
+swapped-back c k l h = omega (arith, l, h)
 
 stays : (k : ℕ) → k < 2 ^ 32 → (k + 0) % 2 ^ 32 ≡ k
 stays k l = omega (arith, l)
 
 by-sign-left : (t : Bool) (x c : ℕ) → 0 < c → c < 2 ^ 32
-    → (turned t (turned t x % c) + (if t then 0 else c)) % 2 ^ 32 ≡ (if t then x % c else c - 1 - (2 ^ 32 - 1 - x) % c)
+    → (swapped t (swapped t x % c) + (if t then 0 else c)) % 2 ^ 32 ≡ (if t then x % c else c - 1 - (2 ^ 32 - 1 - x) % c)
 by-sign-left true x c lc hc = let k = mod-lt x lc in stays (x % c) (omega (arith, k, hc))
-by-sign-left false x c lc hc = turned-back c ((2 ^ 32 - 1 - x) % c) (mod-lt (2 ^ 32 - 1 - x) lc) hc
+by-sign-left false x c lc hc = swapped-back c ((2 ^ 32 - 1 - x) % c) (mod-lt (2 ^ 32 - 1 - x) lc) hc
 
 remainder-is : (x c : ℕ) → 0 < c → c < 2 ^ 32
-    → (turned (nat_lt x (2 ^ 31)) (turned (nat_lt x (2 ^ 31)) x % c) + (if nat_lt x (2 ^ 31) then 0 else c)) % 2 ^ 32 ≡ word.remainder x c
+    → (swapped (nat_lt x (2 ^ 31)) (swapped (nat_lt x (2 ^ 31)) x % c) + (if nat_lt x (2 ^ 31) then 0 else c)) % 2 ^ 32 ≡ word.remainder x c
 unfolding word.remainder
 remainder-is x c lc hc =
     by-sign-left (nat_lt x (2 ^ 31)) x c lc hc
@@ -140,7 +140,7 @@ remainder-is x c lc hc =
 pub remainder-below : (x c : ℕ) → 0 < c → c < 2 ^ 32 → word.remainder x c < 2 ^ 32
 remainder-below x c lc hc = let e = remainder-is x c lc hc in
     let t = nat_lt x (2 ^ 31) in
-    let s : (turned t (turned t x % c) + (if t then 0 else c)) % 2 ^ 32 < 2 ^ 32 = omega arith in
+    let s : (swapped t (swapped t x % c) + (if t then 0 else c)) % 2 ^ 32 < 2 ^ 32 = omega arith in
     subst (λ n. n < 2 ^ 32) e s
 
 -- ---- code
@@ -165,14 +165,14 @@ module _ (w : World) (m : List ℕ) (l : length m ≡ w.size) (r a s : ℕ) (low
       let i2 = alu-sets w m l alus.Xor i1.after r a scratch x (sign_word t) one high ha (omega arith) (i1.others a n ∙ ea) e1 in
       let e2 = i2.others scratch n13 ∙ e1 in
       let es2 = i2.others s sr ∙ i1.others s s13 ∙ es in
-      let y = turned-below t x lx in
-      let d = div-le_self (turned t x) c in
-      let small : turned t x / c < 2 ^ 32 = omega (arith, y, d) in
-      let q : lanes.divide_unsigned 32 (turned t x) c ≡ turned t x / c = ap (λ b. if b then 2 ^ 32 - 1 else turned t x / c) (not-zero c lc) in
-      let i3 = alu-sets w m l alus.Divu i2.after r r s (turned t x) c one high high hs (i2.value ∙ turned-is t x lx) es2 in
-      let i4 = alu-sets w m l alus.Xor i3.after r r scratch (turned t x / c) (sign_word t) one high high (omega arith) (i3.value
+      let y = swapped-below t x lx in
+      let d = div-le_self (swapped t x) c in
+      let small : swapped t x / c < 2 ^ 32 = omega (arith, y, d) in
+      let q : lanes.divide_unsigned 32 (swapped t x) c ≡ swapped t x / c = ap (λ b. if b then 2 ^ 32 - 1 else swapped t x / c) (not-zero c lc) in
+      let i3 = alu-sets w m l alus.Divu i2.after r r s (swapped t x) c one high high hs (i2.value ∙ swapped-is t x lx) es2 in
+      let i4 = alu-sets w m l alus.Xor i3.after r r scratch (swapped t x / c) (sign_word t) one high high (omega arith) (i3.value
       ∙ q) (i3.others scratch n13 ∙ e2) in
-      let e : lanes.xor 32 (turned t x / c) (sign_word t) ≡ word.divide x c = turned-is t (turned t x / c) small ∙ quotient-is x c lc in
+      let e : lanes.xor 32 (swapped t x / c) (sign_word t) ≡ word.divide x c = swapped-is t (swapped t x / c) small ∙ quotient-is x c lc in
       sets-then w m l i1 (inl refl) (sets-then w m l i2 (inr (inr refl)) (sets-then w m l i3 (inr (inr refl)) (puts-set w m l e i4)))
 
   pub remainder-puts : a ≢ scratch → c < 2 ^ 32
@@ -186,18 +186,18 @@ module _ (w : World) (m : List ℕ) (l : length m ≡ w.size) (r a s : ℕ) (low
       let i2 = alu-sets w m l alus.Xor i1.after r a scratch x (sign_word t) one high ha (omega arith) (i1.others a n ∙ ea) e1 in
       let e2 = i2.others scratch n13 ∙ e1 in
       let es2 = i2.others s sr ∙ i1.others s s13 ∙ es in
-      let k = mod-lt (turned t x) lc in
-      let small : turned t x % c < 2 ^ 32 = omega (arith, k, hc) in
-      let q : lanes.remainder_unsigned 32 (turned t x) c ≡ turned t x % c = ap (λ b. if b then turned t x else turned t x % c) (not-zero c lc) in
-      let i3 = alu-sets w m l alus.Remu i2.after r r s (turned t x) c one high high hs (i2.value ∙ turned-is t x lx) es2 in
+      let k = mod-lt (swapped t x) lc in
+      let small : swapped t x % c < 2 ^ 32 = omega (arith, k, hc) in
+      let q : lanes.remainder_unsigned 32 (swapped t x) c ≡ swapped t x % c = ap (λ b. if b then swapped t x else swapped t x % c) (not-zero c lc) in
+      let i3 = alu-sets w m l alus.Remu i2.after r r s (swapped t x) c one high high hs (i2.value ∙ swapped-is t x lx) es2 in
       let e3 = i3.others scratch n13 ∙ e2 in
-      let i4 = alu-sets w m l alus.Xor i3.after r r scratch (turned t x % c) (sign_word t) one high high (omega arith) (i3.value ∙ q) e3 in
-      let v4 = i4.value ∙ turned-is t (turned t x % c) small in
+      let i4 = alu-sets w m l alus.Xor i3.after r r scratch (swapped t x % c) (sign_word t) one high high (omega arith) (i3.value ∙ q) e3 in
+      let v4 = i4.value ∙ swapped-is t (swapped t x % c) small in
       let es4 = i4.others s sr ∙ i3.others s sr ∙ es2 in
       let i5 = alu-sets w m l alus.And i4.after scratch scratch s (sign_word t) c (omega arith) (omega arith) (omega arith) hs (i4.others scratch n13
       ∙ e3) es4 in
       let nr : r ≢ scratch = (λ e. omega (arith, e, low)) in
-      let i6 = alu-sets w m l alus.Add i5.after r r scratch (turned t (turned t x % c)) (if t then 0 else c) one high high (omega arith) (i5.others r nr ∙ v4)
+      let i6 = alu-sets w m l alus.Add i5.after r r scratch (swapped t (swapped t x % c)) (if t then 0 else c) one high high (omega arith) (i5.others r nr ∙ v4)
       (i5.value ∙ masked-is t c hc) in
       sets-then w m l i1 (inl refl) (sets-then w m l i2 (inr (inr refl)) (sets-then w m l i3 (inr (inr refl)) (sets-then w m l i4 (inr (inr refl))
       (sets-then w m l i5 (inl refl) (puts-set w m l (remainder-is x c lc hc) i6)))))

@@ -18,10 +18,10 @@ use Rattle.loop_ir.specs.Sizes.{Size, size}
 use Rattle.loop_ir.proofs.Sizes.{size_number, size_linear, size_binary, size_divide, size_remainder, size_select, size_load}
 use Rattle.loop_ir.proofs.Folds.{at_number, at_linear, at_binary, at_divide, at_remainder, at_select, at_load}
 use Rattle.loop_ir.proofs.Loads.{values_are_seen}
-use Rattle.multi_hart_logic.specs.Alone.{World}
-use Rattle.multi_hart_logic.proofs.Paths.{line-then, stay}
-use Rattle.task_code_scalar.specs.declared.places.Place.{Place}
-use Rattle.task_code_scalar.specs.declared.places.Places.{Places}
+use Rattle.multi_hart_laws.specs.Alone.{World}
+use Rattle.multi_hart_laws.proofs.Paths.{line-then, stay}
+use Rattle.task_code_scalar.specs.declared.layouts.BufferLayout.{BufferLayout}
+use Rattle.task_code_scalar.specs.declared.layouts.Places.{Places}
 use Rattle.task_code_scalar.specs.Code.{place_of}
 use Rattle.task_code_scalar.specs.Evaluation.{Loads, LoadsAt}
 use Rattle.task_code_scalar.proofs.Evaluation.{applied-below, chosen-below}
@@ -32,8 +32,8 @@ use Rattle.task_code_registers.specs.Registers.{address_register}
 use Rattle.task_code_registers.specs.Scopes.{Knows, AreHolders, IsKept, IsFree}
 use Rattle.task_code_registers.proofs.Knowing.{knows-zero, knows-still, working-free, linear-small}
 use Rattle.task_code_registers.proofs.Making.{short-then}
-use Rattle.task_code_values.specs.declared.points.Index.{Index}
-use Rattle.task_code_values.specs.declared.points.Index.TheVariants as indexes
+use Rattle.task_code_values.specs.declared.points.PointIndex.{PointIndex}
+use Rattle.task_code_values.specs.declared.points.PointIndex.TheVariants as indexes
 use Rattle.task_code_values.specs.declared.immediates.Immediate.{Immediate}
 use Rattle.task_code_values.specs.Immediates.{immediate_value, IsImmediateNumber, IsImmediate}
 use Rattle.task_code_values.specs.Making.{IsStack, IsBelow, MakesOfTwo, MakesFrom, MakesHeld, Selects}
@@ -317,12 +317,12 @@ module _ (places : Places) (scope : List Held) where
     -- ---- loads
 
     -- an index stays while another one is found above
-    index-stays : (index : Index) (values : Values) (f g : ℕ → ℕ) (v : ℕ) → ((s : ℕ) → index ≡ indexes.Register s → g s ≡ f s)
+    index-stays : (index : PointIndex) (values : Values) (f g : ℕ → ℕ) (v : ℕ) → ((s : ℕ) → index ≡ indexes.Register s → g s ≡ f s)
         → IsIndex values f index v → IsIndex values g index v
     index-stays (indexes.Sum own) values f g v same is = is
     index-stays (indexes.Register s) values f g v same is = same s refl ∙ is
 
-    pub load-operand : (source : Source) (place : Place) (x y : Expr) (column row : Index) (c0 c1 c2 c3 : List ℕ) → place ≡ place_of places source
+    pub load-operand : (source : Source) (place : BufferLayout) (x y : Expr) (column row : PointIndex) (c0 c1 c2 c3 : List ℕ) → place ≡ place_of places source
         → MakesIndex c0 c1 places scope r column x → MakesIndex c1 c2 places scope (r + 1) row y → MakesPixel c2 c3 scope place column row r
         → Operand c0 c3 r r r (e.Load source x y)
     load-operand source place x y column row c0 c1 c2 c3 ep a b z = record {
@@ -364,7 +364,7 @@ module _ (places : Places) (scope : List Held) where
           };
     }
       where
-        stands-which : (index : Index) (s : ℕ) → index ≡ indexes.Register s → MakesIndex c0 c1 places scope r index x → IsOperand scope r r s
+        stands-which : (index : PointIndex) (s : ℕ) → index ≡ indexes.Register s → MakesIndex c0 c1 places scope r index x → IsOperand scope r r s
         stands-which index s es i = (subst (λ k. StandsIn scope r k) es i.stands).1.1
 
   -- ---- as the emitter calls them
@@ -413,7 +413,7 @@ module _ (places : Places) (scope : List Held) where
         1) t) ey q)
         (subst (Part c2 c3 (r + 2) (r + 2) u) eg k) z))
 
-    pub load-arm : (source : Source) (place : Place) (a b x y : Expr) (column row : Index) (c0 c1 c2 c3 : List ℕ) → r < 32
+    pub load-arm : (source : Source) (place : BufferLayout) (a b x y : Expr) (column row : PointIndex) (c0 c1 c2 c3 : List ℕ) → r < 32
         → own ≡ e.Load source a b → x ≡ a → y ≡ b
         → place ≡ place_of places source → MakesIndex c0 c1 places scope r column x → MakesIndex c1 c2 places scope (r + 1) row y
         → MakesPixel c2 c3 scope place column row r → Operand c0 c3 r leaf r own

@@ -11,14 +11,14 @@ use Rattle.lanes.specs.Words as lanes
 use Rattle.halide_pipeline.specs.declared.expressions.Operation.{Operation}
 use Rattle.halide_pipeline.specs.declared.expressions.Operation.TheVariants as op
 use Rattle.halide_pipeline.specs.Words as word
-use Rattle.multi_hart_logic.specs.Alone.{World}
+use Rattle.multi_hart_laws.specs.Alone.{World}
 use Rattle.task_code_scalar.specs.declared.CodeFault.{CodeFault}
 use Rattle.task_code_scalar.specs.declared.CodeFault.TheVariants as faults
 use Rattle.task_code_scalar.specs.Faults.{IsFault}
 use Rattle.task_code_scalar.specs.Words.{Emits}
 use Rattle.task_code_scalar.proofs.Spelling.{emits_then}
-use Rattle.task_code_scalar.proofs.Numbers.{blended, not-zero, turned, less-is, equal-is, not-equal-is}
-use Rattle.multi_hart_logic.proofs.Paths.{line-then}
+use Rattle.task_code_scalar.proofs.Numbers.{blended, not-zero, swapped, less-is, equal-is, not-equal-is}
+use Rattle.multi_hart_laws.proofs.Paths.{line-then}
 use Rattle.task_code_scalar.proofs.Values.{Sets, alu-sets, imm-sets}
 use Rattle.task_code_registers.specs.Emitting.{Puts}
 use Rattle.task_code_registers.specs.Registers.{zero_register, scratch, second_scratch, IsPlace, IsSource}
@@ -28,7 +28,7 @@ use Rattle.task_code_values.specs.Making.{MakesOfTwo, Blends, Selects}
 13-14 : scratch ≢ second_scratch
 13-14 e = omega (arith, e)
 
--- ---- one instruction behind another
+-- ---- one instruction after another
 
 -- a scratch register or r itself is set first
 pub sets-then : (w : World) (m : List ℕ) (l : length m ≡ w.size) {is js : List Insn} {f : ℕ → ℕ} {c r u v : ℕ} → (a : Sets w m l is f c u)
@@ -54,9 +54,9 @@ module _ (r a b : ℕ) (place : IsPlace r) (sa : IsSource a) (sb : IsSource b) (
   }
 
   -- with the operands the other way round
-  pub two-turned : (o : AluOp) (says : ℕ → ℕ → ℕ) → Emits c0 c1 (Alu o r b a ∷ []) → ((x y : ℕ) → x < 2 ^ 32 → y < 2 ^ 32 → computed o y x ≡ says x y)
+  pub two-swapped : (o : AluOp) (says : ℕ → ℕ → ℕ) → Emits c0 c1 (Alu o r b a ∷ []) → ((x y : ℕ) → x < 2 ^ 32 → y < 2 ^ 32 → computed o y x ≡ says x y)
       → MakesOfTwo c0 c1 4 r a b says
-  two-turned o says x is = record {
+  two-swapped o says x is = record {
     insns = Alu o r b a ∷ [];
     emits = x;
     short = omega arith;
@@ -184,19 +184,19 @@ module _ (r a b : ℕ) (requires : IsPlace r × (IsSource a × IsSource b)) wher
   made-less c0 c1 x = two-of r a b place sa sb c0 c1 alus.Slt (word.applied op.Less) x (λ x y lx ly. ap one_if (less-is x y lx ly))
 
   pub made-greater : (c0 c1 : List ℕ) → Emits c0 c1 (Alu alus.Slt r b a ∷ []) → Made c0 c1 op.Greater
-  made-greater c0 c1 x = two-turned r a b place sa sb c0 c1 alus.Slt (word.applied op.Greater) x (λ x y lx ly. ap one_if (less-is y x ly lx))
+  made-greater c0 c1 x = two-swapped r a b place sa sb c0 c1 alus.Slt (word.applied op.Greater) x (λ x y lx ly. ap one_if (less-is y x ly lx))
 
   pub made-less-or-equal : (c0 c1 c2 : List ℕ) → Emits c0 c1 (Alu alus.Slt r b a ∷ []) → Emits c1 c2 (AluImm alu_imms.Sltiu r r (pos 1) ∷ [])
       → Made c0 c2 op.LessOrEqual
   made-less-or-equal c0 c1 c2 x y =
       two-opposite r a b place sa sb c0 c1 c2 alus.Slt b a (word.applied op.LessOrEqual) sb.0 sa.0 x y
-      (λ f la lb. turned (lanes.less_signed 32 (f b) (f a)) ∙ ap (λ t. one_if (not t)) (less-is (f b) (f a) lb la))
+      (λ f la lb. swapped (lanes.less_signed 32 (f b) (f a)) ∙ ap (λ t. one_if (not t)) (less-is (f b) (f a) lb la))
 
   pub made-greater-or-equal : (c0 c1 c2 : List ℕ) → Emits c0 c1 (Alu alus.Slt r a b ∷ []) → Emits c1 c2 (AluImm alu_imms.Sltiu r r (pos 1) ∷ [])
       → Made c0 c2 op.GreaterOrEqual
   made-greater-or-equal c0 c1 c2 x y =
       two-opposite r a b place sa sb c0 c1 c2 alus.Slt a b (word.applied op.GreaterOrEqual) sa.0 sb.0 x y
-      (λ f la lb. turned (lanes.less_signed 32 (f a) (f b)) ∙ ap (λ t. one_if (not t)) (less-is (f a) (f b) la lb))
+      (λ f la lb. swapped (lanes.less_signed 32 (f a) (f b)) ∙ ap (λ t. one_if (not t)) (less-is (f a) (f b) la lb))
 
   pub made-equal : (c0 c1 c2 : List ℕ) → Emits c0 c1 (Alu alus.Sub r a b ∷ []) → Emits c1 c2 (AluImm alu_imms.Sltiu r r (pos 1) ∷ []) → Made c0 c2 op.Equal
   made-equal c0 c1 c2 x y =

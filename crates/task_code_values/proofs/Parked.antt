@@ -17,19 +17,19 @@ use Rattle.loop_ir.specs.Soundness.{store_loads}
 use Rattle.loop_ir.specs.Sizes.{size}
 use Rattle.loop_ir.proofs.Sound.{sound_store}
 use Rattle.loop_ir.proofs.Trees.{run_store}
-use Rattle.multi_hart_logic.specs.Paths.{configure, update, vl_number, vtype_number, IsGroup}
-use Rattle.multi_hart_logic.proofs.Configurations.{configure-at}
-use Rattle.multi_hart_logic.proofs.FirstLanes.{first-read}
-use Rattle.multi_hart_logic.proofs.Paths.{update-same, update-other, line-then}
-use Rattle.multi_hart_logic.proofs.VectorRows.{move-vx}
-use Rattle.task_code_scalar.specs.declared.places.Place.{Place}
-use Rattle.task_code_scalar.specs.declared.places.Places.{Places}
+use Rattle.multi_hart_laws.specs.Paths.{configure, update, vl_number, vtype_number, IsGroup}
+use Rattle.multi_hart_laws.proofs.Configurations.{configure-at}
+use Rattle.multi_hart_laws.proofs.FirstLanes.{first-read}
+use Rattle.multi_hart_laws.proofs.Paths.{update-same, update-other, line-then}
+use Rattle.multi_hart_laws.proofs.VectorRows.{move-vx}
+use Rattle.task_code_scalar.specs.declared.layouts.BufferLayout.{BufferLayout}
+use Rattle.task_code_scalar.specs.declared.layouts.Places.{Places}
 use Rattle.task_code_scalar.specs.Code.{place_of, address, lower}
 use Rattle.task_code_scalar.specs.Layout.{func_point, address_of}
 use Rattle.task_code_scalar.specs.Words.{Emits}
 use Rattle.task_code_scalar.proofs.Spelling.{emits_then}
 use Rattle.task_code_scalar.proofs.Tracing.{hit-store}
-use Rattle.task_code_lanes.specs.declared.groups.Group.TheVariants as groups
+use Rattle.task_code_lanes.specs.declared.groups.LaneGroup.TheVariants as groups
 use Rattle.task_code_lanes.specs.Groups.{vtype_of}
 use Rattle.task_code_lanes.proofs.Configured.{supported, has-lanes, configured-others}
 use Rattle.task_code_lanes.proofs.Rows as rows
@@ -40,7 +40,7 @@ use Rattle.task_code_registers.specs.Scopes.{AreHolders, IsKept, are_registers}
 use Rattle.task_code_registers.proofs.Going.{no_hits, Does, went-hits, went-is}
 use Rattle.task_code_registers.proofs.Knowing.{kept-apart, kept-low, knows-still, knows-zero, working-free}
 use Rattle.task_code_registers.proofs.Making.{short-then}
-use Rattle.task_code_values.specs.declared.points.Index.TheVariants as indexes
+use Rattle.task_code_values.specs.declared.points.PointIndex.TheVariants as indexes
 use Rattle.task_code_values.specs.Making.{IsStack, IsBelow}
 use Rattle.task_code_values.specs.Operands.{StandsIn}
 use Rattle.task_code_values.specs.Parking.{parking, OpensParking, Parks, Unparks, MakesPoint, PreparesStore, ReachesStore, point_address}
@@ -128,7 +128,7 @@ module _ (places : Places) (scope : List Held) (all : are_registers scope ≡ tr
 
   -- ---- the point of a store
 
-  module _ (store : Store) (place : Place) (s t offset : ℕ) (c0 c1 c2 c3 c4 c5 c6 : List ℕ) where
+  module _ (store : Store) (place : BufferLayout) (s t offset : ℕ) (c0 c1 c2 c3 c4 c5 c6 : List ℕ) where
     pub point-made : place ≡ place_of places (sources.Func store.func) → OpensParking c0 c1 → MakesValue c1 c2 places scope 0 s store.x → Parks c2 c3 s
         → MakesValue c3 c4 places scope 0 t store.y → Unparks c4 c5 second_value
         → ReachesPoint c5 c6 scope place (indexes.Register second_value) (indexes.Register t) second_value offset

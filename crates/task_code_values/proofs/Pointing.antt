@@ -16,19 +16,19 @@ use Rattle.loop_ir.specs.declared.expressions.Linear.{Linear}
 use Rattle.loop_ir.specs.declared.expressions.Term.{Term}
 use Rattle.loop_ir.specs.Counters.{Values}
 use Rattle.loop_ir.specs.Expressions.{linear_value}
-use Rattle.multi_hart_logic.specs.Alone.{World}
-use Rattle.multi_hart_logic.specs.Paths.{update, Line}
-use Rattle.multi_hart_logic.proofs.Paths.{update-same, update-other, line-then}
-use Rattle.multi_hart_logic.proofs.Jumps as rules
-use Rattle.task_code_scalar.specs.declared.places.Pixels.{Pixels}
-use Rattle.task_code_scalar.specs.declared.places.Pixels.TheVariants as pixels
-use Rattle.task_code_scalar.specs.declared.places.Place.{Place}
+use Rattle.multi_hart_laws.specs.Alone.{World}
+use Rattle.multi_hart_laws.specs.Paths.{update, Line}
+use Rattle.multi_hart_laws.proofs.Paths.{update-same, update-other, line-then}
+use Rattle.multi_hart_laws.proofs.Jumps as rules
+use Rattle.task_code_scalar.specs.declared.layouts.Pixels.{Pixels}
+use Rattle.task_code_scalar.specs.declared.layouts.Pixels.TheVariants as pixels
+use Rattle.task_code_scalar.specs.declared.layouts.BufferLayout.{BufferLayout}
 use Rattle.task_code_scalar.specs.Code.{lower, address, pixel_bytes}
 use Rattle.task_code_scalar.specs.Evaluation.{LoadsAt, load_op}
 use Rattle.task_code_scalar.specs.Words.{Emits}
 use Rattle.task_code_scalar.proofs.Spelling.{emits_then}
 use Rattle.task_code_scalar.proofs.Values.{alu-sets, imm-sets, shift-sets}
-use Rattle.task_code_registers.specs.declared.scopes.Form.{Form}
+use Rattle.task_code_registers.specs.declared.scopes.AffineForm.{AffineForm}
 use Rattle.task_code_registers.specs.declared.scopes.Held.{Held}
 use Rattle.task_code_registers.specs.Emitting.{Fits, Makes, MakesFormAddress, sum_words}
 use Rattle.task_code_registers.specs.Points.{IsPoint}
@@ -36,8 +36,8 @@ use Rattle.task_code_registers.specs.Registers.{scratch, second_scratch, address
 use Rattle.task_code_registers.specs.Scopes.{Knows, AreHolders, have_registers}
 use Rattle.task_code_registers.proofs.Knowing.{knows-zero, knows-still, working-free}
 use Rattle.task_code_registers.proofs.Making.{puts-set, short-then, base-most}
-use Rattle.task_code_values.specs.declared.points.Index.{Index}
-use Rattle.task_code_values.specs.declared.points.Index.TheVariants as indexes
+use Rattle.task_code_values.specs.declared.points.PointIndex.{PointIndex}
+use Rattle.task_code_values.specs.declared.points.PointIndex.TheVariants as indexes
 use Rattle.task_code_values.specs.Making.{IsStack, IsBelow, Leaves}
 use Rattle.task_code_values.specs.Operands.{IsOperand, StandsIn, MakesPixel}
 use Rattle.task_code_values.specs.Points.{HaveIndex, HasPixel, LoadsPoint, LoadsBehind}
@@ -66,7 +66,7 @@ pixel-loaded pixels.Bytes n = refl
 -- ---- a load
 
 module _ (w : World) (m : List ℕ) (l : length m ≡ w.size) where
-  pub fetched : (place : Place) (f : ℕ → ℕ) (r base offset a pixel : ℕ) → IsStack r → base < 32 → Fits offset → offset < 2 ^ 32
+  pub fetched : (place : BufferLayout) (f : ℕ → ℕ) (r base offset a pixel : ℕ) → IsStack r → base < 32 → Fits offset → offset < 2 ^ 32
       → (f base + offset) % 2 ^ 32 ≡ a → HasPixel w place m a pixel → Leaves w m (Load (load_op place.pixels) r base (lower offset) ∷ []) f r r pixel
   fetched place f r base offset a pixel is lb fit small e has =
       let low = is.0 in
@@ -93,7 +93,7 @@ leaves-behind w m is js f g r s v line same a = record {
   keeps = λ q k. a.keeps q k ∙ same q k;
 }
 
-module _ (scope : List Held) (place : Place) (x y : Linear) (form : Form) (r base offset : ℕ) (is : IsStack r) (point : IsPoint place x y form) where
+module _ (scope : List Held) (place : BufferLayout) (x y : Linear) (form : AffineForm) (r base offset : ℕ) (is : IsStack r) (point : IsPoint place x y form) where
   -- at two sums
   pub point-loaded : (c0 c1 c2 : List ℕ) → MakesFormAddress c0 c1 scope form r (record { register = base; offset = offset })
       → Emits c1 c2 (Load (load_op place.pixels) r base (lower offset) ∷ []) → LoadsPoint c0 c2 scope place x y r
@@ -115,7 +115,7 @@ module _ (scope : List Held) (place : Place) (x y : Linear) (form : Form) (r bas
         (λ q k. let b = below-apart r r q (inr (refl, is.1)) k in t.others q b.0 b.1.0 b.1.1) u;
   }
 
-  -- and so many bytes behind
+  -- and so many bytes after
   pub behind-loaded : (c0 c1 c2 c3 : List ℕ) → MakesFormAddress c0 c1 scope form address_register (record { register = base; offset = offset })
       → Emits c1 c2 (Alu alus.Add r r base ∷ []) → Emits c2 c3 (Load (load_op place.pixels) r r (lower offset) ∷ []) → LoadsBehind c0 c3 scope place x y r
   behind-loaded c0 c1 c2 c3 a y1 z = record {
@@ -191,7 +191,7 @@ row-bytes y row = mul-mod_second y row (2 ^ 32)
 no-rows : (w x : ℕ) → 0 * w + x ≡ x
 no-rows w x = let z : 0 * w ≡ 0 = omega arith in ap (λ n. n + x) z ∙ (let g : 0 + x ≡ x = omega arith in g)
 
-module _ (place : Place) (hart x y : ℕ) (low : address place hart x y < 2 ^ 32) where
+module _ (place : BufferLayout) (hart x y : ℕ) (low : address place hart x y < 2 ^ 32) where
   abbrev b : ℕ
   b = pixel_bytes place.pixels
 
@@ -243,7 +243,7 @@ module _ (place : Place) (hart x y : ℕ) (low : address place hart x y < 2 ^ 32
 
 -- ---- indexes
 
-pub can-pixel : (w : World) (place : Place) (m : List ℕ) (x y pixel : ℕ) → LoadsAt w place m x y pixel → HasPixel w place m (address place w.hart x y) pixel
+pub can-pixel : (w : World) (place : BufferLayout) (m : List ℕ) (x y pixel : ℕ) → LoadsAt w place m x y pixel → HasPixel w place m (address place w.hart x y) pixel
 can-pixel w place m x y pixel can = record { low = can.low; may = can.may; holds = can.holds; is_word = can.is_word }
 
 -- a sum that is 0
@@ -251,11 +251,11 @@ pub record IsZero (own : Linear) : Type 0 where
   pub none : (values : Values) → linear_value values own ≡ 0
   pub few : length own.terms ≡ 0
 
-module _ (scope : List Held) (place : Place) (r : ℕ) (is : IsStack r) where
-  abbrev Pixel : List ℕ → List ℕ → Index → Index → Type 0
+module _ (scope : List Held) (place : BufferLayout) (r : ℕ) (is : IsStack r) where
+  abbrev Pixel : List ℕ → List ℕ → PointIndex → PointIndex → Type 0
   Pixel c0 c1 column row = MakesPixel c0 c1 scope place column row r
 
-  pub pixel-as : (column row x y : Index) (c0 c1 : List ℕ) → column ≡ x → row ≡ y → Pixel c0 c1 x y → Pixel c0 c1 column row
+  pub pixel-as : (column row x y : PointIndex) (c0 c1 : List ℕ) → column ≡ x → row ≡ y → Pixel c0 c1 x y → Pixel c0 c1 column row
   pixel-as column row x y c0 c1 ex ey z = subst (λ k. Pixel c0 c1 k row) (sym ex) (subst (λ k. Pixel c0 c1 x k) (sym ey) z)
 
   pub pixel-sums : (x y : Linear) (c0 c1 : List ℕ) → LoadsPoint c0 c1 scope place x y r → Pixel c0 c1 (indexes.Sum x) (indexes.Sum y)
@@ -268,7 +268,7 @@ module _ (scope : List Held) (place : Place) (r : ℕ) (is : IsStack r) where
         (subst (λ j. HasPixel w place m (address place w.hart xv j) pixel) (sym ey) (can-pixel w place m xv yv pixel can)));
   }
 
-  -- the scope is known behind code that changes r and the scratch registers
+  -- the scope is known after code that changes r and the scratch registers
   known-behind : (own : ℕ) → (r ≡ own) ⊎ (r + 1 ≡ own) → own < 32 → (hart : ℕ) (values : Values) (f g : ℕ → ℕ) → AreHolders scope
       → ((q : ℕ) → q ≢ own → q ≢ scratch → q ≢ second_scratch → g q ≡ f q) → Knows hart scope values f → Knows hart scope values g
   known-behind own o high hart values f g holders same knows =
@@ -368,7 +368,7 @@ module _ (scope : List Held) (place : Place) (r : ℕ) (is : IsStack r) where
 
 -- ---- as the emitter calls them
 
-pub rows-made : (place : Place) (bytes row r s : ℕ) (c0 c1 : List ℕ) → bytes ≡ pixel_bytes place.pixels → row ≡ word.multiply bytes place.width
+pub rows-made : (place : BufferLayout) (bytes row r s : ℕ) (c0 c1 : List ℕ) → bytes ≡ pixel_bytes place.pixels → row ≡ word.multiply bytes place.width
     → Makes c0 c1 3 r (λ f. (f s * row) % 2 ^ 32) → Makes c0 c1 3 r (λ f. (f s * ((pixel_bytes place.pixels * place.width) % 2 ^ 32)) % 2 ^ 32)
 unfolding word.multiply
 rows-made place bytes row r s c0 c1 eb er x =
@@ -386,11 +386,11 @@ zero-held scope own few = by own.terms few
     by (first ∷ others) e = absurd (omega (arith, e))
 
 -- an index's sum has registers where the index has
-pub have-sum : (scope : List Held) (index : Index) (own : Linear) → index ≡ indexes.Sum own → HaveIndex scope index → have_registers scope own.terms ≡ true
+pub have-sum : (scope : List Held) (index : PointIndex) (own : Linear) → index ≡ indexes.Sum own → HaveIndex scope index → have_registers scope own.terms ≡ true
 have-sum scope index own e have = subst (λ k. HaveIndex scope k) e have
 
 -- a register's
-pub stands-register : (scope : List Held) (r s : ℕ) (index : Index) → index ≡ indexes.Register s → StandsIn scope r index
+pub stands-register : (scope : List Held) (r s : ℕ) (index : PointIndex) → index ≡ indexes.Register s → StandsIn scope r index
     → StandsIn scope r (indexes.Register s)
 stands-register scope r s index e is = subst (λ k. StandsIn scope r k) e is
 
@@ -400,18 +400,18 @@ stack-place r is =
     let high = is.1 in
     ((omega (arith, low), high), ((λ e. omega (arith, low, e)), (λ e. omega (arith, low, e))))
 
-pub column-as : (scope : List Held) (place own : Place) (r : ℕ) (column x row : Index) (c0 c1 : List ℕ) → own ≡ place → column ≡ x
+pub column-as : (scope : List Held) (place own : BufferLayout) (r : ℕ) (column x row : PointIndex) (c0 c1 : List ℕ) → own ≡ place → column ≡ x
     → MakesPixel c0 c1 scope own x row r → MakesPixel c0 c1 scope place column row r
 column-as scope place own r column x row c0 c1 ep e z = subst (λ k. MakesPixel c0 c1 scope place k row r) (sym e)
     (subst (λ p. MakesPixel c0 c1 scope p x row r) ep z)
 
-pub rows-requires : (scope : List Held) (r t : ℕ) (row : Index) → row ≡ indexes.Register t → IsStack r → StandsIn scope (r + 1) row
+pub rows-requires : (scope : List Held) (r t : ℕ) (row : PointIndex) → row ≡ indexes.Register t → IsStack r → StandsIn scope (r + 1) row
     → IsPlace (r + 1) × IsSource t
 rows-requires scope r t row e is stands =
     let k = stands-register scope (r + 1) t row e stands in
     (stack-place (r + 1) k.0, k.1.0)
 
-pub add-requires : (scope : List Held) (r t : ℕ) (row : Index) → row ≡ indexes.Register t → IsStack r → StandsIn scope (r + 1) row
+pub add-requires : (scope : List Held) (r t : ℕ) (row : PointIndex) → row ≡ indexes.Register t → IsStack r → StandsIn scope (r + 1) row
     → (r < 32) × (r < 32) × (r + 1 < 32)
 add-requires scope r t row e is stands =
     let k = stands-register scope (r + 1) t row e stands in

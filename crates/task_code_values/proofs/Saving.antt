@@ -26,12 +26,12 @@ use Rattle.loop_ir.specs.Sizes.{size}
 use Rattle.loop_ir.proofs.Runs.{runs_store}
 use Rattle.loop_ir.proofs.Sound.{sound_store}
 use Rattle.loop_ir.proofs.Trees.{run_store}
-use Rattle.multi_hart_logic.specs.Alone.{World}
-use Rattle.multi_hart_logic.specs.Paths.{Path, Writable, end}
-use Rattle.multi_hart_logic.proofs.Jumps as rules
-use Rattle.multi_hart_logic.proofs.Paths.{stand-front, stand-back, end-append}
-use Rattle.task_code_scalar.specs.declared.places.Place.{Place}
-use Rattle.task_code_scalar.specs.declared.places.Places.{Places}
+use Rattle.multi_hart_laws.specs.Alone.{World}
+use Rattle.multi_hart_laws.specs.Paths.{Path, Writable, end}
+use Rattle.multi_hart_laws.proofs.Jumps as rules
+use Rattle.multi_hart_laws.proofs.Paths.{stand-front, stand-back, end-append}
+use Rattle.task_code_scalar.specs.declared.layouts.BufferLayout.{BufferLayout}
+use Rattle.task_code_scalar.specs.declared.layouts.Places.{Places}
 use Rattle.task_code_scalar.specs.Code.{place_of, address, lower}
 use Rattle.task_code_scalar.specs.Evaluation.{Loads}
 use Rattle.task_code_scalar.specs.Layout.{func_point, address_of, AreWords}
@@ -41,7 +41,7 @@ use Rattle.task_code_scalar.proofs.Spelling.{emits_then}
 use Rattle.task_code_scalar.proofs.Loading.{all-loaded}
 use Rattle.task_code_scalar.proofs.Storing.{stored-is, size-stays, bytes-stay, is-touched, words-put, stored-holds, others-stay}
 use Rattle.task_code_scalar.proofs.Tracing.{hit-store}
-use Rattle.task_code_registers.specs.declared.scopes.Form.{Form}
+use Rattle.task_code_registers.specs.declared.scopes.AffineForm.{AffineForm}
 use Rattle.task_code_registers.specs.declared.scopes.Held.{Held}
 use Rattle.task_code_registers.specs.declared.sums.At.{At}
 use Rattle.task_code_registers.specs.Doing.{Did}
@@ -52,8 +52,8 @@ use Rattle.task_code_registers.specs.Scopes.{AreHolders, IsKept, have_registers}
 use Rattle.task_code_registers.proofs.Going.{Hits, no_hits, Went, Does, went-then, went-hits, went-is, within, still}
 use Rattle.task_code_registers.proofs.Knowing.{knows-still, kept-apart, working-free}
 use Rattle.task_code_registers.proofs.Making.{short-then, base-most}
-use Rattle.task_code_values.specs.declared.points.Index.{Index}
-use Rattle.task_code_values.specs.declared.points.Index.TheVariants as indexes
+use Rattle.task_code_values.specs.declared.points.PointIndex.{PointIndex}
+use Rattle.task_code_values.specs.declared.points.PointIndex.TheVariants as indexes
 use Rattle.task_code_values.specs.Making.{IsBelow}
 use Rattle.task_code_values.specs.Operands.{IsSum, IsIndex, IsOperand, StandsIn, MakesIndex, MakesOperand}
 use Rattle.task_code_values.specs.Scattering.{ReachesPoint}
@@ -174,9 +174,9 @@ module _ (own : Setting) (good : IsSetting own) (values : Values) where
             (omega (arith, e, below)));
       }
 
-  -- ---- parts of code, one behind the other
+  -- ---- parts of code, one after the other
 
-  -- what stands behind other code
+  -- what stands after other code
   pub does-then : {is js : List Insn} {f : ℕ → ℕ} {memory : List ℕ} {keeps_it : ℕ → Type 0} {n k : ℕ} {middle funcs : Planes} {hits : Hits}
       → (a : Does own is n f memory keeps_it middle no_hits) → Does own js k a.after a.left keeps_it funcs hits
       → Does own (is ++ js) (n + k) f memory keeps_it funcs hits
@@ -215,7 +215,7 @@ did-went a = record {
 
 -- ---- a store whose indexes are sums
 
-pub store-made : (places : Places) (scope : List Held) (store : Store) (x y : Linear) (form : Form) (place : Place) (at : At) (r : ℕ) (c0 c1 c2 c3 : List ℕ)
+pub store-made : (places : Places) (scope : List Held) (store : Store) (x y : Linear) (form : AffineForm) (place : BufferLayout) (at : At) (r : ℕ) (c0 c1 c2 c3 : List ℕ)
     → IsSum store.x x → IsSum store.y y → place ≡ place_of places (sources.Func store.func) → IsPoint place x y form
     → MakesValue c0 c1 places scope 0 r store.value → MakesFormAddress c1 c2 scope form address_register at
     → Emits c2 c3 (Save save_ops.Sw at.register r (lower at.offset) ∷ []) → MakesStore c0 c3 places scope store
@@ -282,14 +282,14 @@ store-made places scope store x y form place at r c0 c1 c2 c3 ex ey ep point v t
 
 -- ---- loop variables
 
-pub point-held : (places : Places) (scope : List Held) (store : Store) (place : Place) (x y : Linear) (form : Form) → IsPoint place x y form
+pub point-held : (places : Places) (scope : List Held) (store : Store) (place : BufferLayout) (x y : Linear) (form : AffineForm) → IsPoint place x y form
     → IsSum store.x x → IsSum store.y y
     → FitsDirect places scope store → have_registers scope form.sum.terms ≡ true
 point-held places scope store place x y form point ex ey fits = point.have scope (ex.held scope fits.column_held) (ey.held scope fits.row_held)
 
 -- ---- a store whose indexes are computed
 
-module _ (places : Places) (scope : List Held) (store : Store) (place : Place) (column row : Index) (s offset : ℕ) (c0 c1 c2 c3 c4 c5 : List ℕ) where
+module _ (places : Places) (scope : List Held) (store : Store) (place : BufferLayout) (column row : PointIndex) (s offset : ℕ) (c0 c1 c2 c3 c4 c5 : List ℕ) where
   pub scattered-made : place ≡ place_of places (sources.Func store.func) → MakesValue c0 c1 places scope 0 s store.value
       → MakesIndex c1 c2 places scope second_value column store.x → MakesIndex c2 c3 places scope third_value row store.y
       → ReachesPoint c3 c4 scope place column row second_value offset → Emits c4 c5 (Save save_ops.Sw second_value s (lower offset) ∷ [])
@@ -376,7 +376,7 @@ module _ (places : Places) (scope : List Held) (store : Store) (place : Place) (
       column-below holders r (inr (inl e)) = (inr (omega (arith, e)), inl (omega (arith, e)))
       column-below holders r (inr (inr h)) = kept-below scope r third_value (omega arith) holders h
 
-      index-stays : (index : Index) (values : Values) (f g : ℕ → ℕ) (n : ℕ) → ((r : ℕ) → index ≡ indexes.Register r → g r ≡ f r)
+      index-stays : (index : PointIndex) (values : Values) (f g : ℕ → ℕ) (n : ℕ) → ((r : ℕ) → index ≡ indexes.Register r → g r ≡ f r)
           → IsIndex values f index n → IsIndex values g index n
       index-stays (indexes.Sum own) values f g n same is = is
       index-stays (indexes.Register r) values f g n same is = same r refl ∙ is

@@ -7,13 +7,13 @@ use Rattle.halide_pipeline.specs.Words as word
 use Rattle.loop_ir.specs.declared.expressions.Linear.{Linear}
 use Rattle.loop_ir.specs.Counters.{Values}
 use Rattle.loop_ir.specs.Expressions.{linear_value}
-use Rattle.multi_hart_logic.proofs.Paths.{line-then}
-use Rattle.task_code_scalar.specs.declared.places.Place.{Place}
+use Rattle.multi_hart_laws.proofs.Paths.{line-then}
+use Rattle.task_code_scalar.specs.declared.layouts.BufferLayout.{BufferLayout}
 use Rattle.task_code_scalar.specs.Code.{address, pixel_bytes}
 use Rattle.task_code_scalar.specs.Words.{Emits}
 use Rattle.task_code_scalar.proofs.Spelling.{emits_then, emits-none}
 use Rattle.task_code_scalar.proofs.Values.{alu-sets}
-use Rattle.task_code_registers.specs.declared.scopes.Form.{Form}
+use Rattle.task_code_registers.specs.declared.scopes.AffineForm.{AffineForm}
 use Rattle.task_code_registers.specs.declared.scopes.Held.{Held}
 use Rattle.task_code_registers.specs.Emitting.{Makes, MakesFormAddress, sum_words}
 use Rattle.task_code_registers.specs.Points.{IsPoint}
@@ -21,8 +21,8 @@ use Rattle.task_code_registers.specs.Registers.{scratch, second_scratch, address
 use Rattle.task_code_registers.specs.Scopes.{Knows, AreHolders, IsKept}
 use Rattle.task_code_registers.proofs.Knowing.{knows-zero, knows-still, working-free}
 use Rattle.task_code_registers.proofs.Making.{puts-none, short-then, term-more, base-most}
-use Rattle.task_code_values.specs.declared.points.Index.{Index}
-use Rattle.task_code_values.specs.declared.points.Index.TheVariants as indexes
+use Rattle.task_code_values.specs.declared.points.PointIndex.{PointIndex}
+use Rattle.task_code_values.specs.declared.points.PointIndex.TheVariants as indexes
 use Rattle.task_code_values.specs.Making.{IsStack}
 use Rattle.task_code_values.specs.Operands.{IsIndex, StandsIn, IsOperand, index_words}
 use Rattle.task_code_values.specs.Scattering.{register_part, sum_part, column_words, HasSource, IsSumPart, StandsBeside, row_bytes, with_rows}
@@ -32,7 +32,7 @@ use Rattle.task_code_values.proofs.Standing.{kept-below, below-apart}
 
 -- ---- parts of indexes
 
-pub sum-itself : (index : Index) (own made : Linear) → index ≡ indexes.Sum own → made ≡ own → IsSumPart index made
+pub sum-itself : (index : PointIndex) (own made : Linear) → index ≡ indexes.Sum own → made ≡ own → IsSumPart index made
 sum-itself index own made ei em = subst (λ i. IsSumPart i made) (sym ei) (subst (λ m. IsSumPart (indexes.Sum own) m) (sym em) (record {
   value_is = λ values. refl;
   few = omega arith;
@@ -40,7 +40,7 @@ sum-itself index own made ei em = subst (λ i. IsSumPart i made) (sym ei) (subst
   have = λ scope have. have;
 }))
 
-pub sum-none : (index : Index) (s : ℕ) (made : Linear) → index ≡ indexes.Register s → ((values : Values) → linear_value values made ≡ 0)
+pub sum-none : (index : PointIndex) (s : ℕ) (made : Linear) → index ≡ indexes.Register s → ((values : Values) → linear_value values made ≡ 0)
     → length made.terms ≡ 0 → IsSumPart index made
 sum-none index s made ei none few = subst (λ i. IsSumPart i made) (sym ei) (record {
   value_is = none;
@@ -50,23 +50,23 @@ sum-none index s made ei none few = subst (λ i. IsSumPart i made) (sym ei) (rec
 })
 
 -- an index is both of its parts
-both-parts : (index : Index) (values : Values) (f : ℕ → ℕ) (v : ℕ) → IsIndex values f index v → register_part index f + sum_part index values ≡ v
+both-parts : (index : PointIndex) (values : Values) (f : ℕ → ℕ) (v : ℕ) → IsIndex values f index v → register_part index f + sum_part index values ≡ v
 both-parts (indexes.Sum own) values f v is = let g : 0 + linear_value values own ≡ linear_value values own = omega arith in g ∙ is
 both-parts (indexes.Register s) values f v is = let g : f s + 0 ≡ f s = omega arith in g ∙ is
 
 -- ---- bytes
 
-pub columns-none : (index : Index) (own : Linear) (r b : ℕ) (c0 c1 : List ℕ) → index ≡ indexes.Sum own → Makes c0 c1 2 r (λ f. 0)
+pub columns-none : (index : PointIndex) (own : Linear) (r b : ℕ) (c0 c1 : List ℕ) → index ≡ indexes.Sum own → Makes c0 c1 2 r (λ f. 0)
     → Makes c0 c1 (column_words index) r (λ f. (register_part index f * b) % 2 ^ 32)
 columns-none index own r b c0 c1 ei x =
     let z : 0 ≡ (0 * b) % 2 ^ 32 = omega arith in
     subst (λ i. Makes c0 c1 (column_words i) r (λ f. (register_part i f * b) % 2 ^ 32)) (sym ei) (subst (λ n. Makes c0 c1 2 r (λ f. n)) z x)
 
-pub columns-some : (index : Index) (s r b : ℕ) (c0 c1 : List ℕ) → index ≡ indexes.Register s → Makes c0 c1 1 r (λ f. (f s * b) % 2 ^ 32)
+pub columns-some : (index : PointIndex) (s r b : ℕ) (c0 c1 : List ℕ) → index ≡ indexes.Register s → Makes c0 c1 1 r (λ f. (f s * b) % 2 ^ 32)
     → Makes c0 c1 (column_words index) r (λ f. (register_part index f * b) % 2 ^ 32)
 columns-some index s r b c0 c1 ei x = subst (λ i. Makes c0 c1 (column_words i) r (λ f. (register_part i f * b) % 2 ^ 32)) (sym ei) x
 
-pub rows-none : (place : Place) (index : Index) (own : Linear) (r : ℕ) (c : List ℕ) → index ≡ indexes.Sum own → Makes c c 4 r (with_rows place index r)
+pub rows-none : (place : BufferLayout) (index : PointIndex) (own : Linear) (r : ℕ) (c : List ℕ) → index ≡ indexes.Sum own → Makes c c 4 r (with_rows place index r)
 rows-none place index own r c ei = subst (λ i. Makes c c 4 r (with_rows place i r)) (sym ei) (record {
   insns = [];
   emits = emits-none c;
@@ -74,7 +74,7 @@ rows-none place index own r c ei = subst (λ i. Makes c c 4 r (with_rows place i
   does = λ w m f l zero. puts-none w m l f r (f r) refl;
 })
 
-pub rows-some : (place : Place) (index : Index) (t r bytes n : ℕ) (c0 c1 c2 : List ℕ) → IsStack r → index ≡ indexes.Register t
+pub rows-some : (place : BufferLayout) (index : PointIndex) (t r bytes n : ℕ) (c0 c1 c2 : List ℕ) → IsStack r → index ≡ indexes.Register t
     → bytes ≡ pixel_bytes place.pixels → n ≡ word.multiply bytes place.width → Makes c0 c1 3 second_scratch (λ f. (f t * n) % 2 ^ 32)
     → Emits c1 c2 (Alu alus.Add r r second_scratch ∷ []) → Makes c0 c2 4 r (with_rows place index r)
 unfolding word.multiply
@@ -85,16 +85,16 @@ rows-some place index t r bytes n c0 c1 c2 is ei eb en x y =
     (subst (λ k. Makes c0 c2 4 r (λ f. (f r + f t * k) % 2 ^ 32)) e (term-more r t n c0 c1 c2 p.0.0 p.0.1 p.1.0 p.1.1 x y))
 
 -- a source is one of its index
-pub source-of : (scope : List Held) (r : ℕ) (index : Index) → StandsIn scope r index → HasSource index
+pub source-of : (scope : List Held) (r : ℕ) (index : PointIndex) → StandsIn scope r index → HasSource index
 source-of scope r (indexes.Sum own) stands = tt
 source-of scope r (indexes.Register s) stands = stands.1.0
 
-pub source-beside : (scope : List Held) (r : ℕ) (index : Index) → StandsBeside scope r index → HasSource index
+pub source-beside : (scope : List Held) (r : ℕ) (index : PointIndex) → StandsBeside scope r index → HasSource index
 source-beside scope r (indexes.Sum own) stands = tt
 source-beside scope r (indexes.Register t) stands = stands.0
 
 -- what stands in the register above another one
-pub stands-above : (scope : List Held) (r : ℕ) (index : Index) → StandsIn scope (r + 1) index → StandsBeside scope r index
+pub stands-above : (scope : List Held) (r : ℕ) (index : PointIndex) → StandsIn scope (r + 1) index → StandsBeside scope r index
 stands-above scope r (indexes.Sum own) stands = tt
 stands-above scope r (indexes.Register t) stands = (stands.1.0, by stands.1.1)
   where
@@ -103,14 +103,14 @@ stands-above scope r (indexes.Register t) stands = (stands.1.0, by stands.1.1)
     by (inr (inl e)) = inl (λ g. omega (arith, e, g))
     by (inr (inr h)) = inr h
 
-pub source-is : (index : Index) (s : ℕ) → index ≡ indexes.Register s → HasSource index → IsSource s
+pub source-is : (index : PointIndex) (s : ℕ) → index ≡ indexes.Register s → HasSource index → IsSource s
 source-is index s e has = subst HasSource e has
 
 -- ---- addresses
 
-module _ (scope : List Held) (place : Place) (r : ℕ) (is : IsStack r) where
-  -- so many bytes behind
-  pub reached-behind : (x y : Linear) (form : Form) (base offset : ℕ) (c0 c1 c2 : List ℕ) → IsPoint place x y form
+module _ (scope : List Held) (place : BufferLayout) (r : ℕ) (is : IsStack r) where
+  -- so many bytes after
+  pub reached-behind : (x y : Linear) (form : AffineForm) (base offset : ℕ) (c0 c1 c2 : List ℕ) → IsPoint place x y form
       → MakesFormAddress c0 c1 scope form address_register (record { register = base; offset = offset }) → Emits c1 c2 (Alu alus.Add r r base ∷ [])
       → ReachesBehind c0 c2 scope place x y r offset
   reached-behind x y form base offset c0 c1 c2 point a z = record {
@@ -166,7 +166,7 @@ module _ (scope : List Held) (place : Place) (r : ℕ) (is : IsStack r) where
       joined n p q a whole e g l = omega (arith, e, g, l)
 
   -- what stands beside r stays where r is made
-  row-stays : (row : Index) (f g : ℕ → ℕ) → AreHolders scope → StandsBeside scope r row
+  row-stays : (row : PointIndex) (f g : ℕ → ℕ) → AreHolders scope → StandsBeside scope r row
       → ((q : ℕ) → q ≢ r → q ≢ scratch → q ≢ second_scratch → g q ≡ f q) → register_part row g ≡ register_part row f
   row-stays (indexes.Sum own) f g holders stands same = refl
   row-stays (indexes.Register t) f g holders stands same = same t (apart stands.1) stands.0.1.0 stands.0.1.1
@@ -175,11 +175,11 @@ module _ (scope : List Held) (place : Place) (r : ℕ) (is : IsStack r) where
       apart (inl n) = n
       apart (inr h) = working-free scope r holders (inr is) t h
 
-  rows-are : (row : Index) (f : ℕ → ℕ) → f r < 2 ^ 32 → with_rows place row r f ≡ (f r + register_part row f * row_bytes place) % 2 ^ 32
+  rows-are : (row : PointIndex) (f : ℕ → ℕ) → f r < 2 ^ 32 → with_rows place row r f ≡ (f r + register_part row f * row_bytes place) % 2 ^ 32
   rows-are (indexes.Sum own) f small = let g : f r ≡ (f r + 0 * row_bytes place) % 2 ^ 32 = omega (arith, small) in g
   rows-are (indexes.Register t) f small = refl
 
-  pub point-reached : (column row : Index) (x y : Linear) (offset : ℕ) (c0 c1 c2 c3 : List ℕ) → StandsBeside scope r row → IsSumPart column x
+  pub point-reached : (column row : PointIndex) (x y : Linear) (offset : ℕ) (c0 c1 c2 c3 : List ℕ) → StandsBeside scope r row → IsSumPart column x
       → IsSumPart row y → Makes c0 c1 (column_words column) r (λ f. (register_part column f * b) % 2 ^ 32) → Makes c1 c2 4 r (with_rows place row r)
       → ReachesBehind c2 c3 scope place x y r offset → ReachesPoint c0 c3 scope place column row r offset
   point-reached column row x y offset c0 c1 c2 c3 stands px py u v z = record {

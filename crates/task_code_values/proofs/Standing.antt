@@ -4,9 +4,9 @@ use Rattle.std.specs.Prelude.{◌≢◌, ◌⊎◌}
 use Rattle.loop_ir.specs.declared.expressions.Linear.{Linear}
 use Rattle.loop_ir.specs.Counters.{Values}
 use Rattle.loop_ir.specs.Expressions.{linear_value}
-use Rattle.multi_hart_logic.proofs.Paths.{stay}
+use Rattle.multi_hart_laws.proofs.Paths.{stay}
 use Rattle.task_code_scalar.proofs.Spelling.{emits-none}
-use Rattle.task_code_registers.specs.declared.scopes.Form.{Form}
+use Rattle.task_code_registers.specs.declared.scopes.AffineForm.{AffineForm}
 use Rattle.task_code_registers.specs.declared.scopes.Held.{Held}
 use Rattle.task_code_registers.specs.Emitting.{Makes, MakesForm, IsNear, MakesValue, base_words}
 use Rattle.task_code_registers.specs.Registers.{zero_register, scratch, second_scratch, address_register, IsPlace}
@@ -62,7 +62,7 @@ below-apart r own q is k =
 
 -- ---- forms without a part of the hart's number
 
-pub form-alone : (hart : ℕ) (values : Values) (form : Form) (own : Linear) → form.per_hart ≡ 0 → form.sum ≡ own
+pub form-alone : (hart : ℕ) (values : Values) (form : AffineForm) (own : Linear) → form.per_hart ≡ 0 → form.sum ≡ own
     → form_value hart values form ≡ linear_value values own
 unfolding form_value
 form-alone hart values form own none same =
@@ -71,7 +71,7 @@ form-alone hart values form own none same =
     let g : (v + hart * 0) % 2 ^ 32 ≡ v = omega (arith, small) in
     ap (λ k. (linear_value values form.sum + hart * k) % 2 ^ 32) none ∙ ap (λ (k : Linear). (linear_value values k + hart * 0) % 2 ^ 32) same ∙ g
 
-pub number-alone : (hart : ℕ) (values : Values) (form : Form) (n : ℕ) → n < 2 ^ 32 → form.per_hart ≡ 0 → ((vs : Values) → linear_value vs form.sum ≡ n)
+pub number-alone : (hart : ℕ) (values : Values) (form : AffineForm) (n : ℕ) → n < 2 ^ 32 → form.per_hart ≡ 0 → ((vs : Values) → linear_value vs form.sum ≡ n)
     → form_value hart values form ≡ n
 number-alone hart values form n small none is = form-alone hart values form form.sum none refl ∙ is values
 
@@ -98,7 +98,7 @@ held-zero scope r n most c none = record {
     zero-kept (own ∷ others) = inr (zero-kept others)
 
 -- a register of the scope holds the form
-pub held-near : (scope : List Held) (form : Form) (r s d most : ℕ) (c : List ℕ) (says : ℕ → Values → ℕ) → IsNear scope form s d → d ≡ 0
+pub held-near : (scope : List Held) (form : AffineForm) (r s d most : ℕ) (c : List ℕ) (says : ℕ → Values → ℕ) → IsNear scope form s d → d ≡ 0
     → ((hart : ℕ) (values : Values) → form_value hart values form ≡ says hart values) → MakesHeld c c most scope r s says
 held-near scope form r s d most c says near none is = record {
   insns = [];
@@ -143,7 +143,7 @@ number-made scope r n c0 c1 place x = record {
       record { after = a.after; line = a.line; value = a.value; others = a.others };
 }
 
-pub sum-made : (scope : List Held) (form : Form) (own : Linear) (r : ℕ) (c0 c1 : List ℕ) → IsPlace r → form.per_hart ≡ 0 → form.sum ≡ own
+pub sum-made : (scope : List Held) (form : AffineForm) (own : Linear) (r : ℕ) (c0 c1 : List ℕ) → IsPlace r → form.per_hart ≡ 0 → form.sum ≡ own
     → MakesValue c0 c1 scope form r → MakesHeld c0 c1 (2 + 4 * length own.terms) scope r r (λ hart values. linear_value values own)
 sum-made scope form own r c0 c1 place none same x = record {
   insns = x.insns;

@@ -24,10 +24,10 @@ use Rattle.loop_ir.proofs.Sizes.{size_binary, size_load}
 use Rattle.loop_ir.specs.Soundness.{store_loads}
 use Rattle.loop_ir.proofs.Sound.{sound_store}
 use Rattle.loop_ir.proofs.Trees.{run_store}
-use Rattle.multi_hart_logic.specs.Paths.{end}
-use Rattle.multi_hart_logic.proofs.Paths.{line-then}
-use Rattle.task_code_scalar.specs.declared.places.Place.{Place}
-use Rattle.task_code_scalar.specs.declared.places.Places.{Places}
+use Rattle.multi_hart_laws.specs.Paths.{end}
+use Rattle.multi_hart_laws.proofs.Paths.{line-then}
+use Rattle.task_code_scalar.specs.declared.layouts.BufferLayout.{BufferLayout}
+use Rattle.task_code_scalar.specs.declared.layouts.Places.{Places}
 use Rattle.task_code_scalar.specs.Code.{place_of, address, lower}
 use Rattle.task_code_scalar.specs.Evaluation.{Loads, LoadsAt, load_op}
 use Rattle.task_code_scalar.specs.Layout.{func_point, address_of}
@@ -45,8 +45,8 @@ use Rattle.task_code_registers.proofs.Looping.{did-went}
 use Rattle.task_code_registers.proofs.Knowing.{knows-still, knows-zero}
 use Rattle.task_code_registers.proofs.Making.{short-then}
 use Rattle.task_code_values.specs.declared.immediates.Immediate.{Immediate}
-use Rattle.task_code_values.specs.declared.points.Index.{Index}
-use Rattle.task_code_values.specs.declared.points.Index.TheVariants as indexes
+use Rattle.task_code_values.specs.declared.points.PointIndex.{PointIndex}
+use Rattle.task_code_values.specs.declared.points.PointIndex.TheVariants as indexes
 use Rattle.task_code_values.specs.Immediates.{immediate_value, IsImmediate}
 use Rattle.task_code_values.specs.Making.{IsBelow, MakesOfTwo}
 use Rattle.task_code_values.specs.Operands.{IsIndex, IsOperand, MakesIndex, MakesOperand, StandsIn}
@@ -108,7 +108,7 @@ module _ (places : Places) (scope : List Held) (o : Operation) (other : Expr) wh
 
 -- ---- the store
 
-module _ (places : Places) (scope : List Held) (store : Store) (o : Operation) (other : Expr) (place : Place) (column row : Index) (offset : ℕ)
+module _ (places : Places) (scope : List Held) (store : Store) (o : Operation) (other : Expr) (place : BufferLayout) (column row : PointIndex) (offset : ℕ)
     (c0 c1 c2 c3 c4 c5 c6 : List ℕ) where
   abbrev pixel : Expr
   pixel = e.Load (sources.Func store.func) store.x store.y
@@ -224,7 +224,7 @@ module _ (places : Places) (scope : List Held) (store : Store) (o : Operation) (
       column-below holders r (inr (inl g)) = (inr (omega (arith, g)), inl (omega (arith, g)))
       column-below holders r (inr (inr h)) = kept-below scope r second_value (omega arith) holders h
 
-      index-stays : (index : Index) (values : Values) (f g : ℕ → ℕ) (n : ℕ) → ((r : ℕ) → index ≡ indexes.Register r → g r ≡ f r)
+      index-stays : (index : PointIndex) (values : Values) (f g : ℕ → ℕ) (n : ℕ) → ((r : ℕ) → index ≡ indexes.Register r → g r ≡ f r)
           → IsIndex values f index n → IsIndex values g index n
       index-stays (indexes.Sum own) values f g n same is = is
       index-stays (indexes.Register r) values f g n same is = same r refl ∙ is

@@ -16,11 +16,11 @@ use Rattle.loop_ir.specs.declared.expressions.Linear.{Linear}
 use Rattle.loop_ir.specs.Counters.{Values}
 use Rattle.loop_ir.specs.Expressions.{value, linear_value}
 use Rattle.loop_ir.specs.Sizes.{size}
-use Rattle.multi_hart_logic.specs.Alone.{World}
-use Rattle.multi_hart_logic.specs.Paths.{update, Line}
-use Rattle.multi_hart_logic.proofs.Paths.{update-same, update-other, line-then}
-use Rattle.multi_hart_logic.proofs.Jumps as rules
-use Rattle.task_code_scalar.specs.declared.places.Places.{Places}
+use Rattle.multi_hart_laws.specs.Alone.{World}
+use Rattle.multi_hart_laws.specs.Paths.{update, Line}
+use Rattle.multi_hart_laws.proofs.Paths.{update-same, update-other, line-then}
+use Rattle.multi_hart_laws.proofs.Jumps as rules
+use Rattle.task_code_scalar.specs.declared.layouts.Places.{Places}
 use Rattle.task_code_scalar.specs.Code.{lower, place_of, frames_of, frame_words}
 use Rattle.task_code_scalar.specs.Faults.{LieLow}
 use Rattle.task_code_scalar.specs.Layout.{frame_word, IsBefore, address_of}
@@ -29,7 +29,7 @@ use Rattle.task_code_scalar.specs.Words.{Emits}
 use Rattle.task_code_scalar.proofs.Spelling.{emits_then}
 use Rattle.task_code_scalar.proofs.Storing.{stored-is, byte-other, size-stays, bytes-stay, number-other}
 use Rattle.task_code_scalar.proofs.Values.{imm-sets}
-use Rattle.task_code_registers.specs.declared.scopes.Form.{Form}
+use Rattle.task_code_registers.specs.declared.scopes.AffineForm.{AffineForm}
 use Rattle.task_code_registers.specs.declared.scopes.Held.{Held}
 use Rattle.task_code_registers.specs.declared.sums.At.{At}
 use Rattle.task_code_registers.specs.Emitting.{MakesFormAddress}
@@ -45,7 +45,7 @@ use Rattle.task_code_values.proofs.Pointing.{at-offset}
 
 -- ---- forms of words of the frame
 
-pub slot-is : (start word : ℕ) (form : Form) (sum : Linear) → form.sum ≡ sum → form.per_hart ≡ 4096 → ((values : Values)
+pub slot-is : (start word : ℕ) (form : AffineForm) (sum : Linear) → form.sum ≡ sum → form.per_hart ≡ 4096 → ((values : Values)
     → linear_value values sum ≡ start + 4 * word)
     → length sum.terms ≡ 0 → IsSlot start word form
 unfolding form_value
@@ -134,7 +134,7 @@ module _ (places : Places) (scope : List Held) where
       → Knows hart scope values g
   known hart values f g r low holders same knows = knows-still hart scope values f g (λ q h. same q (kept-below scope q r low holders h)) knows
 
-  module _ (start word : ℕ) (form : Form) (at : At) (c0 c1 c2 : List ℕ) (es : start ≡ frames_of places.frames) (within : word < frame_words places.frames)
+  module _ (start word : ℕ) (form : AffineForm) (at : At) (c0 c1 c2 : List ℕ) (es : start ≡ frames_of places.frames) (within : word < frame_words places.frames)
       (slot : IsSlot start word form) (t : MakesFormAddress c0 c1 scope form address_register at) where
     t-short : length t.insns ≤ 6
     t-short = let k = t.short in let z = slot.none in let most = base-most form.per_hart in omega (arith, k, z, most)
@@ -264,7 +264,7 @@ slot-low frames word start es has =
     let low = low-start frames has.0 in
     (omega (arith, es, low), omega (arith, few, within))
 
-pub slot-makes : (scope : List Held) (frames : Option ℕ) (word start : ℕ) (form : Form) (at : At) (c0 c1 : List ℕ) → start ≡ frames_of frames
+pub slot-makes : (scope : List Held) (frames : Option ℕ) (word start : ℕ) (form : AffineForm) (at : At) (c0 c1 : List ℕ) → start ≡ frames_of frames
     → IsSlot start word form
     → MakesFormAddress c0 c1 scope form address_register at → MakesSlot c0 c1 scope frames word at
 slot-makes scope frames word start form at c0 c1 es slot x =
@@ -280,6 +280,6 @@ pub unspills : (places : Places) (scope : List Held) (word r : ℕ) (at : At) (c
 unspills places scope word r at c0 c1 c2 has place x z =
     unspill-made places scope (frames_of places.frames) word x.form at c0 c1 c2 refl has.1 x.slot x.makes r place.0.0 place.0.1 z
 
--- words behind a word of the frame
+-- words after a word of the frame
 pub slot-next : (frames : Option ℕ) (word : ℕ) → word < frame_words frames → word + 1 < 2 ^ 32
 slot-next frames word within = let f = few-words frames in omega (arith, within, f)

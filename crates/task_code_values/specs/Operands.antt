@@ -9,18 +9,18 @@ use Rattle.loop_ir.specs.Counters.{Values}
 use Rattle.loop_ir.specs.Expressions.{value, loads, linear_value}
 use Rattle.loop_ir.specs.Needs.{need_of}
 use Rattle.loop_ir.specs.Sizes.{size}
-use Rattle.multi_hart_logic.specs.Alone.{World}
-use Rattle.multi_hart_logic.specs.Paths.{Line}
-use Rattle.task_code_scalar.specs.declared.places.Place.{Place}
-use Rattle.task_code_scalar.specs.declared.places.Places.{Places}
+use Rattle.multi_hart_laws.specs.Alone.{World}
+use Rattle.multi_hart_laws.specs.Paths.{Line}
+use Rattle.task_code_scalar.specs.declared.layouts.BufferLayout.{BufferLayout}
+use Rattle.task_code_scalar.specs.declared.layouts.Places.{Places}
 use Rattle.task_code_scalar.specs.Evaluation.{Loads, LoadsAt}
 use Rattle.task_code_scalar.specs.Faults.{FitsStack}
 use Rattle.task_code_scalar.specs.Words.{Emits}
 use Rattle.task_code_registers.specs.declared.scopes.Held.{Held}
 use Rattle.task_code_registers.specs.Registers.{address_register, IsSource}
 use Rattle.task_code_registers.specs.Scopes.{Knows, AreHolders, IsKept, have_registers}
-use Rattle.task_code_values.specs.declared.points.Index.{Index}
-use Rattle.task_code_values.specs.declared.points.Index.TheVariants as indexes
+use Rattle.task_code_values.specs.declared.points.PointIndex.{PointIndex}
+use Rattle.task_code_values.specs.declared.points.PointIndex.TheVariants as indexes
 use Rattle.task_code_values.specs.Making.{IsStack, IsBelow, Leaves}
 use Rattle.task_code_values.specs.Points.{HaveIndex}
 use Rattle.task_code_values.specs.Variables.{are_held}
@@ -61,21 +61,21 @@ pub record IsSum (e : Expr) (own : Linear) : Type 0 where
   pub short : 2 + 4 * length own.terms ≤ size e
 
 -- an index is this number
-abbrev pub IsIndex : Values → (ℕ → ℕ) → Index → ℕ → Type 0
+abbrev pub IsIndex : Values → (ℕ → ℕ) → PointIndex → ℕ → Type 0
 IsIndex values f (indexes.Sum own) v = linear_value values own ≡ v
 IsIndex values f (indexes.Register s) v = f s ≡ v
 
 -- it stands in r, or in one of the scope
-abbrev pub StandsIn : List Held → ℕ → Index → Type 0
+abbrev pub StandsIn : List Held → ℕ → PointIndex → Type 0
 StandsIn scope r (indexes.Sum own) = Unit {0}
 StandsIn scope r (indexes.Register s) = IsStack r × (IsSource s × IsOperand scope r r s)
 
-abbrev pub index_words : Index → ℕ
+abbrev pub index_words : PointIndex → ℕ
 index_words (indexes.Sum own) = 2 + 4 * length own.terms
 index_words (indexes.Register s) = 0
 
--- straight code behind which an index is this word; it keeps the registers below r
-pub record Finds (world : World) (memory : List ℕ) (insns : List Insn) (values : Values) (f : ℕ → ℕ) (r : ℕ) (index : Index) (v : ℕ) : Type 0 where
+-- straight code after which an index is this word; it keeps the registers below r
+pub record Finds (world : World) (memory : List ℕ) (insns : List Insn) (values : Values) (f : ℕ → ℕ) (r : ℕ) (index : PointIndex) (v : ℕ) : Type 0 where
   pub after : ℕ → ℕ
   pub line : Line world insns f memory after memory
   pub value : IsIndex values after index v
@@ -83,7 +83,7 @@ pub record Finds (world : World) (memory : List ℕ) (insns : List Insn) (values
   pub keeps : (q : ℕ) → IsBelow r q → after q ≡ f q
 
 -- appended code finds an expression's value as an index
-pub record MakesIndex (old new : List ℕ) (places : Places) (scope : List Held) (r : ℕ) (index : Index) (e : Expr) : Type 0 where
+pub record MakesIndex (old new : List ℕ) (places : Places) (scope : List Held) (r : ℕ) (index : PointIndex) (e : Expr) : Type 0 where
   pub insns : List Insn
   pub emits : Emits old new insns
   pub short : length insns + index_words index ≤ size e
@@ -94,7 +94,7 @@ pub record MakesIndex (old new : List ℕ) (places : Places) (scope : List Held)
       → Finds world memory insns values f r index (value reads values e)
 
 -- appended code leaves what a buffer holds at a point in r
-pub record MakesPixel (old new : List ℕ) (scope : List Held) (place : Place) (column row : Index) (r : ℕ) : Type 0 where
+pub record MakesPixel (old new : List ℕ) (scope : List Held) (place : BufferLayout) (column row : PointIndex) (r : ℕ) : Type 0 where
   pub insns : List Insn
   pub emits : Emits old new insns
   pub short : length insns ≤ index_words column + index_words row + 13

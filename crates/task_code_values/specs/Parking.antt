@@ -10,14 +10,14 @@ use Rattle.loop_ir.specs.declared.statements.Stmt.TheVariants as statements
 use Rattle.loop_ir.specs.Counters.{Values}
 use Rattle.loop_ir.specs.Expressions.{value, loads}
 use Rattle.loop_ir.specs.Sizes.{size}
-use Rattle.multi_hart_logic.specs.Alone.{World}
-use Rattle.multi_hart_logic.specs.Paths.{Line, lane}
-use Rattle.task_code_scalar.specs.declared.places.Places.{Places}
+use Rattle.multi_hart_laws.specs.Alone.{World}
+use Rattle.multi_hart_laws.specs.Paths.{Line, lane}
+use Rattle.task_code_scalar.specs.declared.layouts.Places.{Places}
 use Rattle.task_code_scalar.specs.Code.{address, place_of}
 use Rattle.task_code_scalar.specs.Doing.{Setting, IsSetting, SoundIn, HoldsFuncs}
 use Rattle.task_code_scalar.specs.Layout.{IsBefore}
 use Rattle.task_code_scalar.specs.Words.{Emits}
-use Rattle.task_code_lanes.specs.declared.groups.Group.TheVariants as groups
+use Rattle.task_code_lanes.specs.declared.groups.LaneGroup.TheVariants as groups
 use Rattle.task_code_lanes.specs.Leaving.{HasLanes}
 use Rattle.task_code_registers.specs.declared.scopes.Held.{Held}
 use Rattle.task_code_registers.specs.Emitting.{Fits}
@@ -85,7 +85,7 @@ pub record Unparks (old new : List ℕ) (r : ℕ) : Type 0 where
 
 -- ---- the point of a store
 
--- straight code behind which the second value and an offset are an address, with the lane configured; it keeps the scope's registers, these lanes,
+-- straight code after which the second value and an offset are an address, with the lane configured; it keeps the scope's registers, these lanes,
 -- what the Funcs hold, and of memory all but the hart's frame
 pub record Pointed (own : Setting) (funcs : Planes) (insns : List Insn) (scope : List Held) (f : ℕ → ℕ) (memory : List ℕ) (offset a : ℕ) : Type 0 where
   pub after : ℕ → ℕ
@@ -119,7 +119,7 @@ pub record MakesPoint (old new : List ℕ) (places : Places) (scope : List Held)
 
 -- ---- a store's pixel and its address, for a store that is made later
 
--- straight code behind which a register holds a pixel, and the one for addresses and an offset are where it lies; it keeps as much
+-- straight code after which a register holds a pixel, and the one for addresses and an offset are where it lies; it keeps as much
 pub record StoreReached (own : Setting) (funcs : Planes) (insns : List Insn) (scope : List Held) (f : ℕ → ℕ) (memory : List ℕ) (s offset a v : ℕ) : Type 0 where
   pub after : ℕ → ℕ
   pub left : List ℕ
@@ -147,7 +147,7 @@ pub record ReachesStore (old new : List ℕ) (places : Places) (scope : List Hel
       → (f : ℕ → ℕ) (memory : List ℕ) (funcs : Planes) → HoldsFuncs own memory funcs → Knows own.world.hart scope values f
       → StoreReached own funcs insns scope f memory s offset (point_address own funcs values store) (value (reads_of own.inputs funcs) values store.value)
 
--- straight code behind which a register holds a pixel, and the one for addresses where it lies; it keeps the scope's registers, the lanes of all
+-- straight code after which a register holds a pixel, and the one for addresses where it lies; it keeps the scope's registers, the lanes of all
 -- vector registers but the first two, what the Funcs hold, and of memory all but the hart's frame
 pub record Prepared (own : Setting) (funcs : Planes) (insns : List Insn) (scope : List Held) (f : ℕ → ℕ) (memory : List ℕ) (s a v : ℕ) : Type 0 where
   pub after : ℕ → ℕ

@@ -6,32 +6,32 @@ use Rattle.hart_core.specs.Scalar.{load_size}
 use Rattle.loop_ir.specs.declared.expressions.Linear.{Linear}
 use Rattle.loop_ir.specs.Counters.{Values}
 use Rattle.loop_ir.specs.Expressions.{linear_value}
-use Rattle.multi_hart_logic.specs.Alone.{World}
-use Rattle.multi_hart_logic.specs.Paths.{Readable}
-use Rattle.task_code_scalar.specs.declared.places.Place.{Place}
+use Rattle.multi_hart_laws.specs.Alone.{World}
+use Rattle.multi_hart_laws.specs.Paths.{Readable}
+use Rattle.task_code_scalar.specs.declared.layouts.BufferLayout.{BufferLayout}
 use Rattle.task_code_scalar.specs.Code.{address}
 use Rattle.task_code_scalar.specs.Evaluation.{load_op}
 use Rattle.task_code_scalar.specs.Words.{Emits}
 use Rattle.task_code_registers.specs.declared.scopes.Held.{Held}
 use Rattle.task_code_registers.specs.Scopes.{Knows, AreHolders, have_registers}
-use Rattle.task_code_values.specs.declared.points.Index.{Index}
-use Rattle.task_code_values.specs.declared.points.Index.TheVariants as indexes
+use Rattle.task_code_values.specs.declared.points.PointIndex.{PointIndex}
+use Rattle.task_code_values.specs.declared.points.PointIndex.TheVariants as indexes
 use Rattle.task_code_values.specs.Making.{Leaves}
 
 -- each loop variable of an index has a register
-abbrev pub HaveIndex : List Held → Index → Type 0
+abbrev pub HaveIndex : List Held → PointIndex → Type 0
 HaveIndex scope (indexes.Sum own) = have_registers scope own.terms ≡ true
 HaveIndex scope (indexes.Register s) = Unit {0}
 
 -- memory has a pixel at an address, which may be loaded
-pub record HasPixel (world : World) (place : Place) (memory : List ℕ) (a pixel : ℕ) : Type 0 where
+pub record HasPixel (world : World) (place : BufferLayout) (memory : List ℕ) (a pixel : ℕ) : Type 0 where
   pub low : a < 2 ^ 32
   pub may : Readable world (load_size (load_op place.pixels)) a
   pub holds : number_in world.text memory (load_size (load_op place.pixels)) a ≡ pixel
   pub is_word : pixel < 2 ^ 32
 
 -- Appended code leaves in r what a buffer holds at a point of two sums.
-pub record LoadsPoint (old new : List ℕ) (scope : List Held) (place : Place) (x y : Linear) (r : ℕ) : Type 0 where
+pub record LoadsPoint (old new : List ℕ) (scope : List Held) (place : BufferLayout) (x y : Linear) (r : ℕ) : Type 0 where
   pub insns : List Insn
   pub emits : Emits old new insns
   pub short : length insns ≤ 7 + 4 * (length x.terms + length y.terms)
@@ -39,8 +39,8 @@ pub record LoadsPoint (old new : List ℕ) (scope : List Held) (place : Place) (
       → Knows world.hart scope values f → HasPixel world place memory (address place world.hart (linear_value values x) (linear_value values y)) pixel
       → Leaves world memory insns f r r pixel
 
--- So it is of what lies so many bytes behind the point as r says.
-pub record LoadsBehind (old new : List ℕ) (scope : List Held) (place : Place) (x y : Linear) (r : ℕ) : Type 0 where
+-- So it is of what lies so many bytes after the point as r says.
+pub record LoadsBehind (old new : List ℕ) (scope : List Held) (place : BufferLayout) (x y : Linear) (r : ℕ) : Type 0 where
   pub insns : List Insn
   pub emits : Emits old new insns
   pub short : length insns ≤ 8 + 4 * (length x.terms + length y.terms)

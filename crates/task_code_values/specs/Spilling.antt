@@ -9,20 +9,20 @@ use Rattle.loop_ir.specs.Counters.{Values}
 use Rattle.loop_ir.specs.Expressions.{value, loads}
 use Rattle.loop_ir.specs.Needs.{need_of, need}
 use Rattle.loop_ir.specs.Sizes.{kept, size_of, size}
-use Rattle.multi_hart_logic.specs.Paths.{Line}
-use Rattle.task_code_scalar.specs.declared.places.Places.{Places}
+use Rattle.multi_hart_laws.specs.Paths.{Line}
+use Rattle.task_code_scalar.specs.declared.layouts.Places.{Places}
 use Rattle.task_code_scalar.specs.Code.{frames_of, frame_words}
 use Rattle.task_code_scalar.specs.Doing.{Setting, IsSetting, HoldsFuncs}
 use Rattle.task_code_scalar.specs.Faults.{LieLow, FitsFrame}
 use Rattle.task_code_scalar.specs.Layout.{frame_word, IsBefore}
 use Rattle.task_code_scalar.specs.Words.{Emits}
-use Rattle.task_code_registers.specs.declared.scopes.Form.{Form}
+use Rattle.task_code_registers.specs.declared.scopes.AffineForm.{AffineForm}
 use Rattle.task_code_registers.specs.declared.scopes.Held.{Held}
 use Rattle.task_code_registers.specs.declared.sums.At.{At}
 use Rattle.task_code_registers.specs.Emitting.{MakesFormAddress}
 use Rattle.task_code_registers.specs.Registers.{address_register, first_value, IsSource}
 use Rattle.task_code_registers.specs.Scopes.{Knows, AreHolders, IsKept, form_value}
-use Rattle.task_code_values.specs.declared.spilling.Both.{Both}
+use Rattle.task_code_values.specs.declared.spilling.OperandRegisters.{OperandRegisters}
 use Rattle.task_code_values.specs.declared.points.PointIndexes.{PointIndexes}
 use Rattle.task_code_values.specs.Making.{IsBelow}
 use Rattle.task_code_values.specs.Operands.{IsIndex, StandsIn, index_words}
@@ -34,13 +34,13 @@ abbrev pub HasSlot : Option ℕ → ℕ → Type 0
 HasSlot frames word = LieLow frames × (word < frame_words frames)
 
 -- a form is the address of a word of the hart's frame, which begins so
-pub record IsSlot (start word : ℕ) (form : Form) : Type 0 where
+pub record IsSlot (start word : ℕ) (form : AffineForm) : Type 0 where
   pub value : (hart : ℕ) (values : Values) → form_value hart values form ≡ (start + 4 * word + hart * 4096) % 2 ^ 32
   pub none : length form.sum.terms ≡ 0
 
 -- Appended code makes that address: a register and an offset.
 pub record MakesSlot (old new : List ℕ) (scope : List Held) (frames : Option ℕ) (word : ℕ) (at : At) : Type 0 where
-  pub form : Form
+  pub form : AffineForm
   pub slot : IsSlot (frames_of frames) word form
   pub makes : MakesFormAddress old new scope form address_register at
 
@@ -130,7 +130,7 @@ abbrev pub third_value : ℕ
 third_value = 22
 
 -- Appended code leaves an expression's value in a second register, and what a register held in the first: there, or in another one.
-pub record MakesBoth (old new : List ℕ) (places : Places) (scope : List Held) (word s : ℕ) (both : Both) (e : Expr) : Type 0 where
+pub record MakesBoth (old new : List ℕ) (places : Places) (scope : List Held) (word s : ℕ) (both : OperandRegisters) (e : Expr) : Type 0 where
   pub insns : List Insn
   pub emits : Emits old new insns
   pub short : length insns ≤ size e + kept (size_of e)
@@ -161,7 +161,7 @@ pub record MakesRow (old new : List ℕ) (places : Places) (scope : List Held) (
 abbrev pub IsDeep : Option ℕ → Expr → ℕ → Type 0
 IsDeep frames e word = LieLow frames × ((12 < need e) × (need e + word ≤ frame_words frames))
 
--- a second value has room behind the word in which the first one waits
+-- a second value has room after the word in which the first one waits
 abbrev pub FitsPair : Option ℕ → Expr → ℕ → Type 0
 FitsPair frames e word = HasSlot frames word × FitsFrame frames e (word + 1)
 

@@ -12,8 +12,8 @@ use Rattle.loop_ir.specs.Expressions.{value, loads}
 use Rattle.loop_ir.specs.Needs.{need_of}
 use Rattle.loop_ir.specs.Running.{run}
 use Rattle.loop_ir.specs.Sizes.{size}
-use Rattle.multi_hart_logic.specs.Paths.{Line}
-use Rattle.task_code_scalar.specs.declared.places.Places.{Places}
+use Rattle.multi_hart_laws.specs.Paths.{Line}
+use Rattle.task_code_scalar.specs.declared.layouts.Places.{Places}
 use Rattle.task_code_scalar.specs.Doing.{Setting, IsSetting, SoundIn, RunsIn, HoldsFuncs, stored_points}
 use Rattle.task_code_scalar.specs.Faults.{FitsStack, FitsFrame}
 use Rattle.task_code_scalar.specs.Layout.{IsBefore}

@@ -11,7 +11,7 @@ use rv_insn::{Insn, LoadOp, StoreOp};
 use std::alloc::AllocError;
 use task_code_registers::numbers::lower_part;
 use task_code_scalar::instructions::{put, register};
-use task_code_scalar::places::Pixels;
+use task_code_scalar::layouts::Pixels;
 
 /// How many bytes a pixel takes.
 pub fn bytes_of(pixels: Pixels) -> u32

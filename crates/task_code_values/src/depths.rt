@@ -52,7 +52,7 @@ fn triple_height(taken: u32, first: u32, second: u32, third: u32) -> u32
     larger(first, larger(second, third))
 }
 
-/// How high the stack grows where an expression is made behind so many registers. No part is asked for which they are
+/// How high the stack grows where an expression is made above so many registers. No part is asked for which they are
 /// all.
 #[tactic(auto, unfolding(loop_ir::specs::Needs::need_of))]
 fn height(e: &Expr, taken: u32) -> u32

@@ -11,7 +11,7 @@ ghost use Rattle.task_code_values.specs.Variables.{are_held};
 use crate::immediates::{emit_immediate, immediate_of};
 use crate::operands::{emit_number_operand, emit_sum_operand};
 use crate::operations::{emit_operation, emit_quotient, emit_remainder, emit_selection};
-use crate::points::{Index, PointIndexes, emit_pixel};
+use crate::points::{PointIndex, PointIndexes, emit_pixel};
 use crate::sites::Site;
 use loop_ir::expressions::{Expr, Linear};
 use std::alloc::{AllocError, Global};
@@ -111,7 +111,7 @@ pub fn emit_index(
     site: &Site<'_>,
     e: &Expr,
     r: u8,
-) -> Result<Index, CodeFault>
+) -> Result<PointIndex, CodeFault>
     requires place { (first_value ≤ r) × (r ≤ 32) }
     requires fits { FitsOperand e.now r }
     ensures ok { IfOk result (λ index. MakesIndex code.old.items code.new.items site.now.places.now site.now.scope.now r
@@ -119,10 +119,10 @@ pub fn emit_index(
     ensures err { IfErr result (IsFault ⊥ (are_held site.now.scope.now e.now ≡ true → ⊥)) }
 {
     match sum_of(alloc, e)? {
-        Some(own) => Ok(Index::Sum(own)),
+        Some(own) => Ok(PointIndex::Sum(own)),
         None => {
             let s = emit_operand(alloc, code, site, e, r, r)?;
-            Ok(Index::Register(s))
+            Ok(PointIndex::Register(s))
         }
     }
 }

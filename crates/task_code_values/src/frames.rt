@@ -10,9 +10,9 @@ use crate::sites::Site;
 use loop_ir::expressions::Linear;
 use std::alloc::{AllocError, Global};
 use task_code_registers::registers::ADDRESS;
-use task_code_registers::scopes::{Form, Held};
+use task_code_registers::scopes::{AffineForm, Held};
 use task_code_registers::sums::{At, emit_address};
-use task_code_scalar::places::Pixels;
+use task_code_scalar::layouts::Pixels;
 
 /// How many bytes a hart's frame has.
 const FRAME_BYTES: u32 = 4096;
@@ -30,12 +30,12 @@ fn start_of(frames: Option<u32>) -> u32
 }
 
 /// The address of a word of the hart's frame.
-fn slot_form(alloc: Global, start: u32, word: u32) -> Form
+fn slot_form(alloc: Global, start: u32, word: u32) -> AffineForm
     requires { (start ≤ 4294901760) × (word < 1024) }
     ensures { IsSlot start word result }
 {
     let sum = Linear::of_number(alloc, start + WORD_BYTES * word);
-    Form {
+    AffineForm {
         sum,
         per_hart: FRAME_BYTES,
     }

@@ -13,7 +13,7 @@ use std::alloc::{AllocError, Global};
 use task_code_registers::indexed::{emit_indexed_address, emit_indexed_form};
 use task_code_registers::numbers::{emit_number, emit_plus};
 use task_code_registers::registers::ZERO;
-use task_code_registers::scopes::{Form, Held};
+use task_code_registers::scopes::{AffineForm, Held};
 use task_code_registers::sums::{At, emit_address, emit_form, find, have_registers, nearest};
 use task_code_scalar::CodeFault;
 
@@ -35,7 +35,7 @@ pub fn emit_number_operand(
     if number == 0 {
         return Ok(ZERO);
     }
-    let form = Form {
+    let form = AffineForm {
         sum: Linear::of_number(alloc, number),
         per_hart: 0,
     };
@@ -61,7 +61,7 @@ pub fn emit_reached(
     alloc: Global,
     code: &mut Vec<u32>,
     scope: &[Held],
-    form: &Form,
+    form: &AffineForm,
     r: u8,
 ) -> Result<(), CodeFault>
     requires { IsPlace r }
@@ -96,7 +96,7 @@ pub fn emit_reached_address(
     alloc: Global,
     code: &mut Vec<u32>,
     scope: &[Held],
-    form: &Form,
+    form: &AffineForm,
     r: u8,
 ) -> Result<At, CodeFault>
     requires { IsPlace r }
@@ -137,7 +137,7 @@ pub fn emit_sum_operand(
     ensures err { IfErr result (IsFault ⊥ (spec.have_registers scope.now own.now.terms ≡ true → ⊥)) }
 {
     let sum = own.copy(alloc)?;
-    let form = Form { sum, per_hart: 0 };
+    let form = AffineForm { sum, per_hart: 0 };
     match find(scope, &form, true) {
         Some(found) => {
             if found.number == 0 {

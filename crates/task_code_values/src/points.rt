@@ -9,7 +9,7 @@ ghost use Rattle.task_code_scalar.specs.Faults.{IsFault};
 ghost use Rattle.task_code_registers.specs.Emitting.{Makes};
 ghost use Rattle.task_code_registers.specs.Registers.{IsPlace, IsSource};
 ghost use Rattle.task_code_registers.specs.Scopes.{have_registers};
-ghost use Rattle.task_code_values.specs.declared.points.Index.TheVariants as indexes;
+ghost use Rattle.task_code_values.specs.declared.points.PointIndex.TheVariants as indexes;
 ghost use Rattle.task_code_values.specs.Making.{IsStack};
 ghost use Rattle.task_code_values.specs.Operands.{MakesPixel, StandsIn};
 ghost use Rattle.task_code_values.specs.Points.{HaveIndex, LoadsBehind, LoadsPoint};
@@ -26,11 +26,11 @@ use task_code_registers::points::point_form;
 use task_code_registers::registers::ADDRESS;
 use task_code_scalar::CodeFault;
 use task_code_scalar::instructions::{alu, alu_small, shift};
-use task_code_scalar::places::{Pixels, Place, place_of};
+use task_code_scalar::layouts::{BufferLayout, Pixels, place_of};
 
 /// An index of a point.
 #[derive(Debug)]
-pub enum Index {
+pub enum PointIndex {
     /// A sum of loop variables, of which an address can be made.
     Sum(Linear),
     /// The register that holds it.
@@ -38,11 +38,11 @@ pub enum Index {
 }
 
 /// Written out, so that a check sees a call wherever one is dropped, and not the drops of its parts.
-impl Drop for Index {
+impl Drop for PointIndex {
     fn drop(self) {
         match self {
-            Index::Sum(own) => drop(own),
-            Index::Register(_) => {}
+            PointIndex::Sum(own) => drop(own),
+            PointIndex::Register(_) => {}
         }
     }
 }
@@ -50,8 +50,8 @@ impl Drop for Index {
 /// The indexes of a point.
 #[derive(Debug)]
 pub struct PointIndexes {
-    pub column: Index,
-    pub row: Index,
+    pub column: PointIndex,
+    pub row: PointIndex,
 }
 
 /// Written out, so that a check sees a call wherever one is dropped, and not the drops of its parts.
@@ -109,7 +109,7 @@ fn emit_point(
     Ok(())
 }
 
-/// Appends a load of what lies so many bytes behind such a point as a register says.
+/// Appends a load of what lies so many bytes after such a point as a register says.
 fn emit_behind(
     alloc: Global,
     code: &mut Vec<u32>,
@@ -132,7 +132,7 @@ fn emit_behind(
 }
 
 /// Appends what leaves the bytes of so many whole rows.
-fn emit_rows(code: &mut Vec<u32>, place: &Place, r: u8, s: u8) -> Result<(), AllocError>
+fn emit_rows(code: &mut Vec<u32>, place: &BufferLayout, r: u8, s: u8) -> Result<(), AllocError>
     requires { IsPlace r × IsSource s }
     ensures { OnOk result (Makes code.old.items code.new.items 3 r
         (λ f. (f s * ((pixel_bytes place.now.pixels * place.now.width) % 2 ^ 32)) % 2 ^ 32)) }
@@ -148,7 +148,7 @@ fn emit_at_column(
     code: &mut Vec<u32>,
     buffer: &BufferSite<'_>,
     x: &Linear,
-    row: &Index,
+    row: &PointIndex,
     r: u8,
 ) -> Result<(), CodeFault>
     requires place { IsStack r }
@@ -159,8 +159,8 @@ fn emit_at_column(
         → HaveIndex buffer.now.scope.now row.now → ⊥)) }
 {
     match row {
-        Index::Sum(y) => emit_point(alloc, code, buffer, x, y, r),
-        Index::Register(t) => {
+        PointIndex::Sum(y) => emit_point(alloc, code, buffer, x, y, r),
+        PointIndex::Register(t) => {
             let zero = Linear::of_number(alloc, 0);
             emit_rows(code, buffer.place, r, *t)?;
             emit_behind(alloc, code, buffer, x, &zero, r)
@@ -197,7 +197,7 @@ fn emit_from_column(
     code: &mut Vec<u32>,
     buffer: &BufferSite<'_>,
     s: u8,
-    row: &Index,
+    row: &PointIndex,
     r: u8,
 ) -> Result<(), CodeFault>
     requires place { IsStack r }
@@ -208,12 +208,12 @@ fn emit_from_column(
     ensures err { IfErr result (IsFault ⊥ (HaveIndex buffer.now.scope.now row.now → ⊥)) }
 {
     match row {
-        Index::Sum(y) => {
+        PointIndex::Sum(y) => {
             let zero = Linear::of_number(alloc, 0);
             emit_scaled(code, buffer.place.pixels, r, s)?;
             emit_behind(alloc, code, buffer, &zero, y, r)
         }
-        Index::Register(t) => emit_at_registers(alloc, code, buffer, s, *t, r),
+        PointIndex::Register(t) => emit_at_registers(alloc, code, buffer, s, *t, r),
     }
 }
 
@@ -244,7 +244,7 @@ pub fn emit_pixel(
         scope: site.scope,
     };
     match &point.column {
-        Index::Sum(x) => emit_at_column(alloc, code, &buffer, x, &point.row, r),
-        Index::Register(s) => emit_from_column(alloc, code, &buffer, *s, &point.row, r),
+        PointIndex::Sum(x) => emit_at_column(alloc, code, &buffer, x, &point.row, r),
+        PointIndex::Register(s) => emit_from_column(alloc, code, &buffer, *s, &point.row, r),
     }
 }

@@ -14,7 +14,7 @@ ghost use Rattle.task_code_values.specs.Scattering.{StandsBeside};
 
 use crate::accesses::bytes_of;
 use crate::operands::emit_reached_address;
-use crate::points::{Index, PointIndexes, emit_scaled};
+use crate::points::{PointIndex, PointIndexes, emit_scaled};
 use crate::sites::BufferSite;
 use halide_pipeline::words;
 use loop_ir::expressions::Linear;
@@ -25,34 +25,39 @@ use task_code_registers::points::point_form;
 use task_code_registers::registers::{ADDRESS, SECOND_SCRATCH};
 use task_code_scalar::CodeFault;
 use task_code_scalar::instructions::alu;
-use task_code_scalar::places::Place;
+use task_code_scalar::layouts::BufferLayout;
 
 /// The part of an index that is a sum.
-fn sum_part(alloc: Global, index: &Index) -> Result<Linear, AllocError>
+fn sum_part(alloc: Global, index: &PointIndex) -> Result<Linear, AllocError>
     ensures { IfOk result (IsSumPart index.now) }
 {
     match index {
-        Index::Sum(own) => {
+        PointIndex::Sum(own) => {
             let sum = own.copy(alloc)?;
             Ok(sum)
         }
-        Index::Register(_) => Ok(Linear::of_number(alloc, 0)),
+        PointIndex::Register(_) => Ok(Linear::of_number(alloc, 0)),
     }
 }
 
 /// Appends what leaves the bytes of as many pixels as a register holds where an index is one, else 0.
-fn emit_columns(code: &mut Vec<u32>, place: &Place, column: &Index, r: u8) -> Result<(), AllocError>
+fn emit_columns(
+    code: &mut Vec<u32>,
+    place: &BufferLayout,
+    column: &PointIndex,
+    r: u8,
+) -> Result<(), AllocError>
     requires place { IsStack r }
     requires source { HasSource column.now }
     ensures { OnOk result (Makes code.old.items code.new.items (spec.column_words column.now) r
         (λ f. (spec.register_part column.now f * pixel_bytes place.now.pixels) % 2 ^ 32)) }
 {
     match column {
-        Index::Sum(_) => {
+        PointIndex::Sum(_) => {
             emit_number(code, r, 0)?;
             Ok(())
         }
-        Index::Register(s) => {
+        PointIndex::Register(s) => {
             emit_scaled(code, place.pixels, r, *s)?;
             Ok(())
         }
@@ -60,14 +65,19 @@ fn emit_columns(code: &mut Vec<u32>, place: &Place, column: &Index, r: u8) -> Re
 }
 
 /// Appends what adds the bytes of as many rows as a register holds where an index is one.
-fn emit_rows_added(code: &mut Vec<u32>, place: &Place, row: &Index, r: u8) -> Result<(), AllocError>
+fn emit_rows_added(
+    code: &mut Vec<u32>,
+    place: &BufferLayout,
+    row: &PointIndex,
+    r: u8,
+) -> Result<(), AllocError>
     requires place { IsStack r }
     requires source { HasSource row.now }
     ensures { OnOk result (Makes code.old.items code.new.items 4 r (spec.with_rows place.now row.now r)) }
 {
     match row {
-        Index::Sum(_) => Ok(()),
-        Index::Register(t) => {
+        PointIndex::Sum(_) => Ok(()),
+        PointIndex::Register(t) => {
             let bytes = words::multiply(bytes_of(place.pixels), place.width);
             emit_times(code, SECOND_SCRATCH, *t, bytes)?;
             alu(code, AluOp::Add, r, r, SECOND_SCRATCH)?;
@@ -76,7 +86,7 @@ fn emit_rows_added(code: &mut Vec<u32>, place: &Place, row: &Index, r: u8) -> Re
     }
 }
 
-/// Appends what makes the address of what lies so many bytes behind the point of two sums as r says: it is r and the
+/// Appends what makes the address of what lies so many bytes after the point of two sums as r says: it is r and the
 /// offset that is returned.
 fn reach_behind(
     alloc: Global,

@@ -1,7 +1,7 @@
 //! What stands around code that is appended.
 
 use task_code_registers::scopes::Held;
-use task_code_scalar::places::{Place, Places};
+use task_code_scalar::layouts::{BufferLayout, Places};
 
 /// What stands around code: where all buffers lie, and which registers hold which forms.
 #[derive(Clone, Copy)]
@@ -14,6 +14,6 @@ pub struct Site<'a> {
 #[derive(Clone, Copy)]
 pub struct BufferSite<'a> {
     /// Where the buffer lies.
-    pub place: &'a Place,
+    pub place: &'a BufferLayout,
     pub scope: &'a [Held],
 }

@@ -13,7 +13,7 @@ use crate::expressions::{emit_operand, sum_of};
 use crate::frames::{emit_spill, emit_unspill};
 use crate::needs::is_leaf;
 use crate::operations::{emit_operation, emit_quotient, emit_remainder, emit_selection};
-use crate::points::{Index, PointIndexes, emit_pixel};
+use crate::points::{PointIndex, PointIndexes, emit_pixel};
 use crate::sites::Site;
 use loop_ir::expressions::Expr;
 use rv_insn::AluImmOp;
@@ -29,7 +29,7 @@ pub const THIRD_VALUE: u8 = 22;
 
 /// The registers of two operands.
 #[derive(Clone, Copy, Debug)]
-pub struct Both {
+pub struct OperandRegisters {
     pub first: u8,
     pub second: u8,
 }
@@ -125,7 +125,7 @@ fn emit_beside(
     e: &Expr,
     word: u32,
     first: u8,
-) -> Result<Both, CodeFault>
+) -> Result<OperandRegisters, CodeFault>
     requires fits { FitsSecond site.now.places.now.frames e.now word }
     requires first { IsFirst site.now.scope.now first }
     ensures ok { IfOk result (λ both. MakesBoth code.old.items code.new.items site.now.places.now site.now.scope.now
@@ -135,10 +135,10 @@ fn emit_beside(
 {
     if is_leaf(e) {
         let second = emit_operand(alloc, code, site, e, SECOND_VALUE, ADDRESS)?;
-        return Ok(Both { first, second });
+        return Ok(OperandRegisters { first, second });
     }
     emit_pair(alloc, code, site, e, word, first)?;
-    Ok(Both {
+    Ok(OperandRegisters {
         first: FIRST_VALUE,
         second: SECOND_VALUE,
     })
@@ -164,14 +164,14 @@ fn emit_row(
 {
     match sum_of(alloc, e)? {
         Some(own) => Ok(PointIndexes {
-            column: Index::Register(first),
-            row: Index::Sum(own),
+            column: PointIndex::Register(first),
+            row: PointIndex::Sum(own),
         }),
         None => {
             emit_pair(alloc, code, site, e, word, first)?;
             Ok(PointIndexes {
-                column: Index::Register(FIRST_VALUE),
-                row: Index::Register(SECOND_VALUE),
+                column: PointIndex::Register(FIRST_VALUE),
+                row: PointIndex::Register(SECOND_VALUE),
             })
         }
     }

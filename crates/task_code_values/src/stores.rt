@@ -16,7 +16,7 @@ use crate::expressions::{emit_index, sum_of};
 use crate::needs::{is_leaf, need};
 use crate::operands::emit_reached_address;
 use crate::parking::{emit_park, emit_parking, emit_unpark};
-use crate::points::{Index, PointIndexes};
+use crate::points::{PointIndex, PointIndexes};
 use crate::scatters::reach_point;
 use crate::sites::{BufferSite, Site};
 use crate::spilling::{SECOND_VALUE, THIRD_VALUE, emit_deep};
@@ -30,7 +30,7 @@ use task_code_registers::points::point_form;
 use task_code_registers::registers::ADDRESS;
 use task_code_registers::scopes::{Held, are_registers};
 use task_code_scalar::CodeFault;
-use task_code_scalar::places::{Places, place_of};
+use task_code_scalar::layouts::{Places, place_of};
 
 /// How many words a frame has.
 const FRAME_WORDS: u32 = 1024;
@@ -110,7 +110,7 @@ fn emit_direct(
     Ok(())
 }
 
-/// Appends a store, whose indexes are computed behind the value.
+/// Appends a store, whose indexes are computed after the value.
 fn emit_scattered(
     alloc: Global,
     code: &mut Vec<u32>,
@@ -187,8 +187,8 @@ fn emit_store_point(
     emit_park(code, first)?;
     let second = emit_value(alloc, code, site.places, site.scope, &store.y)?;
     emit_unpark(code, SECOND_VALUE)?;
-    let column = Index::Register(SECOND_VALUE);
-    let row = Index::Register(second);
+    let column = PointIndex::Register(SECOND_VALUE);
+    let row = PointIndex::Register(second);
     let point = PointIndexes { column, row };
     let buffer = BufferSite {
         place: &place,
@@ -198,7 +198,7 @@ fn emit_store_point(
     Ok(offset)
 }
 
-/// The register of a store's pixel, and how far behind the register for addresses it is to lie.
+/// The register of a store's pixel, and how far past the register for addresses it is to lie.
 #[derive(Clone, Copy, Debug)]
 struct PixelAt {
     register: u8,

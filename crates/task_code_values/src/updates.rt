@@ -24,7 +24,7 @@ use std::alloc::Global;
 use task_code_registers::registers::{ADDRESS, FIRST_VALUE};
 use task_code_registers::sums::same_terms;
 use task_code_scalar::CodeFault;
-use task_code_scalar::places::place_of;
+use task_code_scalar::layouts::place_of;
 
 // ---- expressions that are the same
 

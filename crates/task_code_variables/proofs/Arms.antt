@@ -13,18 +13,18 @@ use Rattle.loop_ir.specs.declared.statements.Stmt.TheVariants as s
 use Rattle.loop_ir.specs.declared.statements.Whole.{Whole}
 use Rattle.loop_ir.specs.Counters.{same_counter}
 use Rattle.task_code_scalar.specs.declared.CodeFault.{CodeFault}
-use Rattle.task_code_scalar.specs.declared.places.Places.{Places}
+use Rattle.task_code_scalar.specs.declared.layouts.Places.{Places}
 use Rattle.task_code_scalar.specs.Faults.{IsFault}
 use Rattle.task_code_scalar.proofs.Spelling.{emits-length}
 use Rattle.task_code_scalar.specs.Words.{Emits}
-use Rattle.task_code_lanes.specs.declared.groups.Group.{Group}
+use Rattle.task_code_lanes.specs.declared.groups.LaneGroup.{LaneGroup}
 use Rattle.task_code_lanes.specs.Groups.{registers, slot, vtype_of}
-use Rattle.task_code_registers.specs.declared.scopes.Form.{Form}
+use Rattle.task_code_registers.specs.declared.scopes.AffineForm.{AffineForm}
 use Rattle.task_code_registers.specs.declared.scopes.Held.{Held}
 use Rattle.task_code_registers.specs.Emitting.{HoldsVariable}
 use Rattle.task_code_registers.specs.Holding.{mentions, moving}
 use Rattle.task_code_registers.specs.Scopes.{has_variable}
-use Rattle.task_code_loops.specs.declared.beginning.Begun.{Begun}
+use Rattle.task_code_loops.specs.declared.beginning.BegunLoop.{BegunLoop}
 use Rattle.task_code_loops.specs.Beginning.{HasNoRegister, HoldsPlainly, IsBegun, variable}
 use Rattle.task_code_loops.specs.Ending.{EndsLoop, end_words}
 use Rattle.task_code_loops.specs.Guarding.{GuardsWords}
@@ -44,7 +44,7 @@ apart a b less = grind (arith, nat_tests, less)
 
 -- ---- loops
 
-module _ (scope : List Held) (around inside : List Counter) (counter own : Counter) (count reserved most : ℕ) (begun : Begun) (view : List Held)
+module _ (scope : List Held) (around inside : List Counter) (counter own : Counter) (count reserved most : ℕ) (begun : BegunLoop) (view : List Held)
     (c0 c1 : List ℕ) (holds : HoldsAround around scope) (eo : own ≡ numbered (length around)) (begins : IsBegun c0 c1 most own count scope reserved begun)
     (plain : HoldsPlainly own scope begun.inner.items) (ev : view ≡ begun.inner.items) (ei : inside ≡ counter ∷ around) where
   lacks : mentions own scope ≡ false
@@ -71,8 +71,8 @@ module _ (scope : List Held) (around inside : List Counter) (counter own : Count
   pub loop-appended : (places : Places) (body : Stmt) (start : ℕ) (c2 c3 : List ℕ) → 1 ≤ count → most ≡ 16 → start ≡ length c1
       → AppendsStatement c1 c2 places view inside body → EndsLoop c2 c3 begun (length c2 - start)
       → AppendsLoop c0 c3 places scope around counter count body
-  loop-appended places body start c2 c3 some em es x ends kind turn =
-      loop-arm places scope around inside counter own count kind body begun view reserved start c0 c1 c2 c3 turn some eo lacks
+  loop-appended places body start c2 c3 some em es x ends kind iteration =
+      loop-arm places scope around inside counter own count kind body begun view reserved start c0 c1 c2 c3 iteration some eo lacks
       (subst (λ m. IsBegun c0 c1 m own count scope reserved begun) em begins) one-moves ev es ei x ends
 
   -- its end is too far from its beginning
@@ -86,7 +86,7 @@ module _ (scope : List Held) (around inside : List Counter) (counter own : Count
       (subst (λ w. IsFault (2 ^ 18 ≤ w + end_words begun) ⊥ fault) k e)
 
   -- where iterations collect their pixels
-  pub collected-late : (places : Places) (group : Group) (r : ℕ) (body : Stmt) (start : ℕ) (c2 c3 : List ℕ) (fault : CodeFault) → start ≡ length c2
+  pub collected-late : (places : Places) (group : LaneGroup) (r : ℕ) (body : Stmt) (start : ℕ) (c2 c3 : List ℕ) (fault : CodeFault) → start ≡ length c2
       → Collects c2 c3 places view inside group r body → IsFault (2 ^ 18 ≤ length c3 - start + end_words begun) ⊥ fault
       → IsStatementFault places scope (s.For counter count kinds.Vectorized body) fault
   collected-late places group r body start c2 c3 fault es x e =
@@ -95,7 +95,7 @@ module _ (scope : List Held) (around inside : List Counter) (counter own : Count
       collected-long places scope counter count (length x.insns) (moving begun.counter begun.inner.items) body fault x.short one-moves
       (subst (λ w. IsFault (2 ^ 18 ≤ w + end_words begun) ⊥ fault) k e)
 
-  pub collected-loop : (places : Places) (group : Group) (r s0 s1 : ℕ) (body : Stmt) (start : ℕ) (c2 c3 c4 c5 : List ℕ) → count ≡ 4 * registers group
+  pub collected-loop : (places : Places) (group : LaneGroup) (r s0 s1 : ℕ) (body : Stmt) (start : ℕ) (c2 c3 c4 c5 : List ℕ) → count ≡ 4 * registers group
       → most ≡ 16 → start ≡ length c2 → s0 ≡ slot group 0 → s1 ≡ slot group 1 → HoldsVariable view own r
       → Emits c1 c2 (Vector (v.Vsetivli 0 0 (vtype_of group)) ∷ [])
       → Collects c2 c3 places view inside group r body → EndsLoop c3 c4 begun (length c3 - start)
@@ -136,7 +136,7 @@ module _ (scope inner view : List Held) (around inside : List Counter) (counter 
       (subst (λ i. GuardsWords c1 c2 i (variable (numbered (length around))) extent words) ev
       (subst (λ c. GuardsWords c1 c2 view (variable c) extent words) eo guards)) (omega arith)
 
-  -- the test is too far from what stands behind the body
+  -- the test is too far from what stands after the body
   pub split-late : (places : Places) (extent : ℕ) (body : Stmt) (own : Counter) (none words : List ℕ) (fault : CodeFault) → none ≡ []
       → own ≡ numbered (length around) → AppendsStatement none words places view inside body
       → IsFault (2 ^ 18 ≤ length words + 1) (HasNoRegister view (variable own)) fault
@@ -150,7 +150,7 @@ module _ (scope inner view : List Held) (around inside : List Counter) (counter 
       (subst (λ c. IsFault (2 ^ 18 ≤ length words + 1) (HasNoRegister view (variable c)) fault) eo e))
 
   -- where the body's pixel is collected
-  module _ (places : Places) (group : Group) (r extent : ℕ) (body : Stmt) (form : Form) (none words made : List ℕ) (en : none ≡ []) (em : made ≡ words)
+  module _ (places : Places) (group : LaneGroup) (r extent : ℕ) (body : Stmt) (form : AffineForm) (none words made : List ℕ) (en : none ≡ []) (em : made ≡ words)
       (ef : form ≡ variable (numbered (length around))) (x : Collects none words places view inside group r body) where
     inner-made : Collects [] words places inner (counter ∷ around) group r body
     inner-made =

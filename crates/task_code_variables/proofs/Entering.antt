@@ -12,13 +12,13 @@ use Rattle.loop_ir.specs.declared.expressions.Counter.{Counter}
 use Rattle.loop_ir.specs.declared.statements.Whole.{Whole}
 use Rattle.loop_ir.specs.Counters.{Values, with, same_counter}
 use Rattle.loop_ir.specs.Running.{at_most, whole_value}
-use Rattle.multi_hart_logic.specs.Paths.{update}
-use Rattle.multi_hart_logic.proofs.Paths.{update-same, update-other, line-then, stay}
+use Rattle.multi_hart_laws.specs.Paths.{update}
+use Rattle.multi_hart_laws.proofs.Paths.{update-same, update-other, line-then, stay}
 use Rattle.task_code_scalar.specs.Words.{Emits}
 use Rattle.task_code_scalar.proofs.Binding.{whole-small}
 use Rattle.task_code_scalar.proofs.Spelling.{emits_then, emits-none}
 use Rattle.task_code_scalar.proofs.Values.{alu-sets}
-use Rattle.task_code_registers.specs.declared.scopes.Form.{Form}
+use Rattle.task_code_registers.specs.declared.scopes.AffineForm.{AffineForm}
 use Rattle.task_code_registers.specs.declared.scopes.Held.{Held}
 use Rattle.task_code_registers.specs.Emitting.{HoldsVariable, Makes}
 use Rattle.task_code_registers.specs.Registers.{IsPlace, IsSource, address_register, hart_count, hart_number, may_hold, scratch, zero_register}
@@ -229,13 +229,13 @@ whole-made scope around whole r outer inner c0 c1 c2 c3 place other first second
 
 -- ---- in a register that is left
 
-pub split-entered : (scope inner : List Held) (around : List Counter) (whole : Whole) (r : ℕ) (form : Form) (c0 c1 : List ℕ)
+pub split-entered : (scope inner : List Held) (around : List Counter) (whole : Whole) (r : ℕ) (form : AffineForm) (c0 c1 : List ℕ)
     → HoldsAround around scope → IsLeft scope r × (0 < left_count scope) → MakesWhole c0 c1 scope around whole r
     → form ≡ variable (numbered (length around)) → inner ≡ record { register = r; form = form } ∷ scope
     → EntersSplit c0 c1 scope inner around whole
 split-entered scope inner around whole r form c0 c1 holds left x ef ei =
     let own : Held = record { register = r; form = variable (numbered (length around)) } in
-    let is : inner ≡ own ∷ scope = ei ∙ ap (λ (f : Form). record { register = r; form = f } ∷ scope) ef in
+    let is : inner ≡ own ∷ scope = ei ∙ ap (λ (f : AffineForm). record { register = r; form = f } ∷ scope) ef in
     record {
       insns = x.insns;
       emits = x.emits;

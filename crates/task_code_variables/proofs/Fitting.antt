@@ -19,9 +19,9 @@ use Rattle.loop_ir.proofs.Needs.{greatest_store, greatest_sequence, greatest_for
 use Rattle.loop_ir.proofs.Sizes.{whole_sequence, whole_for, whole_bind}
 use Rattle.task_code_scalar.specs.declared.CodeFault.{CodeFault}
 use Rattle.task_code_scalar.specs.declared.CodeFault.TheVariants as faults
-use Rattle.task_code_scalar.specs.declared.places.Places.{Places}
+use Rattle.task_code_scalar.specs.declared.layouts.Places.{Places}
 use Rattle.task_code_scalar.specs.Faults.{IsFault, HasRoom, LieLow, FitsFrame}
-use Rattle.task_code_registers.specs.declared.scopes.Form.{Form}
+use Rattle.task_code_registers.specs.declared.scopes.AffineForm.{AffineForm}
 use Rattle.task_code_registers.specs.declared.scopes.Held.{Held}
 use Rattle.task_code_registers.specs.Scopes.{has_variable, have_registers, is_left, left_below, left_count}
 use Rattle.task_code_loops.specs.Beginning.{HasNoRegister, variable}
@@ -277,7 +277,7 @@ module _ (places : Places) (scope : List Held) where
 
 -- ---- tests
 
-pub tested-faulty : (scope : List Held) (counter : Counter) (form : Form) (words view : List ℕ) (fault : CodeFault) → view ≡ words → form ≡ variable counter
+pub tested-faulty : (scope : List Held) (counter : Counter) (form : AffineForm) (words view : List ℕ) (fault : CodeFault) → view ≡ words → form ≡ variable counter
     → IsFault (2 ^ 18 ≤ length view + 1) (HasNoRegister scope form) fault
     → IsFault (2 ^ 18 ≤ length words + 1) (HasNoRegister scope (variable counter)) fault
 tested-faulty scope counter form words view fault ev ef e =

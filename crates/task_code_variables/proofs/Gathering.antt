@@ -1,4 +1,4 @@
--- What lanes hold behind so many iterations that collect their pixels, and what the instruction leaves that stores them.
+-- What lanes hold after so many iterations that collect their pixels, and what the instruction leaves that stores them.
 use Rattle.std.proofs.Common.{◌≡◌, ℕ, suc, ◌+◌, ◌-◌, ◌^◌, ◌<◌, ◌≤◌, List, [], ◌∷◌, true, refl, ap, ◌∙◌, sym, subst, arith, inl, inr}
 use Rattle.std.specs.Prelude.{◌⊎◌, Option, Some, None}
 use Rattle.std.proofs.lemmas.Bool.{cases_lt}
@@ -14,16 +14,16 @@ use Rattle.halide_pipeline.specs.Pixel.{Planes, reads_of}
 use Rattle.loop_ir.specs.declared.statements.Stmt.{Stmt}
 use Rattle.loop_ir.specs.AtOnce.{Effect, effect}
 use Rattle.loop_ir.specs.Counters.{Values}
-use Rattle.loop_ir.specs.Rounds.{rounds}
-use Rattle.multi_hart_logic.specs.Alone.{World, Keeps}
+use Rattle.loop_ir.specs.LoopLanes.{loop_lanes}
+use Rattle.multi_hart_laws.specs.Alone.{World, Keeps}
 use Rattle.multi_hart.specs.Run.{is_in}
-use Rattle.multi_hart_logic.specs.Paths.{Path, lane, vl_number}
-use Rattle.multi_hart_logic.specs.LaneMemory.{accesses_to, stored_lanes, AllWritable}
-use Rattle.multi_hart_logic.proofs.LaneStores.{stores, stores-write}
-use Rattle.multi_hart_logic.proofs.Rows.{keeps-none}
+use Rattle.multi_hart_laws.specs.Paths.{Path, lane, vl_number}
+use Rattle.multi_hart_laws.specs.LaneMemory.{accesses_to, stored_lanes, AllWritable}
+use Rattle.multi_hart_laws.proofs.LaneStores.{stores, stores-write}
+use Rattle.multi_hart_laws.proofs.Rows.{keeps-none}
 use Rattle.task_code_scalar.specs.Layout.{func_point, address_of, IsOf}
 use Rattle.task_code_scalar.specs.Doing.{Setting, IsSetting, IsAmong, AreRun, HoldsFuncs}
-use Rattle.task_code_lanes.specs.declared.groups.Group.{Group}
+use Rattle.task_code_lanes.specs.declared.groups.LaneGroup.{LaneGroup}
 use Rattle.task_code_lanes.specs.Groups.{registers, slot}
 use Rattle.task_code_lanes.specs.Leaving.{HasLanes}
 use Rattle.task_code_lanes.proofs.Effects.{HitBy, effect_hits, laid, laid-same, laid-cut}
@@ -44,14 +44,14 @@ of_some other (Some own) = own
 sum-is : (a s : ℕ) → a ≡ 0 → s < 2 ^ 32 → lanes.add 32 a s ≡ s
 sum-is a s e l = omega (arith, e, l)
 
-module _ (own : Setting) (good : IsSetting own) (group : Group) (body : Stmt) (at : ℕ → Values) where
+module _ (own : Setting) (good : IsSetting own) (group : LaneGroup) (body : Stmt) (at : ℕ → Values) where
   abbrev w : World
   w = own.world
 
   abbrev effects : Planes → ℕ → Option Effect
   effects funcs k = effect (reads_of own.inputs funcs) body (at k)
 
-  -- ---- what lanes hold behind so many iterations
+  -- ---- what lanes hold after so many iterations
 
   -- an iteration's pixel and address are in the lanes with its number
   pub record Holds (funcs : Planes) (k : ℕ) (f : ℕ → ℕ) : Type 0 where
@@ -101,7 +101,7 @@ module _ (own : Setting) (good : IsSetting own) (group : Group) (body : Stmt) (a
   }
 
   -- one more iteration
-  module _ (funcs : Planes) (iterations : ℕ) (up : (k : ℕ) → k + 1 < iterations → (rounds (reads_of own.inputs funcs) body).steps_up (at k) (at (k + 1))
+  module _ (funcs : Planes) (iterations : ℕ) (up : (k : ℕ) → k + 1 < iterations → (loop_lanes (reads_of own.inputs funcs) body).steps_up (at k) (at (k + 1))
       ≡ true) (i : ℕ) (less : i < iterations) (f : ℕ → ℕ) (a : Gathered funcs i f) where
     last-or : (j : ℕ) → j < suc i → (j < i) ⊎ (j ≡ i)
     last-or j b = elim (cases_lt j i) [ inl l ↦ inl l | inr m ↦ inr (omega (arith, b, m)) ]
@@ -227,7 +227,7 @@ module _ (own : Setting) (good : IsSetting own) (group : Group) (body : Stmt) (a
 
     hit : (k : ℕ) → k < m → HitBy (effects funcs) n func (x k) (y k)
     hit k b = record {
-      round = k;
+      lane = k;
       below = (let q = a.few in omega (arith, b, q));
       stored = record { func = func; x = x k; y = y k; pixel = pixel k };
       is = sym (same-pixels k b);
@@ -237,11 +237,11 @@ module _ (own : Setting) (good : IsSetting own) (group : Group) (body : Stmt) (a
     }
 
     among : (i j : ℕ) → HitBy (effects funcs) n func i j → IsAmong m x y i j
-    among i j h = elim (cases_lt h.round m) [
+    among i j h = elim (cases_lt h.lane m) [
       | inl b ↦
-          let e = made-is h.round h.stored h.is in
-          record { number = h.round; below = b; x_is = ap (λ (e : Effect). e.x) e ∙ h.x_is; y_is = ap (λ (e : Effect). e.y) e ∙ h.y_is }
-      | inr q ↦ absurd (none-some (sym (a.none h.round q h.below) ∙ h.is))
+          let e = made-is h.lane h.stored h.is in
+          record { number = h.lane; below = b; x_is = ap (λ (e : Effect). e.x) e ∙ h.x_is; y_is = ap (λ (e : Effect). e.y) e ∙ h.y_is }
+      | inr q ↦ absurd (none-some (sym (a.none h.lane q h.below) ∙ h.is))
     ]
 
     are-run : 1 ≤ m → own.in_runs func ≡ true → AreRun own m func x y
@@ -271,16 +271,16 @@ module _ (own : Setting) (good : IsSetting own) (group : Group) (body : Stmt) (a
     last_code = Vector (v.StoreElements Bits32 (slot group 0) 0 (addressings.Indexed (slot group 1)) true) ∷ []
 
     touches : (i j byte : ℕ) (g : ℕ) → HitBy (effects funcs) n g i j → IsOf w own.places g i j byte → is_in byte (touched (accesses_to Word m spots)) ≡ true
-    touches i j byte g h is = elim (cases_lt h.round m) [
+    touches i j byte g h is = elim (cases_lt h.lane m) [
       | inl b ↦
-          let e = made-is h.round h.stored h.is in
-          let ef : func ≡ g = sym (of.is (at h.round) h.stored h.is) ∙ h.func_is in
+          let e = made-is h.lane h.stored h.is in
+          let ef : func ≡ g = sym (of.is (at h.lane) h.stored h.is) ∙ h.func_is in
           let ex = ap (λ (e : Effect). e.x) e ∙ h.x_is in
           let ey = ap (λ (e : Effect). e.y) e ∙ h.y_is in
-          row-touched own good func m few x y pixel can small h.round byte b
-          (subst (λ z. IsOf w own.places z (x h.round) (y h.round) byte) (sym ef) (subst (λ z. IsOf w own.places g z (y h.round) byte) (sym ex)
+          row-touched own good func m few x y pixel can small h.lane byte b
+          (subst (λ z. IsOf w own.places z (x h.lane) (y h.lane) byte) (sym ef) (subst (λ z. IsOf w own.places g z (y h.lane) byte) (sym ex)
           (subst (λ z. IsOf w own.places g i z byte) (sym ey) is)))
-      | inr q ↦ absurd (none-some (sym (a.none h.round q h.below) ∙ h.is))
+      | inr q ↦ absurd (none-some (sym (a.none h.lane q h.below) ∙ h.is))
     ]
 
     after-all : laid own.points pixels_at m funcs ≡ laid own.points (effects funcs) n funcs

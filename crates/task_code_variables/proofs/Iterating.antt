@@ -21,17 +21,17 @@ use Rattle.loop_ir.specs.Soundness.{is_sound, store_loads}
 use Rattle.loop_ir.proofs.AtOnce.{effect_store, effect_bind}
 use Rattle.loop_ir.proofs.Sizes.{whole_bind, whole_store}
 use Rattle.loop_ir.proofs.Sound.{sound_bind, sound_store}
-use Rattle.multi_hart_logic.specs.Paths.{Path, Stand, end, lane}
-use Rattle.multi_hart_logic.proofs.Paths.{line-then, stand-front, stand-back, end-append}
-use Rattle.task_code_scalar.specs.declared.places.Places.{Places}
+use Rattle.multi_hart_laws.specs.Paths.{Path, Stand, end, lane}
+use Rattle.multi_hart_laws.proofs.Paths.{line-then, stand-front, stand-back, end-append}
+use Rattle.task_code_scalar.specs.declared.layouts.Places.{Places}
 use Rattle.task_code_scalar.specs.Code.{address, place_of}
 use Rattle.task_code_scalar.specs.Doing.{Setting, IsSetting, SoundIn, HoldsFuncs}
 use Rattle.task_code_scalar.proofs.Binding.{whole-small}
 use Rattle.task_code_scalar.proofs.Spelling.{emits_then}
-use Rattle.task_code_lanes.specs.declared.groups.Group.{Group}
+use Rattle.task_code_lanes.specs.declared.groups.LaneGroup.{LaneGroup}
 use Rattle.task_code_lanes.specs.Groups.{registers}
 use Rattle.task_code_lanes.proofs.Slots.{slot-at, stack-low}
-use Rattle.task_code_registers.specs.declared.scopes.Form.{Form}
+use Rattle.task_code_registers.specs.declared.scopes.AffineForm.{AffineForm}
 use Rattle.task_code_registers.specs.declared.scopes.Held.{Held}
 use Rattle.task_code_registers.specs.Registers.{address_register}
 use Rattle.task_code_registers.specs.Scopes.{AreHolders, IsKept, Knows, are_registers, form_value}
@@ -49,7 +49,7 @@ use Rattle.task_code_variables.proofs.Stores.{fewer-words, sound-renamed}
 
 -- ---- lanes that were the same before
 
-marks-from : (group : Group) (i pixel at : ℕ) (f g after : ℕ → ℕ) → ((q : ℕ) → lane 2 0 ≤ q → g q ≡ f q) → Marks group i pixel at g after
+marks-from : (group : LaneGroup) (i pixel at : ℕ) (f g after : ℕ → ℕ) → ((q : ℕ) → lane 2 0 ≤ q → g q ≡ f q) → Marks group i pixel at g after
     → Marks group i pixel at f after
 marks-from group i pixel at f g after same a = record {
   has = a.has;
@@ -61,7 +61,7 @@ marks-from group i pixel at f g after same a = record {
       ∙ same _ (let o = stack-low group in let l = slot-at group 1 (omega arith) in let n = l.low in omega (arith, o, n));
 }
 
-pub collects-from : (own : Setting) (group : Group) (i : ℕ) (o : Option Effect) (f g after : ℕ → ℕ) → SameLanes f g → CollectsIf own group i o g after
+pub collects-from : (own : Setting) (group : LaneGroup) (i : ℕ) (o : Option Effect) (f g after : ℕ → ℕ) → SameLanes f g → CollectsIf own group i o g after
     → CollectsIf own group i o f after
 collects-from own group i None f g after same a = λ q high. a q high ∙ same q high
 collects-from own group i (Some e) f g after same a = record {
@@ -72,7 +72,7 @@ collects-from own group i (Some e) f g after same a = record {
 
 -- ---- a store
 
-module _ (places : Places) (scope : List Held) (around : List Counter) (group : Group) (r t : ℕ) (store made : Store) (is : IsRenamedStore around store made)
+module _ (places : Places) (scope : List Held) (around : List Counter) (group : LaneGroup) (r t : ℕ) (store made : Store) (is : IsRenamedStore around store made)
     (all : are_registers scope ≡ true) where
   same-address : (own : Setting) (funcs : Planes) (values numbers : Values) → StandFor around values numbers
       → point_address own funcs numbers made ≡ point_address own funcs values store
@@ -132,12 +132,12 @@ module _ (places : Places) (scope : List Held) (around : List Counter) (group : 
 
 -- ---- a split loop's body
 
-module _ (places : Places) (scope inner : List Held) (around : List Counter) (group : Group) (r : ℕ) (counter : Counter) (whole : Whole) (extent : ℕ)
+module _ (places : Places) (scope inner : List Held) (around : List Counter) (group : LaneGroup) (r : ℕ) (counter : Counter) (whole : Whole) (extent : ℕ)
     (body : Stmt) where
   abbrev number : Counter
   number = numbered (length around)
 
-  abbrev form : Form
+  abbrev form : AffineForm
   form = variable number
 
   abbrev within_at : ℕ → Values → Values
@@ -323,6 +323,6 @@ module _ (places : Places) (scope inner : List Held) (around : List Counter) (gr
 
 -- ---- as the emitter calls them
 
-pub collects-as : (places : Places) (scope : List Held) (around : List Counter) (group : Group) (r : ℕ) (own x : Stmt) (c0 c1 : List ℕ) → own ≡ x
+pub collects-as : (places : Places) (scope : List Held) (around : List Counter) (group : LaneGroup) (r : ℕ) (own x : Stmt) (c0 c1 : List ℕ) → own ≡ x
     → Collects c0 c1 places scope around group r x → Collects c0 c1 places scope around group r own
 collects-as places scope around group r own x c0 c1 is made = subst (Collects c0 c1 places scope around group r) (sym is) made

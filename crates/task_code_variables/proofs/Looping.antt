@@ -16,26 +16,26 @@ use Rattle.loop_ir.specs.declared.statements.Stmt.{Stmt}
 use Rattle.loop_ir.specs.declared.statements.Stmt.TheVariants.{For}
 use Rattle.loop_ir.specs.AtOnce.{Effect, effect}
 use Rattle.loop_ir.specs.Counters.{Values, with}
-use Rattle.loop_ir.specs.Rounds.{Rounds, rounds, are_apart, all_step_up, is_round_count, may_be_at_once}
-use Rattle.loop_ir.specs.Running.{turns}
+use Rattle.loop_ir.specs.LoopLanes.{LoopLanes, loop_lanes, are_apart, all_step_up, is_lane_count, may_be_at_once}
+use Rattle.loop_ir.specs.Running.{iterated}
 use Rattle.loop_ir.specs.Sizes.{whole_size}
 use Rattle.loop_ir.specs.Soundness.{is_sound}
-use Rattle.loop_ir.proofs.AtOnce.{in_turn}
-use Rattle.loop_ir.proofs.Rounds.{rounds_for}
+use Rattle.loop_ir.proofs.AtOnce.{in_order}
+use Rattle.loop_ir.proofs.LoopLanes.{lanes_of_loop}
 use Rattle.loop_ir.proofs.Sizes.{whole_for}
 use Rattle.loop_ir.proofs.Sound.{sound_for}
 use Rattle.loop_ir.proofs.Trees.{run_for}
-use Rattle.multi_hart_logic.specs.Alone.{World}
-use Rattle.multi_hart_logic.specs.Paths.{Path, configure, end}
-use Rattle.multi_hart_logic.proofs.Configurations.{configure-at}
-use Rattle.task_code_scalar.specs.declared.places.Places.{Places}
+use Rattle.multi_hart_laws.specs.Alone.{World}
+use Rattle.multi_hart_laws.specs.Paths.{Path, configure, end}
+use Rattle.multi_hart_laws.proofs.Configurations.{configure-at}
+use Rattle.task_code_scalar.specs.declared.layouts.Places.{Places}
 use Rattle.task_code_scalar.specs.Doing.{Setting, IsSetting, SoundIn, HoldsFuncs}
 use Rattle.task_code_scalar.specs.Fitting.{total}
 use Rattle.task_code_scalar.specs.Words.{Emits}
-use Rattle.task_code_scalar.proofs.Looping.{each-turn}
+use Rattle.task_code_scalar.proofs.Looping.{each-iteration}
 use Rattle.task_code_scalar.proofs.Spelling.{emits_then}
 use Rattle.task_code_scalar.proofs.Tracing.{hit-for}
-use Rattle.task_code_lanes.specs.declared.groups.Group.{Group}
+use Rattle.task_code_lanes.specs.declared.groups.LaneGroup.{LaneGroup}
 use Rattle.task_code_lanes.specs.Groups.{registers, slot, vtype_of}
 use Rattle.task_code_lanes.proofs.Configured.{supported, few-lanes, has-lanes, configured-others}
 use Rattle.task_code_lanes.proofs.Effects.{effect_hits, laid}
@@ -49,14 +49,14 @@ use Rattle.task_code_registers.specs.Scopes.{AreHolders, IsKept, Knows, are_regi
 use Rattle.task_code_registers.proofs.Advancing.{scopes-stay}
 use Rattle.task_code_registers.proofs.Going.{Does, Marked, no_hits, still, went-hits, went-is}
 use Rattle.task_code_registers.proofs.Knowing.{kept-low, knows-still, knows-zero, may-hold}
-use Rattle.task_code_loops.specs.declared.beginning.Begun.{Begun}
+use Rattle.task_code_loops.specs.declared.beginning.BegunLoop.{BegunLoop}
 use Rattle.task_code_loops.specs.Beginning.{IsBegun}
-use Rattle.task_code_loops.specs.Ending.{EndsLoop, Turned}
+use Rattle.task_code_loops.specs.Ending.{EndsLoop, Advanced}
 use Rattle.task_code_loops.proofs.Knowledge.{knows-with, stands-at}
 use Rattle.task_code_loops.proofs.Repeating.{loop-goes}
 use Rattle.task_code_loops.proofs.Returning.{emits-longer}
 use Rattle.task_code_values.proofs.Saving.{did-went, does-then}
-use Rattle.task_code_runs.specs.AtOnce.{MayRun}
+use Rattle.task_code_vector_loops.specs.AtOnce.{MayRun}
 use Rattle.task_code_variables.specs.Collecting.{Collects, CollectsIf}
 use Rattle.task_code_variables.specs.Renaming.{StandFor, numbered}
 use Rattle.task_code_variables.specs.Statements.{AppendsStatement}
@@ -64,10 +64,10 @@ use Rattle.task_code_variables.proofs.Entering.{kept-variable}
 use Rattle.task_code_variables.proofs.Gathering.{Gathered, gathered-stay, grows, stored-does}
 use Rattle.task_code_variables.proofs.Nesting.{room-vector, stand-with}
 
-no-turns : (n : ℕ) (funcs : Planes) → turns n (λ (i : ℕ) (p : Planes). p) funcs ≡ funcs
-unfolding turns
-no-turns zero funcs = refl
-no-turns (suc n) funcs = no-turns n funcs
+no-iterations : (n : ℕ) (funcs : Planes) → iterated n (λ (i : ℕ) (p : Planes). p) funcs ≡ funcs
+unfolding iterated
+no-iterations zero funcs = refl
+no-iterations (suc n) funcs = no-iterations n funcs
 
 zero-least : (n : ℕ) → min 0 n ≡ 0
 zero-least n = omega arith
@@ -82,7 +82,7 @@ lanes-steady counter (own ∷ others) q all high =
     let low = m.high in
     ((λ h e. omega (arith, e, high, low)), lanes-steady counter others q k.1 high)
 
-module _ (places : Places) (scope : List Held) (around : List Counter) (group : Group) (counter : Counter) (body : Stmt) (begun : Begun) (r : ℕ)
+module _ (places : Places) (scope : List Held) (around : List Counter) (group : LaneGroup) (counter : Counter) (body : Stmt) (begun : BegunLoop) (r : ℕ)
     (reserved : ℕ) (c0 c1 c2 c3 c4 c5 : List ℕ)
     (none : mentions (numbered (length around)) scope ≡ false)
     (begins : IsBegun c0 c1 16 (numbered (length around)) (4 * registers group) scope reserved begun)
@@ -136,30 +136,30 @@ module _ (places : Places) (scope : List Held) (around : List Counter) (group : 
     inner-holders = begins.enters.holders holders
 
     each-sound : (k : ℕ) → k < count → SoundIn own body (at k)
-    each-sound k l p words = each-turn count (λ turn. is_sound (reads_of own.inputs p) own.written own.loaded body (at turn))
+    each-sound k l p words = each-iteration count (λ iteration. is_sound (reads_of own.inputs p) own.written own.loaded body (at iteration))
         (sym (sound_for (reads_of own.inputs p) own.written own.loaded counter count Vectorized body values) ∙ may.sound p words) k l
 
     abbrev effect_of : Planes → ℕ → Option Effect
     effect_of p k = effect (reads_of own.inputs p) body (at k)
 
     record Apart : Type 0 where
-      one : (rounds (reads_of own.inputs funcs) body).is_one_store ≡ true
-      apart : are_apart (rounds (reads_of own.inputs funcs) body) at count ≡ true
-      up : all_step_up (rounds (reads_of own.inputs funcs) body) at count ≡ true
+      one : (loop_lanes (reads_of own.inputs funcs) body).is_one_store ≡ true
+      apart : are_apart (loop_lanes (reads_of own.inputs funcs) body) at count ≡ true
+      up : all_step_up (loop_lanes (reads_of own.inputs funcs) body) at count ≡ true
 
     apart-parts : may_be_at_once (reads_of own.inputs funcs) (For counter count Vectorized body) values ≡ true → Apart
     apart-parts once_all =
-        let r = rounds (reads_of own.inputs funcs) body in
-        let e = sym (ap (λ (own : Rounds). own.may_be_at_once values) (rounds_for (reads_of own.inputs funcs) counter count Vectorized body)) ∙ once_all in
-        let a = and_parts (is_round_count count && (r.is_one_store && (are_apart r at count && all_step_up r at count))) _ e in
-        let b = and_parts (is_round_count count) _ a.0 in
+        let r = loop_lanes (reads_of own.inputs funcs) body in
+        let e = sym (ap (λ (own : LoopLanes). own.may_be_at_once values) (lanes_of_loop (reads_of own.inputs funcs) counter count Vectorized body)) ∙ once_all in
+        let a = and_parts (is_lane_count count && (r.is_one_store && (are_apart r at count && all_step_up r at count))) _ e in
+        let b = and_parts (is_lane_count count) _ a.0 in
         let d = and_parts r.is_one_store (are_apart r at count && all_step_up r at count) b.1 in
         let g = and_parts (are_apart r at count) (all_step_up r at count) d.1 in
         record { one = d.0; apart = g.0; up = g.1 }
 
     module _ (facts : Apart) where
-      steps : (k : ℕ) → k + 1 < count → (rounds (reads_of own.inputs funcs) body).steps_up (at k) (at (k + 1)) ≡ true
-      steps k b = each-turn (count - 1) (λ round. (rounds (reads_of own.inputs funcs) body).steps_up (at round) (at (round + 1))) facts.up k (omega (arith, b))
+      steps : (k : ℕ) → k + 1 < count → (loop_lanes (reads_of own.inputs funcs) body).steps_up (at k) (at (k + 1)) ≡ true
+      steps k b = each-iteration (count - 1) (λ lane. (loop_lanes (reads_of own.inputs funcs) body).steps_up (at lane) (at (lane + 1))) facts.up k (omega (arith, b))
 
       -- what is so before an iteration, where buffers hold what they held at first
       record Before (p : Planes) (i : ℕ) (g : ℕ → ℕ) : Type 0 where
@@ -167,7 +167,7 @@ module _ (places : Places) (scope : List Held) (around : List Counter) (group : 
         knows : Knows hart inner (with number i numbers) g
         gathered : Gathered own good group body at funcs i g
 
-      -- and behind it
+      -- and after it
       record Behind (p : Planes) (i : ℕ) (g : ℕ → ℕ) : Type 0 where
         same : p ≡ funcs
         knows : Knows hart inner (with number i numbers) g
@@ -207,11 +207,11 @@ module _ (places : Places) (scope : List Held) (around : List Counter) (group : 
           small : (n : ℕ) → n < 16 → n % 2 ^ 32 ≡ n
           small n b = omega (arith, b)
 
-      turned : (i : ℕ) (g : ℕ → ℕ) (m : List ℕ) (p : Planes) → i < count → length m ≡ w.size → Behind p i g
-          → Turned w (IsKept scope) (Before p (suc i)) count x.insns ends.insns i (ends.cost i) g m
-      turned i g m p l size a =
+      advanced : (i : ℕ) (g : ℕ → ℕ) (m : List ℕ) (p : Planes) → i < count → length m ≡ w.size → Behind p i g
+          → Advanced w (IsKept scope) (Before p (suc i)) count x.insns ends.insns i (ends.cost i) g m
+      advanced i g m p l size a =
           let ec = begins.counter_is in
-          let t = ends.turned w hart numbers x.insns i g m long inner-holders (let e = begins.count_is in omega (arith, l, e)) size
+          let t = ends.advanced w hart numbers x.insns i g m long inner-holders (let e = begins.count_is in omega (arith, l, e)) size
           (subst (λ c. Knows hart inner (with c i numbers) g) (sym ec) a.knows) in
           record {
             after = t.after;
@@ -265,13 +265,13 @@ module _ (places : Places) (scope : List Held) (around : List Counter) (group : 
           };
         }
 
-        three : Marked own (Before (turns count (λ i p. p) funcs) count) looped (λ z. z) (λ z. end z looped)
-            (total count (λ i. once numbers i + ends.cost i)) after1 memory (IsKept scope) (turns count (λ i p. p) funcs) no_hits
-        three = loop-goes own (IsKept scope) Before Behind count x.insns ends.insns (once numbers) ends.cost (λ i p. p) (λ i p. no_hits) iteration turned
+        three : Marked own (Before (iterated count (λ i p. p) funcs) count) looped (λ z. z) (λ z. end z looped)
+            (total count (λ i. once numbers i + ends.cost i)) after1 memory (IsKept scope) (iterated count (λ i p. p) funcs) no_hits
+        three = loop-goes own (IsKept scope) Before Behind count x.insns ends.insns (once numbers) ends.cost (λ i p. p) (λ i p. no_hits) iteration advanced
             (λ i p. no_hits) (λ p func j k h. h) (λ i p func j k h. inl h) some after1 memory funcs holds first
 
         abbrev done : Does own looped (total count (λ i. once numbers i + ends.cost i)) after1 memory (IsKept scope) funcs no_hits
-        done = went-is own refl (no-turns count funcs) three.went
+        done = went-is own refl (no-iterations count funcs) three.went
 
         gathered : Gathered own good group body at funcs count done.after
         gathered = three.mark.gathered
@@ -310,7 +310,7 @@ module _ (places : Places) (scope : List Held) (around : List Counter) (group : 
         let at = λ (k : ℕ). with counter k values in
         let facts = apart-parts own good at-places values numbers stand holders may funcs (may.at_once funcs holds.are_words) in
         let same = run_for own.points own.inputs counter count Vectorized body values funcs
-        ∙ in_turn own.points own.inputs body at funcs count facts.one facts.apart in
+        ∙ in_order own.points own.inputs body at funcs count facts.one facts.apart in
         did-went (went-hits own (λ func i j h. hits-at-once own.points own.inputs body at funcs facts.one count facts.apart func i j
         (sym (hit-for own.points own.inputs func i j counter count Vectorized body values funcs) ∙ h))
         (went-is own refl (sym same) (stores own good at-places values numbers stand holders may funcs facts f memory holds knows)));

@@ -9,16 +9,16 @@ use Rattle.rv_insn.specs.declared.vector_instructions.VectorInsn.TheVariants as 
 use Rattle.rv_insn.specs.declared.vector_operations.CompareVxOp.TheVariants as compare_vxs
 use Rattle.hart_core.specs.Scalar.{one_if}
 use Rattle.vector_unit.specs.Vector.{most_elements}
-use Rattle.multi_hart_logic.specs.Alone.{World}
-use Rattle.multi_hart_logic.specs.Paths.{Line, configure, update, lane, bit}
-use Rattle.multi_hart_logic.proofs.Paths.{line-then, update-other}
-use Rattle.multi_hart_logic.proofs.Configurations.{configure-by}
-use Rattle.multi_hart_logic.proofs.MaskRows as masks
-use Rattle.multi_hart_logic.proofs.VectorRows as rows
+use Rattle.multi_hart_laws.specs.Alone.{World}
+use Rattle.multi_hart_laws.specs.Paths.{Line, configure, update, lane, bit}
+use Rattle.multi_hart_laws.proofs.Paths.{line-then, update-other}
+use Rattle.multi_hart_laws.proofs.Configurations.{configure-by}
+use Rattle.multi_hart_laws.proofs.MaskRows as masks
+use Rattle.multi_hart_laws.proofs.VectorRows as rows
 use Rattle.task_code_scalar.specs.Words.{Emits}
 use Rattle.task_code_scalar.proofs.Spelling.{emits_then}
 use Rattle.task_code_scalar.proofs.Values.{imm-sets, Sets as OneSets}
-use Rattle.task_code_lanes.specs.declared.groups.Group.{Group}
+use Rattle.task_code_lanes.specs.declared.groups.LaneGroup.{LaneGroup}
 use Rattle.task_code_lanes.specs.Groups.{registers, slot, vtype_of}
 use Rattle.task_code_lanes.specs.Leaving.{HasLanes}
 use Rattle.task_code_lanes.proofs.Slots.{SlotLies}
@@ -48,13 +48,13 @@ unmarked-is : (k i x y : ℕ) → k ≢ i → (if one_if (k == i) == 0 then x el
 unmarked-is k i x y n = let t : (k == i) ≡ false = grind (arith, nat_tests, n) in ap (λ b. if one_if b == 0 then x else y) t
 
 -- a test of lanes' numbers, and what goes by it
-abbrev collecting : Group → ℕ → ℕ → List Insn
+abbrev collecting : LaneGroup → ℕ → ℕ → List Insn
 collecting group r s =
     AluImm alu_imms.Addi 14 r (pos 1) ∷ Vector (v.Vsetvli 0 14 (vtype_of group)) ∷ Vector (v.ElementNumbers (slot group 2) true)
     ∷ Vector (v.CompareVx compare_vxs.Vmseq 0 (slot group 2) r true) ∷ Vector (v.MergeVx (slot group 0) (slot group 0) s)
     ∷ Vector (v.MergeVx (slot group 1) (slot group 1) 15) ∷ []
 
-module _ (w : World) (m : List ℕ) (l : length m ≡ w.size) (group : Group) where
+module _ (w : World) (m : List ℕ) (l : length m ≡ w.size) (group : LaneGroup) where
   abbrev g : ℕ
   g = registers group
 
@@ -182,7 +182,7 @@ module _ (w : World) (m : List ℕ) (l : length m ≡ w.size) (group : Group) wh
     first0 : (k : ℕ) → k < suc i → i6.after (lane s0 k) ≡ (if one_if (k == i) == 0 then f (lane s0 k) else pixel)
     first0 k b = i6.below (lane s0 k) (let e = lies0.next in omega (arith, e, b, few)) ∙ i5.value k b
 
-    -- the code behind each step
+    -- the code after each step
     abbrev code6 : List Insn
     code6 = Vector (v.MergeVx s1 s1 15) ∷ []
 
@@ -217,7 +217,7 @@ module _ (w : World) (m : List ℕ) (l : length m ≡ w.size) (group : Group) wh
     }
 
 -- as the emitter appends it, with where the groups begin
-pub puts-into-lane : (group : Group) (r s pixels addresses numbers : ℕ) (c0 c1 c2 c3 c4 c5 c6 : List ℕ) → r < 32 → s < 32 → numbers ≡ slot group 2
+pub puts-into-lane : (group : LaneGroup) (r s pixels addresses numbers : ℕ) (c0 c1 c2 c3 c4 c5 c6 : List ℕ) → r < 32 → s < 32 → numbers ≡ slot group 2
     → pixels ≡ slot group 0 → addresses ≡ slot group 1 → Emits c0 c1 (AluImm alu_imms.Addi 14 r (pos 1) ∷ [])
     → Emits c1 c2 (Vector (v.Vsetvli 0 14 (vtype_of group)) ∷ []) → Emits c2 c3 (Vector (v.ElementNumbers numbers true) ∷ [])
     → Emits c3 c4 (Vector (v.CompareVx compare_vxs.Vmseq 0 numbers r true) ∷ []) → Emits c4 c5 (Vector (v.MergeVx pixels pixels s) ∷ [])

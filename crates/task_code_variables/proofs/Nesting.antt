@@ -1,4 +1,4 @@
--- Statements one behind the other, loops, and split loops, where registers hold loop variables alone.
+-- Statements one after the other, loops, and split loops, where registers hold loop variables alone.
 use Rattle.std.proofs.Common.{◌≡◌, ℕ, zero, suc, ◌+◌, ◌*◌, ◌-◌, ◌<◌, ◌≤◌, List, [], ◌∷◌, ◌++◌, length, length-append, Bool, true, false, refl, ap, ◌∙◌}
 use Rattle.std.proofs.Common.{sym, subst, arith, inl, inr}
 use Rattle.std.specs.Prelude.{◌==◌, if◌then◌else◌, nat_lt}
@@ -12,19 +12,19 @@ use Rattle.loop_ir.specs.declared.statements.Stmt.{Stmt}
 use Rattle.loop_ir.specs.declared.statements.Stmt.TheVariants as s
 use Rattle.loop_ir.specs.declared.statements.Whole.{Whole}
 use Rattle.loop_ir.specs.Counters.{Values, with, same_counter}
-use Rattle.loop_ir.specs.Rounds.{is_vectorized}
-use Rattle.loop_ir.specs.Running.{run, turns, whole_value, at_most}
+use Rattle.loop_ir.specs.LoopLanes.{is_vectorized}
+use Rattle.loop_ir.specs.Running.{run, iterated, whole_value, at_most}
 use Rattle.loop_ir.specs.Sizes.{is_laid_out, loop_room, whole_size}
 use Rattle.loop_ir.proofs.Sizes.{whole_sequence, whole_for, whole_bind}
 use Rattle.loop_ir.proofs.Trees.{run_sequence, run_for, run_bind}
-use Rattle.multi_hart_logic.proofs.Paths.{stay}
-use Rattle.task_code_scalar.specs.declared.places.Places.{Places}
+use Rattle.multi_hart_laws.proofs.Paths.{stay}
+use Rattle.task_code_scalar.specs.declared.layouts.Places.{Places}
 use Rattle.task_code_scalar.specs.Doing.{stored_points}
 use Rattle.task_code_scalar.specs.Fitting.{total}
 use Rattle.task_code_scalar.proofs.Binding.{whole-small}
 use Rattle.task_code_scalar.proofs.Spelling.{emits_then, emits-none}
 use Rattle.task_code_scalar.proofs.Tracing.{hit, hit-sequence, hit-for, hit-bind}
-use Rattle.task_code_registers.specs.declared.scopes.Form.{Form}
+use Rattle.task_code_registers.specs.declared.scopes.AffineForm.{AffineForm}
 use Rattle.task_code_registers.specs.declared.scopes.Held.{Held}
 use Rattle.task_code_registers.specs.Doing.{Did}
 use Rattle.task_code_registers.specs.Holding.{mentions, moving}
@@ -32,7 +32,7 @@ use Rattle.task_code_registers.specs.Scopes.{IsKept, Knows, form_value}
 use Rattle.task_code_registers.specs.Strides.{has_counter}
 use Rattle.task_code_registers.proofs.Going.{still, went-hits}
 use Rattle.task_code_registers.proofs.Looping.{did-went}
-use Rattle.task_code_loops.specs.declared.beginning.Begun.{Begun}
+use Rattle.task_code_loops.specs.declared.beginning.BegunLoop.{BegunLoop}
 use Rattle.task_code_loops.specs.Beginning.{IsBegun, variable}
 use Rattle.task_code_loops.specs.Ending.{EndsLoop, MakesLoop, end_words}
 use Rattle.task_code_loops.specs.Guarding.{GuardsWords, stored_if}
@@ -80,7 +80,7 @@ stand-with around counter values numbers v stand other = by-test (same_counter o
     by-test true = sym (stands-at (numbered (length around)) v numbers)
     by-test false = stand other ∙ sym (value-outside around numbers (length around) v other (omega arith))
 
--- ---- one behind the other
+-- ---- one after the other
 
 pub sequence-appends : (places : Places) (scope : List Held) (around : List Counter) (first second : Stmt) (c0 c1 c2 : List ℕ)
     → AppendsStatement c0 c1 places scope around first → AppendsStatement c1 c2 places scope around second
@@ -132,7 +132,7 @@ least-times : (count n : ℕ) → 1 ≤ count → n ≤ count * n
 least-times zero n some = absurd (omega (arith, some))
 least-times (suc k) n some = let e = suc-mul k n in omega (arith, e)
 
--- the code of a loop in turn is no longer than what it asks for, of whichever kind it is
+-- the code of a serial loop is no longer than what it asks for, of whichever kind it is
 pub room-for : (laid : Bool) (count body : ℕ) → 1 ≤ count → body + 23 ≤ loop_room laid count body
 room-for false count body some = omega arith
 room-for true count body some =
@@ -146,7 +146,7 @@ room-vector count body = omega arith
 
 pub none-appends : (places : Places) (scope : List Held) (around : List Counter) (counter : Counter) (count : ℕ) (kind : LoopKind) (body : Stmt) (c : List ℕ)
     → count ≡ 0 → AppendsStatement c c places scope around (s.For counter count kind body)
-unfolding turns
+unfolding iterated
 none-appends places scope around counter count kind body c none =
     subst (λ n. AppendsStatement c c places scope around (s.For counter n kind body)) (sym none) (record {
       insns = [];
@@ -189,7 +189,7 @@ module _ (places : Places) (scope inner : List Held) (around : List Counter) (co
   }
 
 pub loop-arm : (places : Places) (scope : List Held) (around inside : List Counter) (counter own : Counter) (count : ℕ) (kind : LoopKind) (body : Stmt)
-    (begun : Begun) (view : List Held) (reserved start : ℕ) (c0 c1 c2 c3 : List ℕ) → is_vectorized kind ≡ false → 1 ≤ count
+    (begun : BegunLoop) (view : List Held) (reserved start : ℕ) (c0 c1 c2 c3 : List ℕ) → is_vectorized kind ≡ false → 1 ≤ count
     → own ≡ numbered (length around) → mentions own scope ≡ false
     → IsBegun c0 c1 16 own count scope reserved begun → moving begun.counter begun.inner.items ≤ 1
     → view ≡ begun.inner.items → start ≡ length c1 → inside ≡ counter ∷ around → AppendsStatement c1 c2 places view inside body
@@ -208,7 +208,7 @@ module _ (places : Places) (scope inner : List Held) (around : List Counter) (co
   abbrev number : Counter
   number = numbered (length around)
 
-  abbrev form : Form
+  abbrev form : AffineForm
   form = variable number
 
   -- the value by numbered variables

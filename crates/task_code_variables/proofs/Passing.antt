@@ -1,4 +1,4 @@
--- Rounds of one store: they store to one Func, and those that guards let pass are the first ones.
+-- Lanes of one store: they store to one Func, and those that guards let pass are the first ones.
 use Rattle.std.proofs.Common.{◌≡◌, ℕ, zero, suc, ◌+◌, ◌<◌, ◌≤◌, Bool, true, false, refl, ap, ◌∙◌, sym, subst, arith, cond}
 use Rattle.std.specs.Prelude.{◌&&◌, if◌then◌else◌, nat_le, nat_lt, Option, Some, None}
 use Rattle.std.proofs.lemmas.Bool.{and_parts}
@@ -15,10 +15,10 @@ use Rattle.loop_ir.specs.declared.statements.Stmt.TheVariants as s
 use Rattle.loop_ir.specs.AtOnce.{Effect, effect}
 use Rattle.loop_ir.specs.Counters.{Values, with}
 use Rattle.loop_ir.specs.Expressions.{value}
-use Rattle.loop_ir.specs.Rounds.{Rounds, rounds}
+use Rattle.loop_ir.specs.LoopLanes.{LoopLanes, loop_lanes}
 use Rattle.loop_ir.specs.Running.{whole_value}
 use Rattle.loop_ir.proofs.AtOnce.{effect_store, effect_sequence, effect_for, effect_bind}
-use Rattle.loop_ir.proofs.Rounds.{rounds_bind}
+use Rattle.loop_ir.proofs.LoopLanes.{lanes_bind}
 
 none-some : {own : Effect} → None ≡ Some own → ⊥
 none-some e = absurd (cc e)
@@ -73,9 +73,9 @@ module _ (reads : Reads) where
 
   -- ---- the first ones
 
-  -- What stores in the next round stores in this one.
+  -- What stores in the next lane stores in this one.
   abbrev PassesOn : Stmt → Type 0
-  PassesOn statement = (now next : Values) → (rounds reads statement).steps_up now next ≡ true → Stored (effect reads statement next)
+  PassesOn statement = (now next : Values) → (loop_lanes reads statement).steps_up now next ≡ true → Stored (effect reads statement next)
       → Stored (effect reads statement now)
 
   never : (statement : Stmt) → ((values : Values) → effect reads statement values ≡ None) → PassesOn statement
@@ -105,16 +105,16 @@ module _ (reads : Reads) where
       next_in = with counter (whole_value whole next) next
 
       both : Bool
-      both = nat_le (whole_value whole now) (whole_value whole next) && (rounds reads body).steps_up now_in next_in
+      both = nat_le (whole_value whole now) (whole_value whole next) && (loop_lanes reads body).steps_up now_in next_in
 
       up-is : (if nat_lt (whole_value whole next) extent then both else true) ≡ true
-      up-is = sym (ap (λ (r : Rounds). r.steps_up now next) (rounds_bind reads counter whole extent body)) ∙ up
+      up-is = sym (ap (λ (r : LoopLanes). r.steps_up now next) (lanes_bind reads counter whole extent body)) ∙ up
 
       by-next : (t : Bool) → nat_lt (whole_value whole next) extent ≡ t → Stored (cond t (effect reads body next_in) None)
           → Stored (cond (nat_lt (whole_value whole now) extent) (effect reads body now_in) None)
       by-next false e b = absurd (none-some b.is)
       by-next true e b =
-          let k = and_parts (nat_le (whole_value whole now) (whole_value whole next)) ((rounds reads body).steps_up now_in next_in)
+          let k = and_parts (nat_le (whole_value whole now) (whole_value whole next)) ((loop_lanes reads body).steps_up now_in next_in)
           (sym (ap (λ t. if t then both else true) e) ∙ up-is) in
           subst (λ t. Stored (cond t (effect reads body now_in) None)) (sym (up-to (whole_value whole now) (whole_value whole next) extent k.0 e))
           (on now_in next_in k.1 b)
@@ -131,8 +131,8 @@ module _ (reads : Reads) where
   pub passes-on : (statement : Stmt) → PassesOn statement
   passes-on = ind-Stmt PassesOn (λ l t is. subst (λ (k : Stmt-F Stmt). PassesOn (roll-Stmt k)) is (passes-by-layer _ (λ e. e.0) (λ e. e.1) t))
 
-  -- so from any round to those before it
-  pub all-before : (body : Stmt) (at : ℕ → Values) (n : ℕ) → ((k : ℕ) → k + 1 < n → (rounds reads body).steps_up (at k) (at (k + 1)) ≡ true)
+  -- so from any lane to those before it
+  pub all-before : (body : Stmt) (at : ℕ → Values) (n : ℕ) → ((k : ℕ) → k + 1 < n → (loop_lanes reads body).steps_up (at k) (at (k + 1)) ≡ true)
       → (i j : ℕ) → j + i < n → Stored (effect reads body (at (j + i))) → Stored (effect reads body (at j))
   all-before body at n up zero j b a = let e : j + 0 ≡ j = omega arith in subst (λ k. Stored (effect reads body (at k))) e a
   all-before body at n up (suc i) j b a =

@@ -18,7 +18,7 @@ use Rattle.loop_ir.proofs.Runs.{runs_store}
 use Rattle.loop_ir.proofs.Sizes.{whole_store}
 use Rattle.loop_ir.proofs.Sound.{sound_store}
 use Rattle.loop_ir.proofs.Trees.{run_store}
-use Rattle.task_code_scalar.specs.declared.places.Places.{Places}
+use Rattle.task_code_scalar.specs.declared.layouts.Places.{Places}
 use Rattle.task_code_scalar.specs.Doing.{Setting, SoundIn, RunsIn, stored_points}
 use Rattle.task_code_scalar.proofs.Tracing.{hit-store}
 use Rattle.task_code_registers.specs.declared.scopes.Held.{Held}

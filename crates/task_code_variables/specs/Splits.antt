@@ -1,8 +1,8 @@
 -- The values of split loops in registers. This project's own.
 use Rattle.std.specs.Prelude.{◌≡◌, ◌≢◌, ◌⊎◌, ◌<◌, ◌≤◌, ℕ, suc, ◌%◌, ◌^◌, List, ◌∷◌, length, Option}
 use Rattle.rv_insn.specs.declared.instructions.Insn.{Insn}
-use Rattle.multi_hart_logic.specs.Alone.{World}
-use Rattle.multi_hart_logic.specs.Paths.{Line}
+use Rattle.multi_hart_laws.specs.Alone.{World}
+use Rattle.multi_hart_laws.specs.Paths.{Line}
 use Rattle.loop_ir.specs.declared.expressions.Counter.{Counter}
 use Rattle.loop_ir.specs.declared.statements.Whole.{Whole}
 use Rattle.loop_ir.specs.Counters.{Values, with}
@@ -47,7 +47,7 @@ pub record MakesWhole (old new : List ℕ) (scope : List Held) (around : List Co
       → IsLeft scope r → StandFor around values numbers → Knows hart scope numbers f
       → LeavesIn world memory insns f r (whole_value whole values)
 
--- registers of a scope, and the numbers behind the scalar registers, of lanes and their configuration
+-- registers of a scope, and the numbers after the scalar registers, of lanes and their configuration
 abbrev pub IsKeptOrLane : List Held → ℕ → Type 0
 IsKeptOrLane scope q = IsKept scope q ⊎ (32 ≤ q)
 

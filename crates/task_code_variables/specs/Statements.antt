@@ -10,22 +10,22 @@ use Rattle.loop_ir.specs.declared.statements.Stmt.TheVariants as statements
 use Rattle.loop_ir.specs.Counters.{Values}
 use Rattle.loop_ir.specs.Depths.{depth}
 use Rattle.loop_ir.specs.Needs.{greatest_need}
-use Rattle.loop_ir.specs.Rounds.{is_vectorized}
+use Rattle.loop_ir.specs.LoopLanes.{is_vectorized}
 use Rattle.loop_ir.specs.Running.{run}
 use Rattle.loop_ir.specs.Sizes.{whole_size}
 use Rattle.task_code_scalar.specs.declared.CodeFault.{CodeFault}
-use Rattle.task_code_scalar.specs.declared.places.Places.{Places}
+use Rattle.task_code_scalar.specs.declared.layouts.Places.{Places}
 use Rattle.task_code_scalar.specs.Doing.{Setting, IsSetting, HoldsFuncs, stored_points}
 use Rattle.task_code_scalar.specs.Faults.{IsFault, LieLow, HasRoom}
 use Rattle.task_code_scalar.specs.Words.{Emits}
 use Rattle.task_code_registers.specs.declared.scopes.Held.{Held}
 use Rattle.task_code_registers.specs.Doing.{Did}
 use Rattle.task_code_registers.specs.Scopes.{Knows, AreHolders, IsKept, left_count}
-use Rattle.task_code_runs.specs.AtOnce.{MayRun}
+use Rattle.task_code_vector_loops.specs.AtOnce.{MayRun}
 use Rattle.task_code_variables.specs.Renaming.{StandFor}
 
 -- Appended code does a statement, wherever registers hold the scope's forms and numbered variables stand for those of the loops around, and keeps
--- these registers. It has no more words than the statement asks for; in how many turns hangs on the values of loop variables alone.
+-- these registers. It has no more words than the statement asks for; how many turns it takes depends on the values of loop variables alone.
 pub record AppendsStatement (old new : List ℕ) (places : Places) (scope : List Held) (around : List Counter) (statement : Stmt) : Type 0 where
   pub insns : List Insn
   pub emits : Emits old new insns

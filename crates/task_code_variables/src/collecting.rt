@@ -1,5 +1,5 @@
-//! Vectorized loops that collect their pixels: each iteration, in its turn, puts one into a lane, and one instruction
-//! stores them all.
+//! Vectorized loops that collect their pixels: each iteration puts one into a lane, one after the other, and one
+//! instruction stores them all.
 
 ghost use Rattle.std.specs.Prelude.{◌≡◌, ◌<◌, ◌*◌, OnOk, IfErr, true};
 ghost use Rattle.loop_ir.specs.declared.statements.LoopKind.TheVariants.{Vectorized as vectorized};
@@ -17,7 +17,7 @@ use loop_ir::expressions::Counter;
 use loop_ir::statements::{LoopKind, Stmt, Store};
 use rv_insn::AluImmOp;
 use std::alloc::{AllocError, Global};
-use task_code_lanes::groups::Group;
+use task_code_lanes::groups::LaneGroup;
 use task_code_lanes::marks::{configure_none, mark_lane, put_marked};
 use task_code_lanes::vectors::{configure, lane_numbers, store_at};
 use task_code_loops::beginning::begin_loop;
@@ -37,11 +37,11 @@ use task_code_values::stores::prepare_store;
 #[derive(Clone, Copy)]
 pub(crate) struct VectorLoop<'a> {
     pub counter: Counter,
-    pub group: Group,
+    pub group: LaneGroup,
     pub body: &'a Stmt,
 }
 
-/// Whether a statement is one store, behind the values of split loops.
+/// Whether a statement is one store, under the values of split loops.
 #[tactic(auto, unfolding(crate::specs::Collecting::is_one_store))]
 fn is_one_store(statement: &Stmt) -> bool
     ensures { result ≡ spec.is_one_store statement.now }
@@ -55,7 +55,7 @@ fn is_one_store(statement: &Stmt) -> bool
 }
 
 /// The groups in which a loop collects its pixels, if it does.
-pub(crate) fn group_collected(count: u32, kind: LoopKind, body: &Stmt) -> Option<Group>
+pub(crate) fn group_collected(count: u32, kind: LoopKind, body: &Stmt) -> Option<LaneGroup>
     ensures { result ≡ spec.group_collected count kind body.now }
 {
     match kind {
@@ -63,7 +63,7 @@ pub(crate) fn group_collected(count: u32, kind: LoopKind, body: &Stmt) -> Option
         LoopKind::Unrolled => None,
         LoopKind::Vectorized => {
             if is_one_store(body) {
-                Group::of_rounds(count)
+                LaneGroup::of_lanes(count)
             } else {
                 None
             }
@@ -74,7 +74,7 @@ pub(crate) fn group_collected(count: u32, kind: LoopKind, body: &Stmt) -> Option
 /// The lane of these groups whose number, the iteration's, a register holds.
 #[derive(Clone, Copy)]
 struct Lane {
-    group: Group,
+    group: LaneGroup,
     r: u8,
 }
 

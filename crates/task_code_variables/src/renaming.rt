@@ -69,7 +69,7 @@ fn renamed_sum(alloc: Global, around: &[Counter], own: &Linear) -> Result<Linear
     })
 }
 
-/// So it is with an expression behind a pointer.
+/// So it is with an expression in a box.
 #[cycle(renaming)]
 fn renamed_part(alloc: Global, around: &[Counter], e: &Expr) -> Result<Boxed<Expr>, AllocError>
     ensures { IfOk result (IsRenamed around.now e.now) }

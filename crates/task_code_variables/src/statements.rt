@@ -76,7 +76,7 @@ fn emit_numbered(
     Ok(())
 }
 
-/// Appends a loop whose iterations come one behind the other.
+/// Appends a loop whose iterations come one after the other.
 #[cycle(statements)]
 fn emit_iterations(
     alloc: Global,
@@ -142,13 +142,13 @@ fn emit_tested(
 
 /// A loop without its body: its variable, how many iterations it has, and of which kind it is.
 #[derive(Clone, Copy, Debug)]
-pub(crate) struct Loop {
+pub(crate) struct LoopHead {
     pub counter: Counter,
     pub count: u32,
     pub kind: LoopKind,
 }
 
-/// Appends a loop: its iterations collect their pixels where they are to store at once, else they come in turn. A
+/// Appends a loop: its iterations collect their pixels where they are to store at once, else they come in order. A
 /// vectorized loop that isn't of 4, 8 or 16 iterations of one store each is one that nothing asks for (`AtOnceIn`).
 #[cycle(statements)]
 fn emit_loop(
@@ -156,7 +156,7 @@ fn emit_loop(
     code: &mut Code,
     site: &Site<'_>,
     around: &[Counter],
-    own: Loop,
+    own: LoopHead,
     body: &Stmt,
 ) -> Result<(), CodeFault>
     requires { HoldsAround around.now site.now.scope.now }
@@ -165,7 +165,7 @@ fn emit_loop(
     ensures err { IfErr result (IsStatementFault site.now.places.now site.now.scope.now
         (stmts.For own.counter own.count own.kind body.now)) }
 {
-    let Loop {
+    let LoopHead {
         counter,
         count,
         kind,
@@ -190,7 +190,7 @@ fn emit_loop(
 
 /// A loop variable that stands for a split loop, and the number below which its body is run.
 #[derive(Clone, Copy, Debug)]
-pub(crate) struct Split {
+pub(crate) struct TestedSplit {
     pub counter: Counter,
     pub whole: Whole,
     pub extent: u32,
@@ -203,7 +203,7 @@ fn emit_split(
     code: &mut Code,
     site: &Site<'_>,
     around: &[Counter],
-    split: Split,
+    split: TestedSplit,
     body: &Stmt,
 ) -> Result<(), CodeFault>
     requires { HoldsAround around.now site.now.scope.now }
@@ -260,7 +260,7 @@ pub(crate) fn emit_statement(
             Ok(())
         }
         Stmt::For(counter, count, kind, body) => {
-            let own = Loop {
+            let own = LoopHead {
                 counter: *counter,
                 count: *count,
                 kind: *kind,
@@ -269,7 +269,7 @@ pub(crate) fn emit_statement(
             Ok(())
         }
         Stmt::Bind(counter, whole, extent, body) => {
-            let split = Split {
+            let split = TestedSplit {
                 counter: *counter,
                 whole: *whole,
                 extent: *extent,

@@ -11,8 +11,8 @@ use loop_ir::expressions::Counter;
 use loop_ir::statements::Phase;
 use std::alloc::{AllocError, Global};
 use task_code_registers::scopes::Held;
+use task_code_scalar::layouts::Places;
 use task_code_scalar::loops::with_counter;
-use task_code_scalar::places::Places;
 use task_code_scalar::{CodeFault, append};
 use task_code_statements::stages::{Code, CodeStage, add_moved, no_stages};
 use task_code_statements::tasks::{emit_restored, with_drawn};
@@ -69,8 +69,8 @@ fn task_words(alloc: Global, phase: &Phase, places: &Places, ticket: u32) -> Res
 ///
 /// It also adds which of the words it takes for the code of stages inside the phase; no clause speaks of that.
 ///
-/// It finds the task's number in x12 and the hart's in x10, and ends behind its last word, with the addresses of the
-/// ticket word and of the gate word behind it in x13 and x14, 1 in x15 and the number of tasks in x16.
+/// It finds the task's number in x12 and the hart's in x10, and ends after its last word, with the addresses of the
+/// ticket word and of the gate word after it in x13 and x14, 1 in x15 and the number of tasks in x16.
 ///
 /// # Errors
 ///

@@ -2,10 +2,10 @@
 //!
 //! A file is a text of lines. A case begins at `== KIND NAME`; before the first one stand comments (`#`) and empty
 //! lines. A part of a case begins at `-- NAME`, and its text is all lines up to the next part or case, each with its
-//! line feed. Where `in pieces` stands behind the part's name, each line is `COUNT TEXT` and means the text so many
+//! line feed. Where `in pieces` stands after the part's name, each line is `COUNT TEXT` and means the text so many
 //! times, without a line feed; in the text `\n`, `\r`, `\t`, `\s`, `\0` and `\\` stand for a line feed, a carriage
 //! return, a tab, a space, a zero byte and a backslash. A text may stand in hexadecimal too, with `in hexadecimal`
-//! behind the part's name. The last part of each case is named `answer`, and is what the rules say of the case.
+//! after the part's name. The last part of each case is named `answer`, and is what the rules say of the case.
 //!
 //! - [`read_cases`]: the cases of a file's text.
 //! - [`Case::difference`]: an answer beside the one that stands in the file.
@@ -28,13 +28,13 @@ pub struct Case {
 #[derive(Drop)]
 pub struct Part {
     pub name: String,
-    form: Form,
+    form: PartForm,
     pub text: String,
 }
 
 /// How the lines of a part stand for its text.
 #[derive(Debug, Clone, Copy, PartialEq)]
-enum Form {
+enum PartForm {
     Lines,
     Pieces,
     /// The text is the digits of bytes.
@@ -80,8 +80,8 @@ impl Part {
     pub fn bytes(&self, alloc: Global, name: &str) -> Result<Vec<u8>, CaseFault> {
         let text = self.named(name)?;
         match self.form {
-            Form::Hexadecimal => bytes_of(alloc, text),
-            Form::Lines | Form::Pieces => Ok(text.as_bytes().to_vec(alloc)?),
+            PartForm::Hexadecimal => bytes_of(alloc, text),
+            PartForm::Lines | PartForm::Pieces => Ok(text.as_bytes().to_vec(alloc)?),
         }
     }
 }
@@ -155,20 +155,20 @@ fn begun(alloc: Global, heading: &str) -> Result<Part, AllocError> {
 }
 
 /// A part's name and form, as its heading says them.
-fn named_form(heading: &str) -> (&str, Form) {
+fn named_form(heading: &str) -> (&str, PartForm) {
     if let Some(name) = heading.strip_suffix(" in pieces") {
-        return (name, Form::Pieces);
+        return (name, PartForm::Pieces);
     }
     match heading.strip_suffix(" in hexadecimal") {
-        Some(name) => (name, Form::Hexadecimal),
-        None => (heading, Form::Lines),
+        Some(name) => (name, PartForm::Hexadecimal),
+        None => (heading, PartForm::Lines),
     }
 }
 
 impl Part {
     /// Adds a line as it stands, or what its piece says.
     fn take_line(&mut self, alloc: Global, line: &str) -> Result<(), CaseFault> {
-        if self.form == Form::Pieces {
+        if self.form == PartForm::Pieces {
             return push_piece(alloc, &mut self.text, line);
         }
         self.text.push_str(line)?;
@@ -212,7 +212,7 @@ fn unescaped(alloc: Global, piece: &str) -> Result<String, CaseFault> {
     Ok(text)
 }
 
-/// What a letter behind a backslash stands for.
+/// What a letter after a backslash stands for.
 fn escape(letter: char) -> Result<char, CaseFault> {
     match letter {
         'n' => Ok('\n'),

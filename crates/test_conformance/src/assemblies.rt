@@ -1,7 +1,7 @@
 //! Assembly texts, and the lines of words.
 
 use crate::algorithms::push_bytes;
-use crate::failures::Failure;
+use crate::failures::CaseFailure;
 use assembler::assemble;
 use disassembler::write_line;
 use loader::Output;
@@ -9,9 +9,9 @@ use std::alloc::{AllocError, Global};
 use test_cases::Part;
 
 /// What an assembly text becomes: its entry, its words, its bytes and its picture.
-pub fn push_object(alloc: Global, parts: &[Part], out: &mut String) -> Result<(), Failure> {
+pub fn push_object(alloc: Global, parts: &[Part], out: &mut String) -> Result<(), CaseFailure> {
     let [text] = parts else {
-        return Err(Failure::Malformed("not one part"));
+        return Err(CaseFailure::Malformed("not one part"));
     };
     let object = assemble(text.named("text")?, alloc)?;
     let entry = object.entry();
@@ -87,14 +87,14 @@ fn push_output(output: Option<Output>, out: &mut String) -> Result<(), AllocErro
 }
 
 /// The line of each word, which the case has in hexadecimal.
-pub fn push_listing(alloc: Global, parts: &[Part], out: &mut String) -> Result<(), Failure> {
+pub fn push_listing(alloc: Global, parts: &[Part], out: &mut String) -> Result<(), CaseFailure> {
     let [words] = parts else {
-        return Err(Failure::Malformed("not one part"));
+        return Err(CaseFailure::Malformed("not one part"));
     };
     let mut lines = Vec::new(alloc);
     for word in words.named("words")?.lines() {
         let Ok(word) = u32::from_str_radix(word, 16) else {
-            return Err(Failure::Malformed("a line that is no word"));
+            return Err(CaseFailure::Malformed("a line that is no word"));
         };
         write_line(word, &mut lines)?;
     }

@@ -5,7 +5,7 @@ ghost use Rattle.std.specs.List.{All};
 
 use crate::algorithms::push_bytes;
 use crate::devices::{Devices, devices_of};
-use crate::failures::Failure;
+use crate::failures::CaseFailure;
 use crate::invocations::words_of;
 use hrv_command_line::{Invocation, command};
 use hrv_engines::{
@@ -18,10 +18,10 @@ use test_cases::{Part, bytes_of};
 use test_devices::{Page, Tape};
 
 /// The image that a source becomes.
-pub fn push_image(alloc: Global, parts: &[Part], out: &mut String) -> Result<(), Failure> {
+pub fn push_image(alloc: Global, parts: &[Part], out: &mut String) -> Result<(), CaseFailure> {
     let (parts, devices) = devices_of(parts);
     let [source] = parts else {
-        return Err(Failure::Malformed("not one part"));
+        return Err(CaseFailure::Malformed("not one part"));
     };
     let source = source.bytes(alloc, "source")?;
     let mut page = devices.page(alloc)?;
@@ -30,10 +30,10 @@ pub fn push_image(alloc: Global, parts: &[Part], out: &mut String) -> Result<(),
 }
 
 /// The listing of an image.
-pub fn push_lines(alloc: Global, parts: &[Part], out: &mut String) -> Result<(), Failure> {
+pub fn push_lines(alloc: Global, parts: &[Part], out: &mut String) -> Result<(), CaseFailure> {
     let (parts, devices) = devices_of(parts);
     let [image] = parts else {
-        return Err(Failure::Malformed("not one part"));
+        return Err(CaseFailure::Malformed("not one part"));
     };
     let image = bytes_of(alloc, image.named("image")?)?;
     let mut page = devices.page(alloc)?;
@@ -42,10 +42,10 @@ pub fn push_lines(alloc: Global, parts: &[Part], out: &mut String) -> Result<(),
 }
 
 /// The listing of an image with the addresses of its words.
-pub fn push_addresses(alloc: Global, parts: &[Part], out: &mut String) -> Result<(), Failure> {
+pub fn push_addresses(alloc: Global, parts: &[Part], out: &mut String) -> Result<(), CaseFailure> {
     let (parts, devices) = devices_of(parts);
     let [image] = parts else {
-        return Err(Failure::Malformed("not one part"));
+        return Err(CaseFailure::Malformed("not one part"));
     };
     let image = bytes_of(alloc, image.named("image")?)?;
     let mut page = devices.page(alloc)?;
@@ -54,7 +54,7 @@ pub fn push_addresses(alloc: Global, parts: &[Part], out: &mut String) -> Result
 }
 
 /// What a refusal means. Where none is asked about, the version.
-pub fn push_explained(alloc: Global, parts: &[Part], out: &mut String) -> Result<(), Failure> {
+pub fn push_explained(alloc: Global, parts: &[Part], out: &mut String) -> Result<(), CaseFailure> {
     let (parts, devices) = devices_of(parts);
     let [words] = parts else {
         return push_version(alloc, &devices, out);
@@ -68,17 +68,17 @@ pub fn push_explained(alloc: Global, parts: &[Part], out: &mut String) -> Result
 }
 
 /// The version, and the logic.
-fn push_version(alloc: Global, devices: &Devices, out: &mut String) -> Result<(), Failure> {
+fn push_version(alloc: Global, devices: &Devices, out: &mut String) -> Result<(), CaseFailure> {
     let mut page = devices.page(alloc)?;
     let answered = version_bytes(alloc, &mut page);
     push_answer(answered, &page, out)
 }
 
 /// An image in the newest format.
-pub fn push_renewal(alloc: Global, parts: &[Part], out: &mut String) -> Result<(), Failure> {
+pub fn push_renewal(alloc: Global, parts: &[Part], out: &mut String) -> Result<(), CaseFailure> {
     let (parts, devices) = devices_of(parts);
     let [image] = parts else {
-        return Err(Failure::Malformed("not one part"));
+        return Err(CaseFailure::Malformed("not one part"));
     };
     let image = bytes_of(alloc, image.named("image")?)?;
     let mut page = devices.page(alloc)?;
@@ -87,10 +87,10 @@ pub fn push_renewal(alloc: Global, parts: &[Part], out: &mut String) -> Result<(
 }
 
 /// The dump of a machine after a log's turns.
-pub fn push_replay(alloc: Global, parts: &[Part], out: &mut String) -> Result<(), Failure> {
+pub fn push_replay(alloc: Global, parts: &[Part], out: &mut String) -> Result<(), CaseFailure> {
     let (parts, devices) = devices_of(parts);
     let [image, log] = parts else {
-        return Err(Failure::Malformed("not two parts"));
+        return Err(CaseFailure::Malformed("not two parts"));
     };
     let image = bytes_of(alloc, image.named("image")?)?;
     let log = bytes_of(alloc, log.named("log")?)?;
@@ -105,10 +105,10 @@ pub fn push_replay(alloc: Global, parts: &[Part], out: &mut String) -> Result<()
 }
 
 /// What is answered to lines about an image and a log.
-pub fn push_talk(alloc: Global, parts: &[Part], out: &mut String) -> Result<(), Failure> {
+pub fn push_talk(alloc: Global, parts: &[Part], out: &mut String) -> Result<(), CaseFailure> {
     let (parts, devices) = devices_of(parts);
     let [image, log, lines] = parts else {
-        return Err(Failure::Malformed("not three parts"));
+        return Err(CaseFailure::Malformed("not three parts"));
     };
     let image = bytes_of(alloc, image.named("image")?)?;
     let log = bytes_of(alloc, log.named("log")?)?;
@@ -124,11 +124,11 @@ pub fn push_talk(alloc: Global, parts: &[Part], out: &mut String) -> Result<(), 
     push_answer(answered, &page, out)
 }
 
-/// Who wrote what words behind an image and a log ask about.
-pub fn push_blame(alloc: Global, parts: &[Part], out: &mut String) -> Result<(), Failure> {
+/// Who wrote what words after an image and a log ask about.
+pub fn push_blame(alloc: Global, parts: &[Part], out: &mut String) -> Result<(), CaseFailure> {
     let (parts, devices) = devices_of(parts);
     let [image, log, words] = parts else {
-        return Err(Failure::Malformed("not three parts"));
+        return Err(CaseFailure::Malformed("not three parts"));
     };
     let image = bytes_of(alloc, image.named("image")?)?;
     let log = bytes_of(alloc, log.named("log")?)?;
@@ -146,7 +146,7 @@ pub fn push_blame(alloc: Global, parts: &[Part], out: &mut String) -> Result<(),
 }
 
 /// What the words of a command line ask about.
-fn question_of<'a>(alloc: Global, words: &'a [&'a str]) -> Result<Question<'a>, Failure> {
+fn question_of<'a>(alloc: Global, words: &'a [&'a str]) -> Result<Question<'a>, CaseFailure> {
     match command(alloc, words) {
         Ok(Invocation::Blame { words: asked, .. }) => Ok(Question {
             x: asked.x,
@@ -154,7 +154,7 @@ fn question_of<'a>(alloc: Global, words: &'a [&'a str]) -> Result<Question<'a>, 
             address: asked.address,
             with_turns: asked.with_turns,
         }),
-        _ => Err(Failure::Malformed("other words")),
+        _ => Err(CaseFailure::Malformed("other words")),
     }
 }
 
@@ -164,10 +164,10 @@ pub fn push_drawing(
     alloc: Global,
     parts: &[Part],
     out: &mut String,
-) -> Result<(), Failure> {
+) -> Result<(), CaseFailure> {
     let (parts, devices) = devices_of(parts);
     let [algorithm, inputs @ ..] = parts else {
-        return Err(Failure::Malformed("no parts"));
+        return Err(CaseFailure::Malformed("no parts"));
     };
     let algorithm = algorithm.bytes(alloc, "algorithm")?;
     let texts = texts_of(alloc, inputs)?;
@@ -184,7 +184,7 @@ pub fn push_drawing(
 }
 
 /// The bytes of each picture.
-pub fn texts_of(alloc: Global, inputs: &[Part]) -> Result<Vec<Vec<u8>>, Failure> {
+pub fn texts_of(alloc: Global, inputs: &[Part]) -> Result<Vec<Vec<u8>>, CaseFailure> {
     let mut texts = Vec::new(alloc);
     for input in inputs {
         texts.push(input.bytes(alloc, "picture")?)?;
@@ -197,7 +197,7 @@ pub fn pictures_of<'a>(
     alloc: Global,
     devices: &Devices,
     texts: &'a [Vec<u8>],
-) -> Result<Vec<Tape<'a>>, Failure>
+) -> Result<Vec<Tape<'a>>, CaseFailure>
     ensures { IfOk result (λ tapes. All (λ tape. tape.failures ≡ 0) tapes.items) }
 {
     let mut tapes = Vec::new(alloc);
@@ -214,7 +214,7 @@ pub fn push_answer(
     answered: Result<(), Fault>,
     page: &Page,
     out: &mut String,
-) -> Result<(), Failure> {
+) -> Result<(), CaseFailure> {
     push_bytes(&page.bytes, out)?;
     if !matches!(page.bytes.last(), None | Some(b'\n')) {
         out.push_str("\\\n")?;
@@ -227,7 +227,7 @@ pub fn push_stored(
     answered: Result<(), Fault>,
     page: &Page,
     out: &mut String,
-) -> Result<(), Failure> {
+) -> Result<(), CaseFailure> {
     for line in page.bytes.chunks(32) {
         push_digits(line, out)?;
     }

@@ -5,7 +5,7 @@ ghost use Rattle.std.specs.Prelude.{◌≡◌};
 use crate::algorithms::push_bytes;
 use crate::commands::{pictures_of, push_digits, push_stored, texts_of};
 use crate::devices::{devices_of, failing_page};
-use crate::failures::Failure;
+use crate::failures::CaseFailure;
 use disassembler::write_lines;
 use hrv_engines::{Fault, compile_bytes, map_bytes, replay_bytes};
 use loader::{Image, read_image};
@@ -14,7 +14,7 @@ use test_cases::Part;
 use test_devices::{Page, empty_page, tape_of};
 
 /// What compiling the texts of a case stores, and how it ended.
-pub fn compiled(alloc: Global, parts: &[Part]) -> Result<(Page, Result<(), Fault>), Failure> {
+pub fn compiled(alloc: Global, parts: &[Part]) -> Result<(Page, Result<(), Fault>), CaseFailure> {
     let (_, devices) = devices_of(parts);
     let mut page = devices.page(alloc)?;
     let answered = compile_onto(alloc, parts, &mut page)?;
@@ -26,12 +26,12 @@ fn compile_onto(
     alloc: Global,
     parts: &[Part],
     page: &mut Page,
-) -> Result<Result<(), Fault>, Failure>
+) -> Result<Result<(), Fault>, CaseFailure>
     requires { page.old.failures ≡ 0 }
 {
     let (parts, devices) = devices_of(parts);
     let [algorithm, schedule, inputs @ ..] = parts else {
-        return Err(Failure::Malformed("not two parts"));
+        return Err(CaseFailure::Malformed("not two parts"));
     };
     let algorithm = algorithm.bytes(alloc, "algorithm")?;
     let schedule = schedule.bytes(alloc, "schedule")?;
@@ -51,7 +51,7 @@ fn compile_onto(
 const STEP: usize = 16;
 
 /// Whether each write of an image that fails leaves what was written before it, and so a page that isn't made whole.
-pub fn push_cuts(alloc: Global, parts: &[Part], out: &mut String) -> Result<(), Failure> {
+pub fn push_cuts(alloc: Global, parts: &[Part], out: &mut String) -> Result<(), CaseFailure> {
     let (whole, answered) = compiled(alloc, parts)?;
     answered?;
     let mut calls = 0_u32;
@@ -63,14 +63,14 @@ pub fn push_cuts(alloc: Global, parts: &[Part], out: &mut String) -> Result<(), 
     Ok(out.push_str("each failing write leaves what was written\n")?)
 }
 
-/// A line where a page whose write behind so many fails isn't left with what these wrote.
+/// A line where a page whose write after so many fails isn't left with what these wrote.
 fn push_wrong_cut(
     alloc: Global,
     parts: &[Part],
     whole: &[u8],
     calls: u32,
     out: &mut String,
-) -> Result<(), Failure> {
+) -> Result<(), CaseFailure> {
     let mut page = failing_page(alloc, STEP, calls);
     let answered = compile_onto(alloc, parts, &mut page)?;
     let (written, _) = whole.split_at(STEP.wrapping_mul(calls as usize).min(whole.len()));
@@ -82,7 +82,11 @@ fn push_wrong_cut(
 }
 
 /// An image that is stored without its words, and the picture that one hart leaves; or the bytes up to a refusal.
-pub fn push_compilation(alloc: Global, parts: &[Part], out: &mut String) -> Result<(), Failure> {
+pub fn push_compilation(
+    alloc: Global,
+    parts: &[Part],
+    out: &mut String,
+) -> Result<(), CaseFailure> {
     let (page, answered) = compiled(alloc, parts)?;
     if answered.is_err() {
         return push_stored(answered, &page, out);
@@ -105,7 +109,7 @@ const ACCESSES: [&str; 7] = [
 
 /// How many lines of a compiled image's listing are vector loads and stores, of each kind, and how the lanes of one
 /// hart are configured once it has finished.
-pub fn push_accesses(alloc: Global, parts: &[Part], out: &mut String) -> Result<(), Failure> {
+pub fn push_accesses(alloc: Global, parts: &[Part], out: &mut String) -> Result<(), CaseFailure> {
     let (page, answered) = compiled(alloc, parts)?;
     if answered.is_err() {
         return push_stored(answered, &page, out);
@@ -114,7 +118,7 @@ pub fn push_accesses(alloc: Global, parts: &[Part], out: &mut String) -> Result<
     let mut lines = Vec::new(alloc);
     write_lines(image.words(), &mut lines)?;
     let Ok(listing) = str::from_utf8(&lines) else {
-        return Err(Failure::Malformed("the listing is no text"));
+        return Err(CaseFailure::Malformed("the listing is no text"));
     };
     for mnemonic in ACCESSES {
         push_count(listing, mnemonic, out)?;
@@ -123,10 +127,10 @@ pub fn push_accesses(alloc: Global, parts: &[Part], out: &mut String) -> Result<
 }
 
 /// The map of an algorithm under a schedule, but for where code lies, or what was written of it before a refusal.
-pub fn push_map(alloc: Global, parts: &[Part], out: &mut String) -> Result<(), Failure> {
+pub fn push_map(alloc: Global, parts: &[Part], out: &mut String) -> Result<(), CaseFailure> {
     let (parts, devices) = devices_of(parts);
     let [algorithm, schedule] = parts else {
-        return Err(Failure::Malformed("not two parts"));
+        return Err(CaseFailure::Malformed("not two parts"));
     };
     let algorithm = algorithm.bytes(alloc, "algorithm")?;
     let schedule = schedule.bytes(alloc, "schedule")?;
@@ -138,7 +142,7 @@ pub fn push_map(alloc: Global, parts: &[Part], out: &mut String) -> Result<(), F
         &mut page,
     );
     let Ok(map) = str::from_utf8(&page.bytes) else {
-        return Err(Failure::Malformed("the map is no text"));
+        return Err(CaseFailure::Malformed("the map is no text"));
     };
     let (lines, rest) = match map.rsplit_once('\n') {
         Some((lines, rest)) => (lines, rest),
@@ -196,8 +200,8 @@ fn push_data(bytes: &[u8], image: &Image, out: &mut String) -> Result<(), AllocE
 /// A log of 2^40 turns of one hart.
 static LONGEST: [u8; 25] = *b"HRL1\x01\0\0\0\x01\0\0\0\0\0\0\0\0\0\0\0\0\0\x01\0\0";
 
-/// The dump behind all turns of one hart.
-fn dumped(alloc: Global, image: &[u8]) -> Result<Page, Failure> {
+/// The dump after all turns of one hart.
+fn dumped(alloc: Global, image: &[u8]) -> Result<Page, CaseFailure> {
     let mut page = empty_page(alloc);
     let log = LONGEST.as_slice();
     replay_bytes(
@@ -210,10 +214,10 @@ fn dumped(alloc: Global, image: &[u8]) -> Result<Page, Failure> {
 }
 
 /// The dump's line on how lanes are configured.
-fn push_lanes(alloc: Global, image: &[u8], out: &mut String) -> Result<(), Failure> {
+fn push_lanes(alloc: Global, image: &[u8], out: &mut String) -> Result<(), CaseFailure> {
     let page = dumped(alloc, image)?;
     let Ok(dump) = str::from_utf8(&page.bytes) else {
-        return Err(Failure::Malformed("the answer is no text"));
+        return Err(CaseFailure::Malformed("the answer is no text"));
     };
     for line in dump.lines() {
         if line.starts_with("  vl ") {
@@ -223,17 +227,17 @@ fn push_lanes(alloc: Global, image: &[u8], out: &mut String) -> Result<(), Failu
     Ok(())
 }
 
-/// The picture behind all turns of one hart.
-fn push_left(alloc: Global, image: &[u8], out: &mut String) -> Result<(), Failure> {
+/// The picture after all turns of one hart.
+fn push_left(alloc: Global, image: &[u8], out: &mut String) -> Result<(), CaseFailure> {
     let page = dumped(alloc, image)?;
     let Ok(dump) = str::from_utf8(&page.bytes) else {
-        return Err(Failure::Malformed("the answer is no text"));
+        return Err(CaseFailure::Malformed("the answer is no text"));
     };
     match dump.split_once("picture ") {
         Some((_, picture)) => {
             out.push_str("picture ")?;
             push_bytes(picture.as_bytes(), out)
         }
-        None => Err(Failure::Malformed("the image leaves no picture")),
+        None => Err(CaseFailure::Malformed("the image leaves no picture")),
     }
 }

@@ -2,7 +2,7 @@
 
 ghost use Rattle.std.specs.Prelude.{◌≡◌, IfOk};
 
-use crate::failures::Failure;
+use crate::failures::CaseFailure;
 use std::alloc::Global;
 use test_cases::Part;
 use test_devices::{Page, Tape, empty_page, tape_of};
@@ -28,17 +28,17 @@ pub fn devices_of(parts: &[Part]) -> (&[Part], Devices) {
 
 /// How a device gives or takes bytes.
 #[derive(Drop)]
-struct Setting {
+struct DeviceSetting {
     step: usize,
     calls_left: Option<u32>,
 }
 
 impl Devices<'_> {
     /// A file that is read.
-    pub fn tape<'a>(&self, name: &'a str, bytes: &'a [u8]) -> Result<Tape<'a>, Failure>
+    pub fn tape<'a>(&self, name: &'a str, bytes: &'a [u8]) -> Result<Tape<'a>, CaseFailure>
         ensures { IfOk result (λ tape. tape.failures ≡ 0) }
     {
-        let Setting { step, calls_left } = self.setting(name)?;
+        let DeviceSetting { step, calls_left } = self.setting(name)?;
         let mut tape = tape_of(name, bytes);
         tape.step = step;
         tape.reads_left = calls_left;
@@ -46,30 +46,30 @@ impl Devices<'_> {
     }
 
     /// The file that is written, whose name is `page`.
-    pub fn page(&self, alloc: Global) -> Result<Page, Failure>
+    pub fn page(&self, alloc: Global) -> Result<Page, CaseFailure>
         ensures { IfOk result (λ page. page.failures ≡ 0) }
     {
         self.written(alloc, "page")
     }
 
     /// The log that a run writes. Its lines have the name `new`; its own name is `page` too.
-    pub fn new_log(&self, alloc: Global) -> Result<Page, Failure>
+    pub fn new_log(&self, alloc: Global) -> Result<Page, CaseFailure>
         ensures { IfOk result (λ page. page.failures ≡ 0) }
     {
         self.written(alloc, "new")
     }
 
-    fn written(&self, alloc: Global, name: &str) -> Result<Page, Failure>
+    fn written(&self, alloc: Global, name: &str) -> Result<Page, CaseFailure>
         ensures { IfOk result (λ page. page.failures ≡ 0) }
     {
-        let Setting { step, calls_left } = self.setting(name)?;
+        let DeviceSetting { step, calls_left } = self.setting(name)?;
         let mut page = empty_page(alloc);
         page.step = step;
         page.writes_left = calls_left;
         Ok(page)
     }
 
-    fn setting(&self, name: &str) -> Result<Setting, Failure> {
+    fn setting(&self, name: &str) -> Result<DeviceSetting, CaseFailure> {
         for line in self.lines.lines() {
             if let Some((device, numbers)) = line.split_once(' ') {
                 if device == name {
@@ -77,14 +77,14 @@ impl Devices<'_> {
                 }
             }
         }
-        Ok(Setting {
+        Ok(DeviceSetting {
             step: usize::MAX,
             calls_left: None,
         })
     }
 }
 
-/// A page that takes so many bytes a write, whose write behind so many fails.
+/// A page that takes so many bytes a write, whose write after so many fails.
 pub fn failing_page(alloc: Global, step: usize, calls: u32) -> Page
     ensures { result.failures ≡ 0 }
 {
@@ -95,7 +95,7 @@ pub fn failing_page(alloc: Global, step: usize, calls: u32) -> Page
 }
 
 /// The setting that numbers stand for.
-fn setting_of(numbers: &str) -> Result<Setting, Failure> {
+fn setting_of(numbers: &str) -> Result<DeviceSetting, CaseFailure> {
     let (step, calls) = match numbers.split_once(' ') {
         Some((step, calls)) => (step, Some(calls)),
         None => (numbers, None),
@@ -105,12 +105,12 @@ fn setting_of(numbers: &str) -> Result<Setting, Failure> {
         None => None,
     };
     let step = number_of(step)? as usize;
-    Ok(Setting { step, calls_left })
+    Ok(DeviceSetting { step, calls_left })
 }
 
-fn number_of(text: &str) -> Result<u32, Failure> {
+fn number_of(text: &str) -> Result<u32, CaseFailure> {
     let Ok(number) = text.parse::<u32>() else {
-        return Err(Failure::Malformed("a device without numbers"));
+        return Err(CaseFailure::Malformed("a device without numbers"));
     };
     Ok(number)
 }

@@ -14,20 +14,20 @@ use test_cases::CaseFault;
 
 /// What stands in place of an answer.
 #[derive(Debug, Drop)]
-pub enum Failure {
+pub enum CaseFailure {
     /// Memory ran out.
     Memory,
     /// The case isn't one that the program knows: what is wrong with it.
     Malformed(&'static str),
     /// A library refuses a text of the case.
-    Refused(Refusal),
+    Refused(LibraryRefusal),
     /// A command refuses the files of the case.
     Command(Fault),
 }
 
 /// A library's refusal.
 #[derive(Debug, Drop)]
-pub struct Refusal {
+pub struct LibraryRefusal {
     /// What is refused, as `hrv` says it.
     pub what: &'static str,
     pub number: u32,
@@ -35,18 +35,18 @@ pub struct Refusal {
     pub line: Option<u64>,
 }
 
-impl Failure {
+impl CaseFailure {
     /// A refusal without a line. The libraries number all faults but a lack of memory.
-    fn numbered(what: &'static str, number: Option<u8>) -> Failure {
+    fn numbered(what: &'static str, number: Option<u8>) -> CaseFailure {
         match number {
-            None => Failure::Memory,
+            None => CaseFailure::Memory,
             Some(number) => refused(what, u32::from(number)),
         }
     }
 
     /// A refusal with a line.
-    fn located(what: &'static str, number: u32, line: u64) -> Failure {
-        Failure::Refused(Refusal {
+    fn located(what: &'static str, number: u32, line: u64) -> CaseFailure {
+        CaseFailure::Refused(LibraryRefusal {
             what,
             number,
             line: Some(line),
@@ -55,28 +55,28 @@ impl Failure {
 }
 
 /// A refusal without a line.
-pub fn refused(what: &'static str, number: u32) -> Failure {
-    Failure::Refused(Refusal {
+pub fn refused(what: &'static str, number: u32) -> CaseFailure {
+    CaseFailure::Refused(LibraryRefusal {
         what,
         number,
         line: None,
     })
 }
 
-impl fmt::Display for Failure {
+impl fmt::Display for CaseFailure {
     fn fmt<W: fmt::Write>(&self, f: &mut fmt::Formatter<W>) -> fmt::Result {
         match self {
-            Failure::Memory => write!(f, "out of memory"),
-            Failure::Malformed(why) => write!(f, "malformed: {why}"),
-            Failure::Refused(refusal) => write!(f, "{refusal}"),
-            Failure::Command(fault) => write!(f, "{fault}"),
+            CaseFailure::Memory => write!(f, "out of memory"),
+            CaseFailure::Malformed(why) => write!(f, "malformed: {why}"),
+            CaseFailure::Refused(refusal) => write!(f, "{refusal}"),
+            CaseFailure::Command(fault) => write!(f, "{fault}"),
         }
     }
 }
 
-impl fmt::Display for Refusal {
+impl fmt::Display for LibraryRefusal {
     fn fmt<W: fmt::Write>(&self, f: &mut fmt::Formatter<W>) -> fmt::Result {
-        let Refusal { what, number, .. } = self;
+        let LibraryRefusal { what, number, .. } = self;
         write!(f, "refused {what} {number}")?;
         match self.line {
             Some(line) => write!(f, " line {line}"),
@@ -85,79 +85,83 @@ impl fmt::Display for Refusal {
     }
 }
 
-impl From<AllocError> for Failure {
-    fn from(_error: AllocError) -> Failure {
-        Failure::Memory
+impl From<AllocError> for CaseFailure {
+    fn from(_error: AllocError) -> CaseFailure {
+        CaseFailure::Memory
     }
 }
 
-impl<T: Drop> From<AllocFailed<T>> for Failure {
-    fn from(_error: AllocFailed<T>) -> Failure {
-        Failure::Memory
+impl<T: Drop> From<AllocFailed<T>> for CaseFailure {
+    fn from(_error: AllocFailed<T>) -> CaseFailure {
+        CaseFailure::Memory
     }
 }
 
-impl From<CaseFault> for Failure {
-    fn from(fault: CaseFault) -> Failure {
+impl From<CaseFault> for CaseFailure {
+    fn from(fault: CaseFault) -> CaseFailure {
         match fault {
-            CaseFault::Memory => Failure::Memory,
-            CaseFault::Malformed(why) => Failure::Malformed(why),
+            CaseFault::Memory => CaseFailure::Memory,
+            CaseFault::Malformed(why) => CaseFailure::Malformed(why),
         }
     }
 }
 
-impl From<LocatedError<ParseFault>> for Failure {
-    fn from(error: LocatedError<ParseFault>) -> Failure {
+impl From<LocatedError<ParseFault>> for CaseFailure {
+    fn from(error: LocatedError<ParseFault>) -> CaseFailure {
         match error {
-            LocatedError::Memory => Failure::Memory,
-            LocatedError::Fault(line, fault) => Failure::located("parse", fault.number(), line),
+            LocatedError::Memory => CaseFailure::Memory,
+            LocatedError::Fault(line, fault) => CaseFailure::located("parse", fault.number(), line),
         }
     }
 }
 
-impl From<LocatedError<ScheduleFault>> for Failure {
-    fn from(error: LocatedError<ScheduleFault>) -> Failure {
+impl From<LocatedError<ScheduleFault>> for CaseFailure {
+    fn from(error: LocatedError<ScheduleFault>) -> CaseFailure {
         match error {
-            LocatedError::Memory => Failure::Memory,
-            LocatedError::Fault(line, fault) => Failure::located("schedule", fault.number(), line),
+            LocatedError::Memory => CaseFailure::Memory,
+            LocatedError::Fault(line, fault) => CaseFailure::located(
+                "schedule",
+                fault.number(),
+                line,
+            ),
         }
     }
 }
 
-impl From<LocatedError<AsmFault>> for Failure {
-    fn from(error: LocatedError<AsmFault>) -> Failure {
+impl From<LocatedError<AsmFault>> for CaseFailure {
+    fn from(error: LocatedError<AsmFault>) -> CaseFailure {
         match error {
-            LocatedError::Memory => Failure::Memory,
+            LocatedError::Memory => CaseFailure::Memory,
             LocatedError::Fault(line, fault) => {
-                Failure::located("asm", u32::from(fault.number()), line)
+                CaseFailure::located("asm", u32::from(fault.number()), line)
             }
         }
     }
 }
 
-impl From<ReadError<PictureFault>> for Failure {
-    fn from(error: ReadError<PictureFault>) -> Failure {
+impl From<ReadError<PictureFault>> for CaseFailure {
+    fn from(error: ReadError<PictureFault>) -> CaseFailure {
         match error {
-            ReadError::Memory => Failure::Memory,
-            ReadError::Fault(fault) => Failure::numbered("picture", Some(fault.number())),
+            ReadError::Memory => CaseFailure::Memory,
+            ReadError::Fault(fault) => CaseFailure::numbered("picture", Some(fault.number())),
         }
     }
 }
 
-impl From<LoadFault> for Failure {
-    fn from(fault: LoadFault) -> Failure {
-        Failure::numbered("load", fault.number())
+impl From<LoadFault> for CaseFailure {
+    fn from(fault: LoadFault) -> CaseFailure {
+        CaseFailure::numbered("load", fault.number())
     }
 }
 
-impl From<WeightError> for Failure {
-    fn from(error: WeightError) -> Failure {
-        Failure::numbered("lower", error.number())
+impl From<WeightError> for CaseFailure {
+    fn from(error: WeightError) -> CaseFailure {
+        CaseFailure::numbered("lower", error.number())
     }
 }
 
-impl From<Fault> for Failure {
-    fn from(fault: Fault) -> Failure {
-        Failure::Command(fault)
+impl From<Fault> for CaseFailure {
+    fn from(fault: Fault) -> CaseFailure {
+        CaseFailure::Command(fault)
     }
 }

@@ -1,14 +1,14 @@
 //! Command lines.
 
-use crate::failures::Failure;
+use crate::failures::CaseFailure;
 use hrv_command_line::{Invocation, command};
 use std::alloc::{AllocError, Global};
 use test_cases::Part;
 
 /// What the words of a command line ask for, or the first line of why they are refused.
-pub fn push_invocation(alloc: Global, parts: &[Part], out: &mut String) -> Result<(), Failure> {
+pub fn push_invocation(alloc: Global, parts: &[Part], out: &mut String) -> Result<(), CaseFailure> {
     let [words] = parts else {
-        return Err(Failure::Malformed("not one part"));
+        return Err(CaseFailure::Malformed("not one part"));
     };
     let words = words_of(alloc, "", words.named("words")?)?;
     match command(alloc, &words) {

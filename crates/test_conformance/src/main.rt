@@ -1,7 +1,7 @@
 //! `test_conformance`: what the libraries and the engines answer to cases that lie in files.
 //!
 //! The program reads the files that its arguments name (`test_cases`), answers each case, and prints those whose answer
-//! is another than the rules' own, which stands behind the case; none of these was copied from this program.
+//! is another than the rules' own, which stands after the case; none of these was copied from this program.
 //! What algorithms under schedules come to stands beside it (`test_trials`). `generate/make` makes the files that say so
 //! in their first line; the others were worked out by hand, or come from another reading of the rules.
 //!
@@ -18,7 +18,7 @@
 //! | `need` | `algorithm`, `schedule` | how many registers the stages need |
 //! | `assemble` | `text` | the object |
 //! | `list` | `words`: a word in hexadecimal each line | the line of each |
-//! | `turn` | `before`: an assembly text; `instructions`: one each line | each line, and what it changes behind it |
+//! | `turn` | `before`: an assembly text; `instructions`: one each line | each line, and what it changes after it |
 //! | `asm` | `source` | the image's bytes, in hexadecimal |
 //! | `dis` | `image` | the listing |
 //! | `addresses` | `image` | the listing with addresses |
@@ -26,7 +26,7 @@
 //! | `renew` | `image` | the renewed image's bytes, in hexadecimal |
 //! | `replay` | `image`, `log`: lines in hexadecimal | the dump |
 //! | `debug` | `image`, `log`; `lines` | the talk |
-//! | `blame` | `image`, `log`; `words`: those behind the files, one each line | who wrote what is asked about |
+//! | `blame` | `image`, `log`; `words`: those after the files, one each line | who wrote what is asked about |
 //! | `run` | `image`; `turns`: how many a hart makes at most | the log of one hart, in hexadecimal, and the dump |
 //! | `resume` | `image`, `log`; `turns` | the same, from where a log of one hart ends |
 //! | `compile` | `algorithm`, `schedule`, any number of `picture` | the image but for its words, one hart's picture |
@@ -43,10 +43,10 @@
 //!
 //! The cases of `draw`, of `asm` to `accesses` and of `threads` to `rejoin` go through the engines. But for `threads`
 //! and `rejoin` a last part `devices` says how their files give and take bytes: a line `NAME STEP` for at most so many
-//! bytes a call, `NAME STEP CALLS` where the call behind so many fails. A file has the name of its part; what is
+//! bytes a call, `NAME STEP CALLS` where the call after so many fails. A file has the name of its part; what is
 //! written is `page`; the log that a run writes has the lines of `new`.
 //!
-//! A refusal stands in place of an answer, or behind what was written before, as `hrv` prints it; a backslash ends a
+//! A refusal stands in place of an answer, or after what was written before, as `hrv` prints it; a backslash ends a
 //! text without a last line feed there. A case that isn't one of these is answered `malformed: ` and why.
 //!
 //! - [`algorithms`], [`schedules`], [`weights`], [`assemblies`], [`turns`], [`commands`], [`runs`], [`threads`],
@@ -77,7 +77,7 @@ use crate::commands::{
     push_replay, push_talk,
 };
 use crate::compilations::{push_accesses, push_compilation, push_cuts, push_map};
-use crate::failures::Failure;
+use crate::failures::CaseFailure;
 use crate::invocations::push_invocation;
 use crate::runs::{push_resumption, push_run};
 use crate::schedules::push_schedule;
@@ -172,7 +172,7 @@ fn push_answer(
     kind: &str,
     parts: &[Part],
     out: &mut String,
-) -> Result<(), Failure> {
+) -> Result<(), CaseFailure> {
     match kind {
         "parse" => push_verdict(alloc, parts, out),
         "draw" => push_drawing(rt, alloc, parts, out),
@@ -200,8 +200,8 @@ fn push_answer(
         "rejoin" => push_rejoined(rt, alloc, parts, out),
         "weigh" => push_weight(alloc, parts, out),
         "need" => push_needs(alloc, parts, out),
-        "memory" => Err(Failure::Command(Fault::Memory)),
+        "memory" => Err(CaseFailure::Command(Fault::Memory)),
         "words" => push_invocation(alloc, parts, out),
-        _ => Err(Failure::Malformed("an unknown kind of case")),
+        _ => Err(CaseFailure::Malformed("an unknown kind of case")),
     }
 }

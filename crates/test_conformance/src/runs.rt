@@ -1,9 +1,9 @@
-//! What runs by threads leave: the log of their turns, and the dump behind them. They are of one hart, since a case has
+//! What runs by threads leave: the log of their turns, and the dump after them. They are of one hart, since a case has
 //! one answer.
 
 use crate::commands::{push_answer, push_digits};
 use crate::devices::devices_of;
-use crate::failures::Failure;
+use crate::failures::CaseFailure;
 use hrv_engines::{Fault, Resources, resume_bytes, run_bytes};
 use std::alloc::Global;
 use std::sync::Wait;
@@ -17,10 +17,10 @@ pub fn push_run(
     alloc: Global,
     parts: &[Part],
     out: &mut String,
-) -> Result<(), Failure> {
+) -> Result<(), CaseFailure> {
     let (parts, devices) = devices_of(parts);
     let [image, turns] = parts else {
-        return Err(Failure::Malformed("not two parts"));
+        return Err(CaseFailure::Malformed("not two parts"));
     };
     let image = bytes_of(alloc, image.named("image")?)?;
     let limit = limit_of(turns.named("turns")?)?;
@@ -43,10 +43,10 @@ pub fn push_resumption(
     alloc: Global,
     parts: &[Part],
     out: &mut String,
-) -> Result<(), Failure> {
+) -> Result<(), CaseFailure> {
     let (parts, devices) = devices_of(parts);
     let [image, log, turns] = parts else {
-        return Err(Failure::Malformed("not three parts"));
+        return Err(CaseFailure::Malformed("not three parts"));
     };
     let image = bytes_of(alloc, image.named("image")?)?;
     let log = bytes_of(alloc, log.named("log")?)?;
@@ -65,20 +65,20 @@ pub fn push_resumption(
 }
 
 /// How many turns a hart makes at most.
-pub fn limit_of(lines: &str) -> Result<u64, Failure> {
+pub fn limit_of(lines: &str) -> Result<u64, CaseFailure> {
     match lines.trim().parse::<u64>() {
         Ok(limit) => Ok(limit),
-        Err(_) => Err(Failure::Malformed("turns without a number")),
+        Err(_) => Err(CaseFailure::Malformed("turns without a number")),
     }
 }
 
-/// The bytes of the log that was written, 32 a line, and behind them the dump, or why the run refused.
+/// The bytes of the log that was written, 32 a line, and after them the dump, or why the run refused.
 fn push_left(
     answered: Result<(), Fault>,
     new: &Page,
     page: &Page,
     out: &mut String,
-) -> Result<(), Failure> {
+) -> Result<(), CaseFailure> {
     for line in new.bytes.chunks(32) {
         push_digits(line, out)?;
     }

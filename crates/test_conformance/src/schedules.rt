@@ -1,18 +1,18 @@
 //! Schedules: the loops of each stage, and where each Func is computed.
 
 use crate::algorithms::push_bytes;
-use crate::failures::Failure;
+use crate::failures::CaseFailure;
 use halide_parser::parse;
 use halide_pipeline::Variable;
-use schedule::{FuncPlan, Place, Schedule, Standing, read};
+use schedule::{ComputeLevel, FuncPlacement, FuncPlan, Schedule, read};
 use schedule_lines::{Loop, LoopId, Mark, Split, Stage, Tail};
 use std::alloc::{AllocError, Global};
 use test_cases::Part;
 
 /// What a schedule means for an algorithm: each Func's standing, and the loops and splits of its stages.
-pub fn push_schedule(alloc: Global, parts: &[Part], out: &mut String) -> Result<(), Failure> {
+pub fn push_schedule(alloc: Global, parts: &[Part], out: &mut String) -> Result<(), CaseFailure> {
     let [algorithm, schedule] = parts else {
-        return Err(Failure::Malformed("not two parts"));
+        return Err(CaseFailure::Malformed("not two parts"));
     };
     let pipeline = parse(algorithm.named("algorithm")?, alloc)?;
     let schedule = read(schedule.named("schedule")?, &pipeline, alloc)?;
@@ -20,11 +20,11 @@ pub fn push_schedule(alloc: Global, parts: &[Part], out: &mut String) -> Result<
 }
 
 /// Each Func's standing and stages.
-fn push_funcs(schedule: &Schedule, out: &mut String) -> Result<(), Failure> {
+fn push_funcs(schedule: &Schedule, out: &mut String) -> Result<(), CaseFailure> {
     for (number, plan) in schedule.funcs.as_slice().iter().enumerate() {
         match schedule.standing(number) {
             Some(standing) => push_standing(number, *standing, out)?,
-            None => return Err(Failure::Malformed("a Func without a standing")),
+            None => return Err(CaseFailure::Malformed("a Func without a standing")),
         }
         push_stages(plan, out)?;
     }
@@ -32,16 +32,20 @@ fn push_funcs(schedule: &Schedule, out: &mut String) -> Result<(), Failure> {
 }
 
 /// Where a Func is computed.
-fn push_standing(number: usize, standing: Standing, out: &mut String) -> Result<(), AllocError> {
+fn push_standing(
+    number: usize,
+    standing: FuncPlacement,
+    out: &mut String,
+) -> Result<(), AllocError> {
     write!(out, "func {number} ")?;
     if !standing.is_reached {
         out.push_str("unreached ")?;
     }
     match standing.place {
-        Place::Inlined => out.push_str("inlined")?,
-        Place::Root => out.push_str("root")?,
-        Place::Nowhere => out.push_str("nowhere")?,
-        Place::At(consumer) => {
+        ComputeLevel::Inlined => out.push_str("inlined")?,
+        ComputeLevel::Root => out.push_str("root")?,
+        ComputeLevel::Nowhere => out.push_str("nowhere")?,
+        ComputeLevel::At(consumer) => {
             let func = consumer.func;
             write!(out, "at func {func} ")?;
             push_id(consumer.inside, out)?;
@@ -51,7 +55,7 @@ fn push_standing(number: usize, standing: Standing, out: &mut String) -> Result<
 }
 
 /// The stages of a Func, the pure definition first.
-fn push_stages(plan: &FuncPlan, out: &mut String) -> Result<(), Failure> {
+fn push_stages(plan: &FuncPlan, out: &mut String) -> Result<(), CaseFailure> {
     push_stage(&plan.pure, out)?;
     for (number, update) in plan.updates.as_slice().iter().enumerate() {
         writeln!(out, "update {number}")?;
@@ -61,7 +65,7 @@ fn push_stages(plan: &FuncPlan, out: &mut String) -> Result<(), Failure> {
 }
 
 /// The loops of a stage, innermost first, and its splits in their order.
-fn push_stage(stage: &Stage, out: &mut String) -> Result<(), Failure> {
+fn push_stage(stage: &Stage, out: &mut String) -> Result<(), CaseFailure> {
     for own in stage.loops.as_slice() {
         push_loop(own, out)?;
     }
@@ -71,7 +75,7 @@ fn push_stage(stage: &Stage, out: &mut String) -> Result<(), Failure> {
     Ok(())
 }
 
-fn push_loop(own: &Loop, out: &mut String) -> Result<(), Failure> {
+fn push_loop(own: &Loop, out: &mut String) -> Result<(), CaseFailure> {
     out.push_str("  ")?;
     push_bytes(own.name.as_slice(), out)?;
     out.push_str(": ")?;

@@ -3,7 +3,7 @@
 ghost use Rattle.std.specs.Prelude.{◌≤◌, IfOk};
 
 use crate::compilations::compiled;
-use crate::failures::Failure;
+use crate::failures::CaseFailure;
 use crate::runs::limit_of;
 use hrv_engines::{Resources, replay_bytes, resume_bytes, run_bytes};
 use std::alloc::{AllocError, Global};
@@ -21,9 +21,9 @@ pub fn push_threads(
     alloc: Global,
     parts: &[Part],
     out: &mut String,
-) -> Result<(), Failure> {
+) -> Result<(), CaseFailure> {
     let [image, harts, turns] = parts else {
-        return Err(Failure::Malformed("not three parts"));
+        return Err(CaseFailure::Malformed("not three parts"));
     };
     let harts = harts_of(harts.named("harts")?)?;
     let limit = limit_of(turns.named("turns")?)?;
@@ -37,9 +37,9 @@ pub fn push_shared(
     alloc: Global,
     parts: &[Part],
     out: &mut String,
-) -> Result<(), Failure> {
+) -> Result<(), CaseFailure> {
     let [harts, turns, texts @ ..] = parts else {
-        return Err(Failure::Malformed("not four parts"));
+        return Err(CaseFailure::Malformed("not four parts"));
     };
     let harts = harts_of(harts.named("harts")?)?;
     let limit = limit_of(turns.named("turns")?)?;
@@ -54,9 +54,9 @@ pub fn push_rejoined(
     alloc: Global,
     parts: &[Part],
     out: &mut String,
-) -> Result<(), Failure> {
+) -> Result<(), CaseFailure> {
     let [image, old] = parts else {
-        return Err(Failure::Malformed("not two parts"));
+        return Err(CaseFailure::Malformed("not two parts"));
     };
     let image = bytes_of(alloc, image.named("image")?)?;
     let old = bytes_of(alloc, old.named("log")?)?;
@@ -81,7 +81,7 @@ fn push_run_by(
     harts: usize,
     limit: u64,
     out: &mut String,
-) -> Result<(), Failure>
+) -> Result<(), CaseFailure>
     requires some { 1 ≤ harts }
     requires few { harts ≤ 8 }
 {
@@ -105,20 +105,20 @@ fn push_replayed(
     log: &[u8],
     ran: &[u8],
     out: &mut String,
-) -> Result<(), Failure> {
+) -> Result<(), CaseFailure> {
     let mut replayed = empty_page(alloc);
     let (mut source, mut turns) = (tape_of("image", image), tape_of("log", log));
     replay_bytes(alloc, &mut source, &mut turns, &mut replayed)?;
     if replayed.bytes.as_slice() != ran {
-        return Err(Failure::Malformed("the log replays to another dump"));
+        return Err(CaseFailure::Malformed("the log replays to another dump"));
     }
     match str::from_utf8(ran) {
         Ok(dump) => Ok(push_ends(dump, out)?),
-        Err(_) => Err(Failure::Malformed("the dump is no text")),
+        Err(_) => Err(CaseFailure::Malformed("the dump is no text")),
     }
 }
 
-/// Of a dump the lines of the harts and of the picture. How many turns a hart made hangs on the run where it has
+/// Of a dump the lines of the harts and of the picture. How many turns a hart made depends on the run where it has
 /// stopped, and where it has finished, on the code that was made.
 fn push_ends(dump: &str, out: &mut String) -> Result<(), AllocError> {
     for line in dump.lines() {
@@ -144,12 +144,12 @@ fn push_end(line: &str, out: &mut String) -> Result<(), AllocError> {
 }
 
 /// How many harts are to run.
-fn harts_of(lines: &str) -> Result<usize, Failure>
+fn harts_of(lines: &str) -> Result<usize, CaseFailure>
     ensures some { IfOk result (λ harts. 1 ≤ harts) }
     ensures few { IfOk result (λ harts. harts ≤ 8) }
 {
     match lines.trim().parse::<usize>() {
         Ok(harts) if 1 <= harts && harts <= 8 => Ok(harts),
-        _ => Err(Failure::Malformed("no number of harts")),
+        _ => Err(CaseFailure::Malformed("no number of harts")),
     }
 }

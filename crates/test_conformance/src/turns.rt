@@ -2,7 +2,7 @@
 
 ghost use Rattle.std.specs.Prelude.{◌≡◌, IfOk, length};
 
-use crate::failures::Failure;
+use crate::failures::CaseFailure;
 use crate::harts::{
     HartState, push_configuration, push_registers, push_status, push_vectors, state_of,
 };
@@ -14,10 +14,10 @@ use multi_hart::Machine;
 use std::alloc::{AllocError, Global};
 use test_cases::Part;
 
-/// For each instruction, its line and what it changes behind a program that reaches it.
-pub fn push_changes(alloc: Global, parts: &[Part], out: &mut String) -> Result<(), Failure> {
+/// For each instruction, its line and what it changes after a program that reaches it.
+pub fn push_changes(alloc: Global, parts: &[Part], out: &mut String) -> Result<(), CaseFailure> {
     let [before, instructions] = parts else {
-        return Err(Failure::Malformed("not two parts"));
+        return Err(CaseFailure::Malformed("not two parts"));
     };
     let before = assemble(before.named("before")?, alloc)?;
     for line in instructions.named("instructions")?.lines() {
@@ -29,16 +29,21 @@ pub fn push_changes(alloc: Global, parts: &[Part], out: &mut String) -> Result<(
 }
 
 /// The word of an instruction's line.
-fn word_of(alloc: Global, line: &str) -> Result<u32, Failure> {
+fn word_of(alloc: Global, line: &str) -> Result<u32, CaseFailure> {
     let object = assemble(line, alloc)?;
     match object.words() {
         [word] => Ok(*word),
-        _ => Err(Failure::Malformed("a line that is not one instruction")),
+        _ => Err(CaseFailure::Malformed("a line that is not one instruction")),
     }
 }
 
-/// What a word changes behind a program that reaches it.
-fn push_change(alloc: Global, before: &Object, word: u32, out: &mut String) -> Result<(), Failure> {
+/// What a word changes after a program that reaches it.
+fn push_change(
+    alloc: Global,
+    before: &Object,
+    word: u32,
+    out: &mut String,
+) -> Result<(), CaseFailure> {
     let turns = before.words().len() as u64;
     let old = ran(alloc, before, word, turns)?;
     let new = ran(alloc, before, word, turns.saturating_add(1))?;
@@ -48,8 +53,8 @@ fn push_change(alloc: Global, before: &Object, word: u32, out: &mut String) -> R
     Ok(())
 }
 
-/// A machine of one hart after so many turns of a program with a word behind it.
-fn ran(alloc: Global, before: &Object, word: u32, turns: u64) -> Result<Machine, Failure>
+/// A machine of one hart after so many turns of a program with a word after it.
+fn ran(alloc: Global, before: &Object, word: u32, turns: u64) -> Result<Machine, CaseFailure>
     ensures { IfOk result (λ machine. length machine.harts ≡ 1) }
 {
     let mut words = before.words().to_vec(alloc)?;
@@ -63,7 +68,7 @@ fn ran(alloc: Global, before: &Object, word: u32, turns: u64) -> Result<Machine,
     Ok(machine)
 }
 
-/// What a hart holds that it didn't hold before, and where it is, if that isn't behind the instruction.
+/// What a hart holds that it didn't hold before, and where it is, if that isn't after the instruction.
 fn push_hart_changes(old: &HartState, new: &HartState, out: &mut String) -> Result<(), AllocError> {
     push_registers(&old.registers, &new.registers, out)?;
     if (new.vl, new.vtype) != (old.vl, old.vtype) {

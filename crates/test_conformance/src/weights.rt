@@ -1,6 +1,6 @@
 //! What the stages of a schedule weigh, and how many registers they need.
 
-use crate::failures::{Failure, refused};
+use crate::failures::{CaseFailure, refused};
 use bounds_weights::weighing::weight;
 use bounds_weights::{needs, weigh};
 use halide_parser::parse;
@@ -9,9 +9,9 @@ use std::alloc::Global;
 use test_cases::Part;
 
 /// What all stages weigh together, and whether that is too much.
-pub fn push_weight(alloc: Global, parts: &[Part], out: &mut String) -> Result<(), Failure> {
+pub fn push_weight(alloc: Global, parts: &[Part], out: &mut String) -> Result<(), CaseFailure> {
     let [algorithm, schedule] = parts else {
-        return Err(Failure::Malformed("not two parts"));
+        return Err(CaseFailure::Malformed("not two parts"));
     };
     let pipeline = parse(algorithm.named("algorithm")?, alloc)?;
     let schedule = read(schedule.named("schedule")?, &pipeline, alloc)?;
@@ -23,9 +23,9 @@ pub fn push_weight(alloc: Global, parts: &[Part], out: &mut String) -> Result<()
 
 /// How many registers an expression needs at once, of all stages and of those by 16 lanes; whether that takes frames,
 /// or is too much.
-pub fn push_needs(alloc: Global, parts: &[Part], out: &mut String) -> Result<(), Failure> {
+pub fn push_needs(alloc: Global, parts: &[Part], out: &mut String) -> Result<(), CaseFailure> {
     let [algorithm, schedule] = parts else {
-        return Err(Failure::Malformed("not two parts"));
+        return Err(CaseFailure::Malformed("not two parts"));
     };
     let pipeline = parse(algorithm.named("algorithm")?, alloc)?;
     let schedule = read(schedule.named("schedule")?, &pipeline, alloc)?;

@@ -32,7 +32,7 @@ const TURNS: u64 = 10_000;
 
 /// A command of the program.
 #[derive(Clone, Copy, Debug)]
-pub enum Command {
+pub enum TestedCommand {
     Assemble,
     Compile,
     Renew,
@@ -48,32 +48,32 @@ pub enum Command {
 }
 
 /// All commands that want memory.
-pub const COMMANDS: [Command; 12] = [
-    Command::Assemble,
-    Command::Compile,
-    Command::Renew,
-    Command::List,
-    Command::ListAddresses,
-    Command::Run,
-    Command::Resume,
-    Command::Replay,
-    Command::Debug,
-    Command::Blame,
-    Command::Map,
-    Command::Draw,
+pub const COMMANDS: [TestedCommand; 12] = [
+    TestedCommand::Assemble,
+    TestedCommand::Compile,
+    TestedCommand::Renew,
+    TestedCommand::List,
+    TestedCommand::ListAddresses,
+    TestedCommand::Run,
+    TestedCommand::Resume,
+    TestedCommand::Replay,
+    TestedCommand::Debug,
+    TestedCommand::Blame,
+    TestedCommand::Map,
+    TestedCommand::Draw,
 ];
 
 /// What a command writes: an image or standard output, and the log of a run.
 #[derive(Drop)]
-pub struct Written {
+pub struct CommandOutput {
     pub out: Page,
     pub log: Page,
 }
 
-impl Written {
+impl CommandOutput {
     /// Nothing.
-    pub fn new(alloc: Global) -> Written {
-        Written {
+    pub fn new(alloc: Global) -> CommandOutput {
+        CommandOutput {
             out: empty_page(alloc),
             log: empty_page(alloc),
         }
@@ -102,14 +102,14 @@ impl Files {
     /// The files, by the commands that write them.
     pub fn new<R: Threads + Wait + Sync>(resources: &Resources<'_, R>) -> Result<Files, Fault> {
         let alloc = resources.alloc;
-        let mut written = Written::new(alloc);
+        let mut written = CommandOutput::new(alloc);
         let mut files = Files {
             image: Vec::new(alloc),
             log: Vec::new(alloc),
         };
-        files.answer(resources, Command::Compile, &mut written)?;
+        files.answer(resources, TestedCommand::Compile, &mut written)?;
         files.image = written.out.bytes.clone()?;
-        files.answer(resources, Command::Run, &mut written)?;
+        files.answer(resources, TestedCommand::Run, &mut written)?;
         files.log = written.log.bytes.clone()?;
         Ok(files)
     }
@@ -118,26 +118,28 @@ impl Files {
     pub fn answer<R: Threads + Wait + Sync>(
         &self,
         resources: &Resources<'_, R>,
-        command: Command,
-        written: &mut Written,
+        command: TestedCommand,
+        written: &mut CommandOutput,
     ) -> Result<(), Fault> {
         written.clear();
         let alloc = resources.alloc;
-        let Written { out, log } = written;
+        let CommandOutput { out, log } = written;
         let (image, old) = (&mut self.image(), &mut self.log());
         match command {
-            Command::Assemble => asm_bytes(alloc, &mut tape_of("source", SOURCE), out),
-            Command::Compile => compile(alloc, out),
-            Command::Renew => renew_bytes(alloc, image, out),
-            Command::List => dis_bytes(alloc, image, out),
-            Command::ListAddresses => dis_addresses_bytes(alloc, image, out),
-            Command::Run => run_bytes(resources, image, log, out, 1, TURNS),
-            Command::Resume => resume_bytes(resources, image, old, log, out, TURNS),
-            Command::Replay => replay_bytes(alloc, image, old, out),
-            Command::Debug => { debug_bytes(alloc, image, old, &mut tape_of("lines", LINES), out) }
-            Command::Blame => blame_bytes(alloc, image, old, PIXELS, out),
-            Command::Map => map_bytes(alloc, &mut algorithm(), &mut schedule(), out),
-            Command::Draw => draw(resources, out),
+            TestedCommand::Assemble => asm_bytes(alloc, &mut tape_of("source", SOURCE), out),
+            TestedCommand::Compile => compile(alloc, out),
+            TestedCommand::Renew => renew_bytes(alloc, image, out),
+            TestedCommand::List => dis_bytes(alloc, image, out),
+            TestedCommand::ListAddresses => dis_addresses_bytes(alloc, image, out),
+            TestedCommand::Run => run_bytes(resources, image, log, out, 1, TURNS),
+            TestedCommand::Resume => resume_bytes(resources, image, old, log, out, TURNS),
+            TestedCommand::Replay => replay_bytes(alloc, image, old, out),
+            TestedCommand::Debug => {
+                debug_bytes(alloc, image, old, &mut tape_of("lines", LINES), out)
+            }
+            TestedCommand::Blame => blame_bytes(alloc, image, old, PIXELS, out),
+            TestedCommand::Map => map_bytes(alloc, &mut algorithm(), &mut schedule(), out),
+            TestedCommand::Draw => draw(resources, out),
         }
     }
 

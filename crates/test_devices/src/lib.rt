@@ -8,7 +8,7 @@
 //! - [`want_of_memory`]: what each of them answers with nothing left, and with more and more.
 //!
 //! There an allocation is refused that takes memory to a new peak of its command;
-//! [bench/fail_each_allocation](../../../bench/fail_each_allocation) refuses each single one, on many more rows.
+//! `bench/checks/fail_each_allocation` refuses each single one, on many more rows.
 //!
 //! The allocator of `rt try` has memory of its own for each size, so that not all can be taken: there that test fails,
 //! and says so. A system that promises no more memory than it has (`vm.overcommit_memory=2`) refuses other programs

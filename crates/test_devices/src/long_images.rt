@@ -5,10 +5,10 @@ use hrv_engines::devices::{CHUNK, MOST_IMAGE_BYTES};
 use hrv_engines::dis_bytes;
 use std::test::Fail;
 
-/// How many bytes stand behind those that are read.
+/// How many bytes stand after those that are read.
 const REST: usize = 1_000_000;
 
-/// More bytes than an image has are refused, and what stands behind them isn't read.
+/// More bytes than an image has are refused, and what stands after them isn't read.
 #[test]
 fn a_long_image_is_read_as_far_as_it_takes(rt: HostRuntime) -> Result<(), Fail> {
     let alloc = rt.alloc();

@@ -9,7 +9,7 @@ use std::alloc::{AllocError, Global};
 use std::test::Fail;
 use std::thread::Threads;
 
-/// How many bytes stand behind the most.
+/// How many bytes stand after the most.
 const REST: usize = 400_000;
 
 /// A front, then letters up to so many bytes in all.
@@ -66,7 +66,7 @@ fn a_long_algorithm_is_looked_at_as_a_whole(rt: HostRuntime) -> Result<(), Fail>
     Ok(())
 }
 
-/// A bad byte behind the most that an algorithm may have.
+/// A bad byte after the most that an algorithm may have.
 #[test]
 fn a_long_algorithm_may_be_no_text(rt: HostRuntime) -> Result<(), Fail> {
     let alloc = rt.alloc();

@@ -1,6 +1,6 @@
 //! What each command answers with nothing left, and with more and more.
 
-use crate::commands::{COMMANDS, Command, Files, Written};
+use crate::commands::{COMMANDS, CommandOutput, Files, TestedCommand};
 use crate::exhaustion::Exhaustion;
 use hrv_engines::{Fault, Resources};
 use std::process::Abort;
@@ -32,8 +32,8 @@ enum End {
 /// A command, with what it writes where memory is ample.
 #[derive(Drop)]
 struct Trial {
-    command: Command,
-    written: Written,
+    command: TestedCommand,
+    written: CommandOutput,
     out: Vec<u8>,
     log: Vec<u8>,
 }
@@ -43,9 +43,9 @@ impl Trial {
     fn new<R: Threads + Wait + Sync>(
         resources: &Resources<'_, R>,
         files: &Files,
-        command: Command,
+        command: TestedCommand,
     ) -> Result<Trial, Fault> {
-        let mut written = Written::new(resources.alloc);
+        let mut written = CommandOutput::new(resources.alloc);
         files.answer(resources, command, &mut written)?;
         let (out, log) = (written.out.bytes.clone()?, written.log.bytes.clone()?);
         Ok(Trial {
@@ -102,7 +102,7 @@ impl Trial {
     fn is_begun(&self) -> bool {
         let out = self.written.out.bytes.as_slice();
         let is_begun = match self.command {
-            Command::Debug => self.out.starts_with(out),
+            TestedCommand::Debug => self.out.starts_with(out),
             _ => out.is_empty(),
         };
         is_begun && self.written.log.bytes.is_empty()

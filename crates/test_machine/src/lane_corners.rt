@@ -7,7 +7,7 @@ use crate::comparing::same;
 use rv_insn::{ArithmeticVvOp, MultiplyOp, ReductionOp, VReg, VectorInsn};
 use std::process::Abort;
 use std::test::Fail;
-use vector_unit::{Asked, VectorState};
+use vector_unit::{RequestedLength, VectorState};
 
 /// What `vtype` says of elements of 8, 16 and 32 bits in single registers.
 const E8: u32 = 0b000_000;
@@ -39,7 +39,7 @@ fn state_with(rt: &impl Abort, vtype: u32, count: u32, registers: [[u8; 16]; 3])
     let mut state = VectorState::new();
     same(
         rt,
-        &state.configure(vtype, Asked::AtMost(count)),
+        &state.configure(vtype, RequestedLength::AtMost(count)),
         &Ok(count),
     );
     let [first, second, third] = registers;

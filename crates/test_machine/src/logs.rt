@@ -10,7 +10,7 @@ const EXAMPLE: [u8; 43] = [
     0, 5, 0, 0, 0, 0, 0, 0, 0, 1, 5, 0, 0, 0, 0, 0, 0, 0, 0, 1, 0, 0, 0, 0, 0, 0, 0,
 ];
 
-/// Turns of a hart behind its own lengthen the last run.
+/// Turns of a hart after its own lengthen the last run.
 #[test]
 fn runs_pushed(rt: HostRuntime) -> Result<(), Fail> {
     let mut log = TurnLog::new(rt.alloc(), 2);

@@ -1,7 +1,7 @@
 //! The debugger over 2 ^ 40 turns, and back to places that it keeps.
 
 use crate::comparing::same;
-use debugger::{Refusal, Session};
+use debugger::{Session, SessionRefusal};
 use loader::read_image;
 use rv_insn::Reg;
 use std::alloc::Global;
@@ -31,14 +31,14 @@ fn opened(alloc: Global, image: &[u8], log: &[u8]) -> Result<Session, Fail> {
     Ok(session)
 }
 
-/// From the end the stop before it is the last idle turn, and behind that there is none.
+/// From the end the stop before it is the last idle turn, and after that there is none.
 fn check_last_stop<R: Abort>(rt: &R, alloc: Global, session: &mut Session) {
     let all = session.length();
     same(rt, &session.set_break(0x0001_000c), &Ok(()));
     same(rt, &session.goto(alloc, all), &Ok(()));
     same(rt, &session.reverse(alloc), &Ok(()));
     same(rt, &session.place(), &((1 << 40) - 1));
-    same(rt, &session.forward(alloc), &Err(Refusal::NoStop));
+    same(rt, &session.forward(alloc), &Err(SessionRefusal::NoStop));
 }
 
 /// From the start the stops are the hart's last instruction, and then each idle turn.
@@ -100,7 +100,7 @@ fn kept_places(rt: HostRuntime) -> Result<(), Fail> {
     Ok(())
 }
 
-/// The last sixteen places are kept: a turn behind each of them costs one step, and one behind the place before them
+/// The last sixteen places are kept: a turn after each of them costs one step, and one after the place before them
 /// all that lead there from the start.
 #[test]
 fn sixteen_places_are_kept(rt: HostRuntime) -> Result<(), Fail> {
@@ -138,7 +138,7 @@ fn check_place<R: Abort>(rt: &R, alloc: Global, session: &mut Session, seed: u64
     same(rt, &session.word(0x0020_0000), &Ok(place as u32 / 3));
 }
 
-/// The stop before a place, where the word is watched, and the one behind that.
+/// The stop before a place, where the word is watched, and the one after that.
 fn check_stops<R: Abort>(
     rt: &R,
     alloc: Global,
@@ -154,13 +154,13 @@ fn check_stops<R: Abort>(
     same(rt, &session.place(), &after);
 }
 
-/// Before the first change and behind the last one there is no stop, and the place stays.
+/// Before the first change and after the last one there is no stop, and the place stays.
 fn check_no_stops<R: Abort>(rt: &R, alloc: Global, session: &mut Session) {
     same(rt, &session.goto(alloc, 99_999), &Ok(()));
-    same(rt, &session.forward(alloc), &Err(Refusal::NoStop));
+    same(rt, &session.forward(alloc), &Err(SessionRefusal::NoStop));
     same(rt, &session.place(), &99_999);
     same(rt, &session.goto(alloc, 3), &Ok(()));
-    same(rt, &session.reverse(alloc), &Err(Refusal::NoStop));
+    same(rt, &session.reverse(alloc), &Err(SessionRefusal::NoStop));
     same(rt, &session.place(), &3);
 }
 

@@ -4,7 +4,7 @@ use crate::comparing::same;
 use rv_insn::{Addressing, ArithmeticVvOp, ElementWidth, Reg, Trap, VReg, VectorInsn};
 use std::process::Abort;
 use std::test::Fail;
-use vector_unit::{Asked, VectorState};
+use vector_unit::{RequestedLength, VectorState};
 
 fn v(rt: &impl Abort, number: u8) -> VReg {
     VReg::new(number).expect(rt, "a vector register")
@@ -15,7 +15,11 @@ fn v(rt: &impl Abort, number: u8) -> VReg {
 fn sets_and_executes(rt: HostRuntime) -> Result<(), Fail> {
     let mut state = VectorState::new();
     assert!(rt; state.has_vill());
-    same(&rt, &state.configure(0b010_000, Asked::AtMost(2)), &Ok(2));
+    same(
+        &rt,
+        &state.configure(0b010_000, RequestedLength::AtMost(2)),
+        &Ok(2),
+    );
     state.set_register(v(&rt, 1), [1; 16]);
     state.set_register(v(&rt, 2), [3; 16]);
     state.set_register(v(&rt, 3), [9; 16]);

@@ -1,7 +1,7 @@
 //! The calls that take no memory, and calls that want it, each with its answer.
 //!
-//! [bench/fail_each_allocation](../../../bench/fail_each_allocation) runs both tests with each allocation refused,
-//! alone and together with all later ones, until a run meets none (`rt try --test --fail-alloc N` does one of these).
+//! `bench/checks/fail_each_allocation` runs both tests with each allocation refused, alone and together with all later
+//! ones, until a run meets none (`rt try --test --fail-alloc N` does one of these).
 //! No run may stop at an assertion.
 //!
 //! The types of the calls that take no memory can't tell of want of it. That they don't meet it either is seen where a

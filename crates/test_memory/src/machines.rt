@@ -121,7 +121,7 @@ pub fn check_log<R: Abort>(rt: &R, log: &TurnLog) {
     same(rt, &(log.run_at(1), log.run_at(11)), &(Some((0, 4)), None));
 }
 
-/// A session that stands behind the turns of hart 0.
+/// A session that stands after the turns of hart 0.
 pub fn session(alloc: Global) -> Result<Session, Fail> {
     let mut session = Session::open(alloc, counter(alloc)?, turns(alloc)?)?;
     match session.goto(alloc, 5) {

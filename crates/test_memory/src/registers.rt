@@ -4,7 +4,7 @@ use crate::comparing::same;
 use lanes::{Lanes, active, mask_bit, mask_bits, write_mask_bits};
 use rv_insn::{ArithmeticVvOp, ElementWidth, Reg, Trap, VReg, VectorInsn};
 use std::process::Abort;
-use vector_unit::{Asked, Spacing, VectorState};
+use vector_unit::{RequestedLength, Spacing, VectorState};
 
 /// The first operands.
 const A: [u32; 4] = [7, 0xffff_ffff, 5, 0x8000_0000];
@@ -193,7 +193,7 @@ pub fn check_unit<R: Abort>(rt: &R) {
     let x5 = Reg::new(5).expect(rt, "a register");
     same(
         rt,
-        &state.configure(0b010_000, Asked::by(x5, x5, 3)),
+        &state.configure(0b010_000, RequestedLength::by(x5, x5, 3)),
         &Ok(3),
     );
     same(rt, &(state.vl(), state.vtype()), &(3, 0b010_000));

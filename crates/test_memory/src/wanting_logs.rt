@@ -2,7 +2,7 @@
 
 use crate::machines::{TURNS, WORD, counter, turns};
 use crate::wanting::{Answer, is_answered, refused_again};
-use debugger::{Refusal, Session};
+use debugger::{Session, SessionRefusal};
 use loader::Image;
 use std::alloc::{AllocError, Global};
 use std::process::Abort;
@@ -77,18 +77,18 @@ fn watch(alloc: Global, session: &mut Session) -> Answer {
     let went = session.forward(alloc);
     match watched {
         Ok(()) => Ok(went.is_ok() && session.place() == 3),
-        Err(Refusal::OutOfMemory) if session.place() == 0 => Err(AllocError),
+        Err(SessionRefusal::OutOfMemory) if session.place() == 0 => Err(AllocError),
         Err(_) => Ok(false),
     }
 }
 
-/// From the watch's first stop a break is set; where it isn't, the watch stops behind it.
+/// From the watch's first stop a break is set; where it isn't, the watch stops after it.
 fn set_break(alloc: Global, session: &mut Session) -> Answer {
     let set = session.set_break(ADDS);
     let went = session.forward(alloc);
     match set {
         Ok(()) => Ok(went.is_ok() && session.place() == 7),
-        Err(Refusal::OutOfMemory) if session.place() == 8 => {
+        Err(SessionRefusal::OutOfMemory) if session.place() == 8 => {
             let _ = session.reverse(alloc);
             Err(AllocError)
         }

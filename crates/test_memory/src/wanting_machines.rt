@@ -3,8 +3,7 @@
 use crate::machines::{COUNTER, WORD};
 use crate::wanting::Answer;
 use debugger_blame::{MarkedRange, Marking, last_write, mark_words};
-use debugger_pages::changed_pages;
-use debugger_stores::stores_of;
+use debugger_writes::{changed_pages, stores_of};
 use hart_core::Meaning;
 use loader::{Image, LoadFault, load, store};
 use multi_hart::{Machine, Snapshot};
@@ -42,7 +41,7 @@ pub fn machines(alloc: Global) -> Answer {
 }
 
 /// Bytes are loaded, and not with nine harts; an image makes a machine, words have meanings, and the image is stored
-/// behind a byte, which alone stands there where it isn't.
+/// after a byte, which alone stands there where it isn't.
 pub fn images(alloc: Global, image: &Image, out: &mut Vec<u8>) -> Answer {
     let loaded = match load(alloc, &COUNTER, 2) {
         Err(LoadFault::OutOfMemory) => return Err(AllocError),

@@ -10,7 +10,7 @@ use crate::wanting::{Answer, TRIES, is_answered, refused_again};
 use board::Board;
 use loader::Image;
 use rv_insn::Outcome;
-use shared_machine::{Blanks, Ledgers, Origin, Refusal, Seat, Shared};
+use shared_machine::{Blanks, Ledgers, Origin, Seat, Shared, TurnRefusal};
 use std::alloc::{AllocError, Global};
 use std::marker::Brand;
 use std::process::Abort;
@@ -77,7 +77,7 @@ fn turn<O: Origin, F: Ledgers, R: Wait>(
             Err(refusal) => refusal,
         }
     };
-    if refusal == Refusal::OutOfMemory && seat.number() == 0 {
+    if refusal == TurnRefusal::OutOfMemory && seat.number() == 0 {
         Err(AllocError)
     } else {
         Ok(false)

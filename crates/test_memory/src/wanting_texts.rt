@@ -9,7 +9,7 @@ use std::test::Fail;
 /// The counter's second and third word.
 const WORDS: [u32; 2] = [0x0010_0313, 0x0062_a3af];
 
-/// The byte, and the line of one word behind it, or of both.
+/// The byte, and the line of one word after it, or of both.
 const BYTE: &[u8] = b"#";
 
 const LINE: &[u8] = b"#amoadd.w x7,x6,(x5)\n";
@@ -19,7 +19,7 @@ const LINES: &[u8] = b"#addi x6,x0,1\namoadd.w x7,x6,(x5)\n";
 /// The lines with their addresses.
 const ADDRESSED: &[u8] = b"addi x6,x0,1 # 0x00010004\namoadd.w x7,x6,(x5) # 0x00010008\n";
 
-/// Lines are written behind a byte, which alone stands there where they aren't.
+/// Lines are written after a byte, which alone stands there where they aren't.
 fn write(out: &mut Vec<u8>, both: bool) -> Answer {
     let (written, wanted) = if both {
         (write_lines(&WORDS, out), LINES)

@@ -10,7 +10,7 @@ use crate::wanting::{Answer, TRIES, is_answered, refused_again};
 use loader::Image;
 use multi_hart::Machine;
 use shared_machine::{
-    AlwaysOpen, Blanks, DriveFault, Ended, Ledgers, Origin, Refusal, Seat, Shared, drive,
+    AlwaysOpen, Blanks, DriveFault, Ended, Ledgers, Origin, Seat, Shared, TurnRefusal, drive,
     drive_batched,
 };
 use std::alloc::{AllocError, Global};
@@ -42,7 +42,7 @@ fn drive_all<O: Origin + Send + Sync, F: Ledgers + Send + Sync, R: Threads + Wai
 fn all_ended<O: Origin, F: Ledgers>(seats: &[Seat<O, F>], so: Ended, or_memory: bool) -> bool {
     for seat in seats {
         let is_so = match seat.ended() {
-            Some(Ended::Refused(Refusal::OutOfMemory)) => or_memory,
+            Some(Ended::Refused(TurnRefusal::OutOfMemory)) => or_memory,
             ended => ended == Some(so),
         };
         if !is_so {
@@ -123,7 +123,7 @@ fn drive_both<O: Origin + Send + Sync, F: Ledgers + Send + Sync, R: Threads + Wa
     let (shared, mut seats) = Shared::<O, F>::new(alloc, image, 2, blanks)?;
     if drive_all(rt, &shared, &mut seats, batched).is_err() {
         let driven = drive_all(rt, &shared, &mut seats, batched);
-        let stopped = Ended::Refused(Refusal::StopAsked);
+        let stopped = Ended::Refused(TurnRefusal::StopAsked);
         let is_stopped = driven.is_err() || all_ended(&seats, stopped, false);
         return if close(shared, seats, false) && is_stopped {
             Err(AllocError)

@@ -9,7 +9,7 @@ ghost use Rattle.shared_machine.specs.Tallies.{AreNamed};
 use loader::{Image, read_image};
 use multi_hart::Machine;
 use shared_machine::{
-    AlwaysOpen, Blanks, DriveFault, Ended, Gate, Ledgers, Origin, Refusal, Seat, Shared, drive,
+    AlwaysOpen, Blanks, DriveFault, Ended, Gate, Ledgers, Origin, Seat, Shared, TurnRefusal, drive,
     drive_batched, run,
 };
 use std::marker::Brand;
@@ -262,7 +262,7 @@ impl Gate for Notes {
 
     const OPEN: bool = false;
 
-    /// It is asked about the turn behind the last one that it was told of.
+    /// It is asked about the turn after the last one that it was told of.
     fn before(&self, hart: usize, number: u64) -> bool {
         if hart < 2 {
             if number != self.told[hart].load(SeqCst).wrapping_add(1) {
@@ -284,7 +284,7 @@ impl Gate for Notes {
     }
 }
 
-/// A gate is asked before the turns of each hart and told behind them: turn by turn, or by what is made under a lock.
+/// A gate is asked before the turns of each hart and told after them: turn by turn, or by what is made under a lock.
 #[test]
 fn gates_are_asked_and_told(rt: HostRuntime) -> Result<(), Fail> {
     for (batched, most) in [(false, 1), (true, 64)] {
@@ -394,8 +394,11 @@ fn check_stopped<O: Origin, F: Ledgers, R: Wait + Abort>(
     requires { IsSeatOf (name_of shared.now.board) seat.old }
     ensures { IsSeatOf (name_of shared.now.board) seat.new }
 {
-    assert_eq!(rt; shared.turn(rt, seat).err(), Some(Refusal::StopAsked));
-    assert_eq!(rt; shared.turns(rt, seat, 64).err(), Some(Refusal::StopAsked));
+    assert_eq!(rt; shared.turn(rt, seat).err(), Some(TurnRefusal::StopAsked));
+    assert_eq!(rt;
+        shared.turns(rt, seat, 64).err(),
+        Some(TurnRefusal::StopAsked)
+    );
 }
 
 /// The last of some seats.

@@ -57,7 +57,7 @@ const LIMIT: u64 = 10_000_000;
 /// How often the others look whether hart 1 has made its turns.
 const TRIES: u32 = 1_000_000;
 
-/// A gate that lets hart 1 make so many turns, and the others begin behind them.
+/// A gate that lets hart 1 make so many turns, and the others begin after them.
 #[derive(Drop)]
 struct Abandons {
     made: AtomicBool,
@@ -126,7 +126,7 @@ fn blur(alloc: Global, schedule: &str) -> Result<Image, Fail> {
     }
 }
 
-/// Hart 1 was shut out behind its turns, and the others have finished.
+/// Hart 1 was shut out after its turns, and the others have finished.
 fn check_seats<O: Origin, F: Ledgers, R: Abort>(rt: &R, seats: &[Seat<O, F>]) {
     for seat in seats {
         if seat.hart() == 1 {
@@ -138,7 +138,7 @@ fn check_seats<O: Origin, F: Ledgers, R: Abort>(rt: &R, seats: &[Seat<O, F>]) {
     }
 }
 
-/// No hart is running behind its last turn.
+/// No hart is running after its last turn.
 fn check_halted<O: Origin, F: Ledgers, R: Abort>(rt: &R, seats: &[Seat<O, F>]) {
     for seat in seats {
         assert_eq!(rt; seat.ended(), Some(Ended::Halted));

@@ -2,7 +2,7 @@
 
 ghost use Rattle.std.specs.Prelude.{◌<◌, length};
 
-use crate::failures::Failure;
+use crate::failures::TrialFailure;
 use crate::images::{build, output_of};
 use crate::pictures::{inputs_of, pixel_at};
 use loader::{Image, Output};
@@ -27,9 +27,13 @@ struct Rows {
 
 /// Appends for each row of the output which of three harts changed it. A hart named by the part `assignment` is
 /// stepped alone until it has drawn a task of the first phase, then the next one; then all in turn until they finish.
-pub fn push_assignment(alloc: Global, parts: &[Part], out: &mut String) -> Result<(), Failure> {
+pub fn push_assignment(
+    alloc: Global,
+    parts: &[Part],
+    out: &mut String,
+) -> Result<(), TrialFailure> {
     let [algorithm, schedule, assignment, pictures @ ..] = parts else {
-        return Err(Failure::Malformed("not three parts"));
+        return Err(TrialFailure::Malformed("not three parts"));
     };
     let inputs = inputs_of(alloc, pictures)?;
     let algorithm = algorithm.named("algorithm")?;
@@ -44,7 +48,7 @@ fn push_rows(
     image: &Image,
     assignment: &str,
     out: &mut String,
-) -> Result<(), Failure> {
+) -> Result<(), TrialFailure> {
     let mut machine = image.machine(alloc, HARTS as usize)?;
     let mut rows = rows_of(alloc, &machine, output_of(image)?)?;
     assign(&mut machine, &mut rows, assignment)?;
@@ -56,10 +60,10 @@ fn push_rows(
 }
 
 /// Has each hart that is named draw a task, one after the other.
-fn assign(machine: &mut Machine, rows: &mut Rows, assignment: &str) -> Result<(), Failure> {
+fn assign(machine: &mut Machine, rows: &mut Rows, assignment: &str) -> Result<(), TrialFailure> {
     for word in assignment.split_whitespace() {
         let Ok(hart) = word.parse::<u32>() else {
-            return Err(Failure::Malformed("a hart that is no number"));
+            return Err(TrialFailure::Malformed("a hart that is no number"));
         };
         draw_task(machine, hart);
         rows.take_changes(machine, hart)?;
@@ -68,7 +72,7 @@ fn assign(machine: &mut Machine, rows: &mut Rows, assignment: &str) -> Result<()
 }
 
 /// The output's pixels before any turn.
-fn rows_of(alloc: Global, machine: &Machine, output: Output) -> Result<Rows, Failure> {
+fn rows_of(alloc: Global, machine: &Machine, output: Output) -> Result<Rows, TrialFailure> {
     let mut pixels = Vec::new(alloc);
     let mut changed_by = Vec::new(alloc);
     for y in 0..output.height {
@@ -86,7 +90,7 @@ fn rows_of(alloc: Global, machine: &Machine, output: Output) -> Result<Rows, Fai
 
 impl Rows {
     /// Looks at the output's pixels again: what is another one than before was changed by this hart.
-    fn take_changes(&mut self, machine: &Machine, hart: u32) -> Result<(), Failure> {
+    fn take_changes(&mut self, machine: &Machine, hart: u32) -> Result<(), TrialFailure> {
         let mut place: usize = 0;
         for y in 0..self.output.height {
             for x in 0..self.output.width {
@@ -124,7 +128,7 @@ fn draw_task(machine: &mut Machine, hart: u32) {
 }
 
 /// Steps all harts in turn until they have finished.
-fn finish(machine: &mut Machine, rows: &mut Rows) -> Result<(), Failure> {
+fn finish(machine: &mut Machine, rows: &mut Rows) -> Result<(), TrialFailure> {
     for turn in 0..MOST_TURNS {
         let hart = turn % HARTS;
         if (hart as usize) < machine.harts() {
@@ -138,7 +142,7 @@ fn finish(machine: &mut Machine, rows: &mut Rows) -> Result<(), Failure> {
             return Ok(());
         }
     }
-    Err(Failure::Malformed("harts that don't finish"))
+    Err(TrialFailure::Malformed("harts that don't finish"))
 }
 
 /// Whether a hart's next instruction is one of those that may write memory: its lowest seven bits say so.

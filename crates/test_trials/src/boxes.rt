@@ -3,7 +3,7 @@
 
 ghost use Rattle.schedule.specs.Accepted.{IsAccepted};
 
-use crate::failures::Failure;
+use crate::failures::TrialFailure;
 use crate::images::{build, push_image};
 use bounds::tasks::tasks;
 use bounds::{Boxes, SourceBox, infer};
@@ -12,15 +12,15 @@ use bounds_ranges::ranges::{ORIGIN, Range};
 use halide_parser::parse;
 use halide_pipeline::Pipeline;
 use picture::Picture;
-use schedule::{Place, Schedule, read};
+use schedule::{ComputeLevel, Schedule, read};
 use schedule_lines::stages::StageName;
 use std::alloc::{AllocError, Global};
 use test_cases::Part;
 
 /// The data of an algorithm under a schedule, or the first refusal.
-pub fn push_boxes(alloc: Global, parts: &[Part], out: &mut String) -> Result<(), Failure> {
+pub fn push_boxes(alloc: Global, parts: &[Part], out: &mut String) -> Result<(), TrialFailure> {
     let [algorithm, schedule] = parts else {
-        return Err(Failure::Malformed("not two parts"));
+        return Err(TrialFailure::Malformed("not two parts"));
     };
     let algorithm = algorithm.named("algorithm")?;
     let schedule = schedule.named("schedule")?;
@@ -37,14 +37,14 @@ fn push_blank_image(
     algorithm: &str,
     schedule: &str,
     out: &mut String,
-) -> Result<(), Failure> {
+) -> Result<(), TrialFailure> {
     let inputs = blank_inputs(alloc, pipeline)?;
     let built = build(alloc, algorithm, schedule, &inputs)?;
     push_image(&built.image, out)
 }
 
 /// A picture of zeros for each input.
-fn blank_inputs(alloc: Global, pipeline: &Pipeline) -> Result<Vec<Picture>, Failure> {
+fn blank_inputs(alloc: Global, pipeline: &Pipeline) -> Result<Vec<Picture>, TrialFailure> {
     let mut inputs = Vec::new(alloc);
     for input in pipeline.inputs() {
         inputs.push(blank_picture(alloc, input.width, input.height)?)?;
@@ -53,14 +53,14 @@ fn blank_inputs(alloc: Global, pipeline: &Pipeline) -> Result<Vec<Picture>, Fail
 }
 
 /// A picture of zeros.
-fn blank_picture(alloc: Global, width: u32, height: u32) -> Result<Picture, Failure> {
+fn blank_picture(alloc: Global, width: u32, height: u32) -> Result<Picture, TrialFailure> {
     let mut pixels = Vec::new(alloc);
     for _ in 0..width.wrapping_mul(height) {
         pixels.push(0)?;
     }
     match Picture::new(width, height, pixels) {
         Some(blank) => Ok(blank),
-        None => Err(Failure::Malformed("an input that is no picture")),
+        None => Err(TrialFailure::Malformed("an input that is no picture")),
     }
 }
 
@@ -70,7 +70,7 @@ fn push_data(
     pipeline: &Pipeline,
     schedule: &Schedule,
     out: &mut String,
-) -> Result<(), Failure>
+) -> Result<(), TrialFailure>
     requires { IsAccepted pipeline.now schedule.now }
 {
     let boxes = infer(pipeline, schedule, alloc)?;
@@ -114,7 +114,7 @@ fn push_phases(
 /// Whether the output reaches a Func, which is computed at root.
 fn is_at_root(schedule: &Schedule, number: usize) -> bool {
     match schedule.standing(number) {
-        Some(standing) => standing.is_reached && standing.place == Place::Root,
+        Some(standing) => standing.is_reached && standing.place == ComputeLevel::Root,
         None => false,
     }
 }
@@ -169,7 +169,7 @@ fn push_funcs(
 fn func_address(schedule: &Schedule, boxes: &Boxes, number: usize) -> u64 {
     let layout = &boxes.layout;
     match schedule.standing(number) {
-        Some(standing) if standing.place == Place::Root => {
+        Some(standing) if standing.place == ComputeLevel::Root => {
             number_at(layout.roots.as_slice(), number)
         }
         _ => number_at(layout.privates.as_slice(), number),

@@ -12,7 +12,7 @@ use thiserror::Error;
 
 /// Why a case has no answer.
 #[derive(Debug, Drop, Error)]
-pub enum Failure {
+pub enum TrialFailure {
     /// Memory ran out.
     #[error("out of memory")]
     Memory,
@@ -27,65 +27,65 @@ pub enum Failure {
     Input(EvalError),
 }
 
-impl From<AllocError> for Failure {
-    fn from(_error: AllocError) -> Failure {
-        Failure::Memory
+impl From<AllocError> for TrialFailure {
+    fn from(_error: AllocError) -> TrialFailure {
+        TrialFailure::Memory
     }
 }
 
-impl<T: Drop> From<AllocFailed<T>> for Failure {
-    fn from(_error: AllocFailed<T>) -> Failure {
-        Failure::Memory
+impl<T: Drop> From<AllocFailed<T>> for TrialFailure {
+    fn from(_error: AllocFailed<T>) -> TrialFailure {
+        TrialFailure::Memory
     }
 }
 
-impl From<CaseFault> for Failure {
-    fn from(fault: CaseFault) -> Failure {
+impl From<CaseFault> for TrialFailure {
+    fn from(fault: CaseFault) -> TrialFailure {
         match fault {
-            CaseFault::Memory => Failure::Memory,
-            CaseFault::Malformed(why) => Failure::Malformed(why),
+            CaseFault::Memory => TrialFailure::Memory,
+            CaseFault::Malformed(why) => TrialFailure::Malformed(why),
         }
     }
 }
 
-impl From<CompileFault> for Failure {
-    fn from(fault: CompileFault) -> Failure {
-        Failure::Compile(fault)
+impl From<CompileFault> for TrialFailure {
+    fn from(fault: CompileFault) -> TrialFailure {
+        TrialFailure::Compile(fault)
     }
 }
 
-impl From<LocatedError<ParseFault>> for Failure {
-    fn from(error: LocatedError<ParseFault>) -> Failure {
-        Failure::Compile(CompileFault::from(error))
+impl From<LocatedError<ParseFault>> for TrialFailure {
+    fn from(error: LocatedError<ParseFault>) -> TrialFailure {
+        TrialFailure::Compile(CompileFault::from(error))
     }
 }
 
-impl From<LocatedError<ScheduleFault>> for Failure {
-    fn from(error: LocatedError<ScheduleFault>) -> Failure {
-        Failure::Compile(CompileFault::from(error))
+impl From<LocatedError<ScheduleFault>> for TrialFailure {
+    fn from(error: LocatedError<ScheduleFault>) -> TrialFailure {
+        TrialFailure::Compile(CompileFault::from(error))
     }
 }
 
-impl From<BoundsFault> for Failure {
-    fn from(fault: BoundsFault) -> Failure {
-        Failure::Compile(CompileFault::from(fault))
+impl From<BoundsFault> for TrialFailure {
+    fn from(fault: BoundsFault) -> TrialFailure {
+        TrialFailure::Compile(CompileFault::from(fault))
     }
 }
 
-impl From<ReadError<PictureFault>> for Failure {
-    fn from(error: ReadError<PictureFault>) -> Failure {
+impl From<ReadError<PictureFault>> for TrialFailure {
+    fn from(error: ReadError<PictureFault>) -> TrialFailure {
         match error {
-            ReadError::Memory => Failure::Memory,
-            ReadError::Fault(_) => Failure::Malformed("a picture that is none"),
+            ReadError::Memory => TrialFailure::Memory,
+            ReadError::Fault(_) => TrialFailure::Malformed("a picture that is none"),
         }
     }
 }
 
-impl From<EvalError> for Failure {
-    fn from(error: EvalError) -> Failure {
+impl From<EvalError> for TrialFailure {
+    fn from(error: EvalError) -> TrialFailure {
         match error {
-            EvalError::OutOfMemory => Failure::Memory,
-            _ => Failure::Input(error),
+            EvalError::OutOfMemory => TrialFailure::Memory,
+            _ => TrialFailure::Input(error),
         }
     }
 }

@@ -1,6 +1,6 @@
 //! Images of algorithms under schedules: the size of their data, and where their output lies.
 
-use crate::failures::Failure;
+use crate::failures::TrialFailure;
 use hrv_compiler::compile;
 use loader::{Image, Output};
 use picture::Picture;
@@ -19,7 +19,7 @@ pub fn build(
     algorithm: &str,
     schedule: &str,
     inputs: &[Picture],
-) -> Result<Built, Failure> {
+) -> Result<Built, TrialFailure> {
     let compiled = compile(algorithm, schedule, alloc)?;
     let image = compiled.image(alloc, inputs)?;
     let control = compiled.control(alloc)?;
@@ -27,16 +27,16 @@ pub fn build(
 }
 
 /// Where an image's output lies.
-pub fn output_of(image: &Image) -> Result<Output, Failure> {
+pub fn output_of(image: &Image) -> Result<Output, TrialFailure> {
     match image.output() {
         Some(output) => Ok(output),
-        None => Err(Failure::Malformed("an image without an output")),
+        None => Err(TrialFailure::Malformed("an image without an output")),
     }
 }
 
 /// Appends how many bytes the data have, the address of the output's first pixel, its size, and how many bytes a row
 /// has.
-pub fn push_image(image: &Image, out: &mut String) -> Result<(), Failure> {
+pub fn push_image(image: &Image, out: &mut String) -> Result<(), TrialFailure> {
     let size = image.data().len();
     writeln!(out, "data {size}")?;
     let Output {

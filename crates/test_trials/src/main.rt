@@ -1,7 +1,7 @@
 //! `test_trials`: whether an algorithm under a schedule leaves the reference picture, whichever way it is computed.
 //!
 //! The program reads the files that its arguments name (`test_cases`), answers each case, and prints those whose answer
-//! is another than the rules' own, which stands behind the case; none of these was copied from this program.
+//! is another than the rules' own, which stands after the case; none of these was copied from this program.
 //!
 //! | Kind | Parts |
 //! |---|---|
@@ -47,7 +47,7 @@ mod vectors;
 
 use crate::assignments::push_assignment;
 use crate::boxes::push_boxes;
-use crate::failures::Failure;
+use crate::failures::TrialFailure;
 use crate::trials::push_trial;
 use std::alloc::{AllocError, Global};
 use std::rt::{Env, Files};
@@ -132,11 +132,11 @@ fn push_answer(
     kind: &str,
     parts: &[Part],
     out: &mut String,
-) -> Result<(), Failure> {
+) -> Result<(), TrialFailure> {
     match kind {
         "boxes" => push_boxes(alloc, parts, out),
         "trial" => push_trial(rt, alloc, parts, out),
         "assign" => push_assignment(alloc, parts, out),
-        _ => Err(Failure::Malformed("an unknown kind of case")),
+        _ => Err(TrialFailure::Malformed("an unknown kind of case")),
     }
 }

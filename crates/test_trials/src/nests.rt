@@ -3,7 +3,7 @@
 
 ghost use Rattle.schedule.specs.Accepted.{IsAccepted};
 
-use crate::failures::Failure;
+use crate::failures::TrialFailure;
 use crate::pictures::picture_text;
 use bounds::{Boxes, SourceBox, infer};
 use bounds_ranges::ranges::{ORIGIN, Range};
@@ -57,7 +57,7 @@ pub fn push_nests(
     pictures: &[Picture],
     wanted: &str,
     out: &mut String,
-) -> Result<(), Failure> {
+) -> Result<(), TrialFailure> {
     let pipeline = parse(algorithm, alloc)?;
     let schedule = read(schedule, &pipeline, alloc)?;
     let inputs = buffers_of(alloc, pictures)?;
@@ -65,7 +65,7 @@ pub fn push_nests(
 }
 
 /// A buffer of each picture.
-fn buffers_of(alloc: Global, pictures: &[Picture]) -> Result<Vec<Buffer>, Failure> {
+fn buffers_of(alloc: Global, pictures: &[Picture]) -> Result<Vec<Buffer>, TrialFailure> {
     let mut buffers = Vec::new(alloc);
     for picture in pictures {
         buffers.push(buffer_of(alloc, picture)?)?;
@@ -74,7 +74,7 @@ fn buffers_of(alloc: Global, pictures: &[Picture]) -> Result<Vec<Buffer>, Failur
 }
 
 /// A picture's pixels.
-fn buffer_of(alloc: Global, picture: &Picture) -> Result<Buffer, Failure> {
+fn buffer_of(alloc: Global, picture: &Picture) -> Result<Buffer, TrialFailure> {
     let pixels = picture.pixels().to_vec(alloc)?;
     buffer(picture.width(), picture.height(), pixels)
 }
@@ -87,7 +87,7 @@ fn push_lowered(
     inputs: &[Buffer],
     wanted: &str,
     out: &mut String,
-) -> Result<(), Failure>
+) -> Result<(), TrialFailure>
     requires { IsAccepted pipeline.now schedule.now }
 {
     let boxes = infer(pipeline, schedule, alloc)?;
@@ -102,7 +102,7 @@ fn push_lowered(
 }
 
 /// The line of an order of tasks.
-fn push_order(order: Order, is_wanted: bool, out: &mut String) -> Result<(), Failure> {
+fn push_order(order: Order, is_wanted: bool, out: &mut String) -> Result<(), TrialFailure> {
     let what = if is_wanted {
         "the picture"
     } else {
@@ -113,10 +113,10 @@ fn push_order(order: Order, is_wanted: bool, out: &mut String) -> Result<(), Fai
 }
 
 /// A buffer of pixels, which are as many as points.
-fn buffer(width: u32, height: u32, pixels: Vec<u32>) -> Result<Buffer, Failure> {
+fn buffer(width: u32, height: u32, pixels: Vec<u32>) -> Result<Buffer, TrialFailure> {
     match Buffer::new(width, height, pixels) {
         Some(made) => Ok(made),
-        None => Err(Failure::Malformed("as many pixels as points")),
+        None => Err(TrialFailure::Malformed("as many pixels as points")),
     }
 }
 
@@ -128,7 +128,7 @@ fn drawn(
     phases: &[Phase],
     inputs: &[Buffer],
     order: Order,
-) -> Result<String, Failure> {
+) -> Result<String, TrialFailure> {
     let mut funcs = blank_buffers(alloc, boxes)?;
     for phase in phases {
         do_phase(alloc, boxes, phase, inputs, order, &mut funcs)?;
@@ -143,7 +143,7 @@ fn drawn_at_once(
     boxes: &Boxes,
     phases: &[Phase],
     inputs: &[Buffer],
-) -> Result<String, Failure> {
+) -> Result<String, TrialFailure> {
     let mut funcs = blank_buffers(alloc, boxes)?;
     for phase in phases {
         run_phase(phase, inputs, &mut funcs);
@@ -152,7 +152,7 @@ fn drawn_at_once(
 }
 
 /// A buffer of zeros for each Func.
-fn blank_buffers(alloc: Global, boxes: &Boxes) -> Result<Vec<Buffer>, Failure> {
+fn blank_buffers(alloc: Global, boxes: &Boxes) -> Result<Vec<Buffer>, TrialFailure> {
     let mut funcs = Vec::new(alloc);
     for own in boxes.funcs.as_slice() {
         funcs.push(filled(alloc, own, 0)?)?;
@@ -168,7 +168,7 @@ fn do_phase(
     inputs: &[Buffer],
     order: Order,
     funcs: &mut [Buffer],
-) -> Result<(), Failure> {
+) -> Result<(), TrialFailure> {
     for place in 0..phase.tasks {
         let task = order.task(place, phase.tasks);
         spoil(alloc, boxes, phase, task, funcs)?;
@@ -178,7 +178,7 @@ fn do_phase(
 }
 
 /// A buffer of the points of a box: of zeros, or where there is a seed, of other pixels.
-fn filled(alloc: Global, own: &Option<SourceBox>, seed: u32) -> Result<Buffer, Failure> {
+fn filled(alloc: Global, own: &Option<SourceBox>, seed: u32) -> Result<Buffer, TrialFailure> {
     let (width, height) = match own {
         Some(own) => (extent(own.x), extent(own.y)),
         None => (0, 0),
@@ -202,7 +202,7 @@ fn spoil(
     phase: &Phase,
     task: u32,
     funcs: &mut [Buffer],
-) -> Result<(), Failure> {
+) -> Result<(), TrialFailure> {
     for place in phase.private.as_slice() {
         if let Some(own) = boxes.funcs.as_slice().get(*place)
             && let Some(buffer) = funcs.get_mut(*place)
@@ -219,13 +219,13 @@ fn output_text(
     pipeline: &Pipeline,
     boxes: &Boxes,
     funcs: &[Buffer],
-) -> Result<String, Failure> {
+) -> Result<String, TrialFailure> {
     let output = pipeline.output();
     let (Some(Some(own)), Some(buffer)) = (
         boxes.funcs.as_slice().get(output.func),
         funcs.get(output.func),
     ) else {
-        return Err(Failure::Malformed("an output without a box"));
+        return Err(TrialFailure::Malformed("an output without a box"));
     };
     let left = (ORIGIN.wrapping_sub(own.x.low) % (1 << 32)) as u32;
     let top = (ORIGIN.wrapping_sub(own.y.low) % (1 << 32)) as u32;

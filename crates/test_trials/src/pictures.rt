@@ -1,6 +1,6 @@
 //! Pictures: a case's inputs, and what stands in a machine's memory.
 
-use crate::failures::Failure;
+use crate::failures::TrialFailure;
 use loader::Output;
 use multi_hart::Machine;
 use picture::Picture;
@@ -8,7 +8,7 @@ use std::alloc::Global;
 use test_cases::Part;
 
 /// The pictures of a case's last parts.
-pub fn inputs_of(alloc: Global, parts: &[Part]) -> Result<Vec<Picture>, Failure> {
+pub fn inputs_of(alloc: Global, parts: &[Part]) -> Result<Vec<Picture>, TrialFailure> {
     let mut inputs = Vec::new(alloc);
     for part in parts {
         inputs.push(Picture::read(alloc, part.named("picture")?)?)?;
@@ -22,25 +22,29 @@ pub fn picture_text(
     width: u32,
     height: u32,
     pixels: Vec<u32>,
-) -> Result<String, Failure> {
+) -> Result<String, TrialFailure> {
     match Picture::new(width, height, pixels) {
         Some(picture) => text_of(alloc, &picture),
-        None => Err(Failure::Malformed("an output that is no picture")),
+        None => Err(TrialFailure::Malformed("an output that is no picture")),
     }
 }
 
 /// A picture's text, which is ASCII.
-pub fn text_of(alloc: Global, picture: &Picture) -> Result<String, Failure> {
+pub fn text_of(alloc: Global, picture: &Picture) -> Result<String, TrialFailure> {
     let mut bytes = Vec::new(alloc);
     picture.write(&mut bytes)?;
     match str::from_utf8(&bytes) {
         Ok(text) => Ok(String::from_str(alloc, text)?),
-        Err(_) => Err(Failure::Malformed("a picture that is no text")),
+        Err(_) => Err(TrialFailure::Malformed("a picture that is no text")),
     }
 }
 
 /// The text of the picture that stands in a machine's memory.
-pub fn output_text(alloc: Global, machine: &Machine, output: Output) -> Result<String, Failure> {
+pub fn output_text(
+    alloc: Global,
+    machine: &Machine,
+    output: Output,
+) -> Result<String, TrialFailure> {
     let mut pixels = Vec::new(alloc);
     for y in 0..output.height {
         for x in 0..output.width {
@@ -51,10 +55,10 @@ pub fn output_text(alloc: Global, machine: &Machine, output: Output) -> Result<S
 }
 
 /// A pixel of the picture that stands in a machine's memory.
-pub fn pixel_at(machine: &Machine, output: Output, x: u32, y: u32) -> Result<u32, Failure> {
+pub fn pixel_at(machine: &Machine, output: Output, x: u32, y: u32) -> Result<u32, TrialFailure> {
     let row = output.address.wrapping_add(y.wrapping_mul(output.stride));
     match machine.word(row.wrapping_add(x.wrapping_mul(4))) {
         Some(pixel) => Ok(pixel),
-        None => Err(Failure::Malformed("a pixel outside the data")),
+        None => Err(TrialFailure::Malformed("a pixel outside the data")),
     }
 }

@@ -2,7 +2,7 @@
 
 ghost use Rattle.std.specs.Prelude.{◌≤◌};
 
-use crate::failures::Failure;
+use crate::failures::TrialFailure;
 use crate::images::{Built, output_of};
 use crate::pictures::output_text;
 use multi_hart::Machine;
@@ -55,7 +55,7 @@ pub fn push_runs(
     built: &Built,
     wanted: &str,
     out: &mut String,
-) -> Result<(), Failure> {
+) -> Result<(), TrialFailure> {
     // Half of what one hart alone needs is far ahead, and not so far that nothing is left to others.
     let lead = push_run(alloc, built, 1, Pace::InTurn, 0, wanted, out)? / 2;
     push_run(alloc, built, 2, Pace::Drawn, lead, wanted, out)?;
@@ -78,7 +78,7 @@ fn push_run(
     lead: u32,
     wanted: &str,
     out: &mut String,
-) -> Result<u32, Failure>
+) -> Result<u32, TrialFailure>
     requires { (1 ≤ harts) × (harts ≤ 8) }
 {
     let mut machine = built.image.machine(alloc, harts as usize)?;

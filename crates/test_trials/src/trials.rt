@@ -1,6 +1,6 @@
 //! One case: the image and the picture, and the ways that compute it.
 
-use crate::failures::Failure;
+use crate::failures::TrialFailure;
 use crate::images::{Built, build, push_control, push_image};
 use crate::nests::push_nests;
 use crate::pictures::{inputs_of, text_of};
@@ -19,9 +19,9 @@ pub fn push_trial(
     alloc: Global,
     parts: &[Part],
     out: &mut String,
-) -> Result<(), Failure> {
+) -> Result<(), TrialFailure> {
     let [algorithm, schedule, pictures @ ..] = parts else {
-        return Err(Failure::Malformed("not two parts"));
+        return Err(TrialFailure::Malformed("not two parts"));
     };
     let algorithm = algorithm.named("algorithm")?;
     let schedule = schedule.named("schedule")?;
@@ -37,7 +37,7 @@ fn push_with_inputs(
     schedule: &str,
     inputs: &[Picture],
     out: &mut String,
-) -> Result<(), Failure> {
+) -> Result<(), TrialFailure> {
     let built = build(alloc, algorithm, schedule, inputs)?;
     push_built(&built, out)?;
     let wanted = reference(rt, alloc, algorithm, inputs)?;
@@ -48,7 +48,7 @@ fn push_with_inputs(
 }
 
 /// What the image is.
-fn push_built(built: &Built, out: &mut String) -> Result<(), Failure> {
+fn push_built(built: &Built, out: &mut String) -> Result<(), TrialFailure> {
     push_image(&built.image, out)?;
     push_control(&built.control, out)?;
     Ok(())
@@ -60,7 +60,7 @@ fn reference(
     alloc: Global,
     algorithm: &str,
     inputs: &[Picture],
-) -> Result<String, Failure> {
+) -> Result<String, TrialFailure> {
     let pipeline = parse(algorithm, alloc)?;
     let picture = evaluate(rt, alloc, &pipeline, inputs)?;
     text_of(alloc, &picture)

@@ -8,7 +8,7 @@
 
 ghost use Rattle.schedule.specs.Accepted.{IsAccepted};
 
-use crate::failures::Failure;
+use crate::failures::TrialFailure;
 use bounds::infer;
 use halide_parser::parse;
 use halide_pipeline::Pipeline;
@@ -29,7 +29,7 @@ pub fn push_vectors(
     schedule: &str,
     image: &Image,
     out: &mut String,
-) -> Result<(), Failure> {
+) -> Result<(), TrialFailure> {
     let pipeline = parse(algorithm, alloc)?;
     let schedule = read(schedule, &pipeline, alloc)?;
     let marked = marked_loops(alloc, &pipeline, &schedule, false)?;
@@ -55,7 +55,7 @@ fn marked_loops(
     pipeline: &Pipeline,
     schedule: &Schedule,
     apart: bool,
-) -> Result<u64, Failure>
+) -> Result<u64, TrialFailure>
     requires { IsAccepted pipeline.now schedule.now }
 {
     let boxes = infer(pipeline, schedule, alloc)?;

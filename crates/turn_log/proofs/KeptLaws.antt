@@ -16,13 +16,13 @@ use Rattle.turn_log.specs.LogSpelling.{begins_with, expanded, runs_of, run_bytes
 use Rattle.turn_log.specs.inner.Kept.{runs_from, turns_of, is_of, with_run, IsRun, AreRuns, IsKept}
 use Rattle.turn_log.specs.RunAt.{ahead, first_run, run_at}
 use Rattle.turn_log.specs.declared.runs.Run.{Run}
-use Rattle.turn_log.specs.inner.Stretches.{Stretch}
+use Rattle.turn_log.specs.inner.RunEnds.{RunEnd}
 use Rattle.turn_log.proofs.RunAtLaws.{first_run-within}
 use Rattle.turn_log.proofs.RunLaws.{runs_of-expanded, IsLog-push_run, count_of-push_run, count_of-none}
 
 -- ---- the ends rise
 
-ends_above : (harts start : ℕ) (runs : List Stretch) → AreRuns harts (runs_from start runs) → (j : ℕ) (d : Stretch) → j < length runs
+ends_above : (harts start : ℕ) (runs : List RunEnd) → AreRuns harts (runs_from start runs) → (j : ℕ) (d : RunEnd) → j < length runs
     → start < (get_or runs j d).end
 ends_above harts start [] are j d lt = absurd (omega arith)
 ends_above harts start (run ∷ runs) are zero d lt = let some = are.0.some in omega (arith, some)
@@ -31,7 +31,7 @@ ends_above harts start (run ∷ runs) are (suc j) d lt =
     let rest = ends_above harts run.end runs are.1 j d (omega arith) in
     omega (arith, some, rest)
 
-pub ends_rise : (harts start : ℕ) (runs : List Stretch) → AreRuns harts (runs_from start runs) → IsNonDecreasingBy (λ (run : Stretch). run.end) runs
+pub ends_rise : (harts start : ℕ) (runs : List RunEnd) → AreRuns harts (runs_from start runs) → IsNonDecreasingBy (λ (run : RunEnd). run.end) runs
 ends_rise harts start [] are i j d le lt = absurd (omega arith)
 ends_rise harts start (run ∷ runs) are zero zero d le lt = omega arith
 ends_rise harts start (run ∷ runs) are zero (suc j) d le lt = let above = ends_above harts run.end runs are.1 j d (omega arith) in omega (arith, above)
@@ -49,11 +49,11 @@ ahead-other harts hart (run ∷ runs) are other =
     let front : expanded (run ∷ runs) ≡ run.hart ∷ (replicate k run.hart ++ expanded runs) = ap (λ (n : ℕ). replicate n run.hart ++ expanded runs) one in
     ap (ahead hart) front ∙ cond-false (eqb run.hart hart) (suc (ahead hart (replicate k run.hart ++ expanded runs))) 0 other
 
-abbrev pub from : ℕ → Option Stretch → Option (ℕ × ℕ)
+abbrev pub from : ℕ → Option RunEnd → Option (ℕ × ℕ)
 from place None = None
 from place (Some run) = Some (run.hart, run.end - place)
 
-pub found : (harts start place i : ℕ) (runs : List Stretch) (d : Stretch) → AreRuns harts (runs_from start runs) → start ≤ place
+pub found : (harts start place i : ℕ) (runs : List RunEnd) (d : RunEnd) → AreRuns harts (runs_from start runs) → start ≤ place
     → ((j : ℕ) → j < i → (get_or runs j d).end ≤ place) → ((j : ℕ) → i ≤ j → j < length runs → place < (get_or runs j d).end)
     → first_run (drop (place - start) (expanded (runs_from start runs))) ≡ from place (slice_get runs i)
 found harts start place i [] d are le below above = ap first_run (drop-nil (place - start))
@@ -75,74 +75,74 @@ found harts start place (suc i) (run ∷ runs) d are le below above =
     ∙ found harts run.end place i runs d are.1 before (λ j lt. below (suc j) (omega arith)) (λ j ge lt. above (suc j) (omega arith) (omega arith))
 
 -- the same by where a search finds it
-pub run_at-found : (harts place i : ℕ) (runs : List Stretch) → AreRuns harts (runs_from 0 runs)
-    → IsPartitionPoint (λ (run : Stretch). run.end ≤ place) (λ (run : Stretch). place < run.end) runs i
+pub run_at-found : (harts place i : ℕ) (runs : List RunEnd) → AreRuns harts (runs_from 0 runs)
+    → IsPartitionPoint (λ (run : RunEnd). run.end ≤ place) (λ (run : RunEnd). place < run.end) runs i
     → run_at (turns_of runs) place ≡ from place (slice_get runs i)
 unfolding run_at
 run_at-found harts place i runs are point =
-    let none : Stretch = record { hart = 0; end = 0 } in
+    let none : RunEnd = record { hart = 0; end = 0 } in
     let n : place ≡ place - 0 = omega arith in
     ap (λ (k : ℕ). first_run (drop k (turns_of runs))) n
     ∙ found harts 0 place i runs none are (omega arith) (λ j lt. point.0 j none (omega arith) lt) (λ j ge lt. point.1 j none ge lt)
 
 -- ---- where a search ends
 
-pub same_at : (runs : List Stretch) (place : ℕ) (d e : Stretch) → place < length runs → get_or runs place d ≡ get_or runs place e
+pub same_at : (runs : List RunEnd) (place : ℕ) (d e : RunEnd) → place < length runs → get_or runs place d ≡ get_or runs place e
 same_at [] place d e lt = absurd (omega arith)
 same_at (run ∷ runs) zero d e lt = refl
 same_at (run ∷ runs) (suc place) d e lt = same_at runs place d e (omega arith)
 
--- a run that ends behind a place, where the one before it, if there is one, ends there or before
-pub point-at : (runs : List Stretch) (k place : ℕ) (d : Stretch) → IsNonDecreasingBy (λ (run : Stretch). run.end) runs → place < length runs
+-- a run that ends after a place, where the one before it, if there is one, ends there or before
+pub point-at : (runs : List RunEnd) (k place : ℕ) (d : RunEnd) → IsNonDecreasingBy (λ (run : RunEnd). run.end) runs → place < length runs
     → k < (get_or runs place d).end
-    → ((j : ℕ) → j < place → (get_or runs (place - 1) d).end ≤ k) → IsPartitionPoint (λ (run : Stretch). run.end ≤ k) (λ (run : Stretch). k < run.end) runs
+    → ((j : ℕ) → j < place → (get_or runs (place - 1) d).end ≤ k) → IsPartitionPoint (λ (run : RunEnd). run.end ≤ k) (λ (run : RunEnd). k < run.end) runs
     place
 point-at runs k place d rise within behind before = (
   λ j e _ lt.
-      let same = ap (λ (run : Stretch). run.end) (same_at runs j e d (omega (arith, lt, within))) in
+      let same = ap (λ (run : RunEnd). run.end) (same_at runs j e d (omega (arith, lt, within))) in
       let up = rise j (place - 1) d (omega (arith, lt)) (omega (arith, lt, within)) in
       let ends = before j lt in
       omega (arith, same, up, ends),
   λ j e ge lt.
-      let same = ap (λ (run : Stretch). run.end) (same_at runs j e d lt) in
+      let same = ap (λ (run : RunEnd). run.end) (same_at runs j e d lt) in
       let up = rise place j d ge lt in
       omega (arith, same, up, behind),
 )
 
 -- ---- where the runs end
 
-abbrev pub last_end : ℕ → List Stretch → ℕ
+abbrev pub last_end : ℕ → List RunEnd → ℕ
 last_end start [] = start
 last_end start (run ∷ runs) = last_end run.end runs
 
-abbrev pub last_of : List Stretch → Option Stretch
+abbrev pub last_of : List RunEnd → Option RunEnd
 last_of [] = None
 last_of (run ∷ []) = Some run
 last_of (first ∷ (second ∷ others)) = last_of (second ∷ others)
 
--- the last place, behind the first one
-one_less : (first second : Stretch) (others : List Stretch) → length (first ∷ (second ∷ others)) - 1 ≡ suc (length (second ∷ others) - 1)
+-- the last place, after the first one
+one_less : (first second : RunEnd) (others : List RunEnd) → length (first ∷ (second ∷ others)) - 1 ≡ suc (length (second ∷ others) - 1)
 one_less first second others = omega arith
 
-pub last_at : (runs : List Stretch) → slice_get runs (length runs - 1) ≡ last_of runs
+pub last_at : (runs : List RunEnd) → slice_get runs (length runs - 1) ≡ last_of runs
 last_at [] = refl
 last_at (run ∷ []) = refl
 last_at (first ∷ (second ∷ others)) = ap (slice_get (first ∷ (second ∷ others))) (one_less first second others) ∙ last_at (second ∷ others)
 
-abbrev pub end_of : Option Stretch → ℕ
+abbrev pub end_of : Option RunEnd → ℕ
 end_of None = 0
 end_of (Some run) = run.end
 
-last_end-more : (start : ℕ) (first : Stretch) (others : List Stretch) → last_end start (first ∷ others) ≡ end_of (last_of (first ∷ others))
+last_end-more : (start : ℕ) (first : RunEnd) (others : List RunEnd) → last_end start (first ∷ others) ≡ end_of (last_of (first ∷ others))
 last_end-more start first [] = refl
 last_end-more start first (second ∷ others) = last_end-more first.end second others
 
-pub last_end-last : (runs : List Stretch) → last_end 0 runs ≡ end_of (last_of runs)
+pub last_end-last : (runs : List RunEnd) → last_end 0 runs ≡ end_of (last_of runs)
 last_end-last [] = refl
 last_end-last (first ∷ others) = last_end-more 0 first others
 
 -- the turns are as many as the last end says
-pub length-turns : (harts start : ℕ) (runs : List Stretch) → AreRuns harts (runs_from start runs) → start + length (expanded (runs_from start runs))
+pub length-turns : (harts start : ℕ) (runs : List RunEnd) → AreRuns harts (runs_from start runs) → start + length (expanded (runs_from start runs))
     ≡ last_end start runs
 length-turns harts start [] are = omega arith
 length-turns harts start (run ∷ runs) are =
@@ -157,13 +157,13 @@ length-turns harts start (run ∷ runs) are =
           run.hart,
     )
 
-pub some_turns : (harts start : ℕ) (run : Stretch) (runs : List Stretch) → AreRuns harts (runs_from start (run ∷ runs))
+pub some_turns : (harts start : ℕ) (run : RunEnd) (runs : List RunEnd) → AreRuns harts (runs_from start (run ∷ runs))
     → 0 < length (expanded (runs_from start (run ∷ runs)))
 some_turns harts start run runs are =
     let some = are.0.some in
     omega (arith, some, length-append (replicate (run.end - start) run.hart) (expanded (runs_from run.end runs)), length-replicate (run.end - start) run.hart)
 
-pub last_turn : (harts start : ℕ) (runs : List Stretch) (run : Stretch) → AreRuns harts (runs_from start runs) → last_of runs ≡ Some run
+pub last_turn : (harts start : ℕ) (runs : List RunEnd) (run : RunEnd) → AreRuns harts (runs_from start runs) → last_of runs ≡ Some run
     → get_or (expanded (runs_from start runs)) (length (expanded (runs_from start runs)) - 1) 0 ≡ run.hart
 last_turn harts start [] run are e = absurd cc
 last_turn harts start (first ∷ []) run are e =
@@ -174,7 +174,7 @@ last_turn harts start (first ∷ []) run are e =
     let len : length turns ≡ n = length-replicate n first.hart in
     let alone : expanded (runs_from start (first ∷ [])) ≡ turns = append-nil turns in
     ap (λ (ts : List ℕ). get_or ts (length ts - 1) 0) alone ∙ get_or-replicate n (length turns - 1) first.hart 0 (omega (arith, len, some))
-    ∙ ap (λ (r : Stretch). r.hart) same
+    ∙ ap (λ (r : RunEnd). r.hart) same
 last_turn harts start (first ∷ (second ∷ others)) run are e =
     let turns = replicate (first.end - start) first.hart in
     let rest = expanded (runs_from first.end (second ∷ others)) in
@@ -192,7 +192,7 @@ replicate-add : (m n turn : ℕ) → replicate (m + n) turn ≡ replicate m turn
 replicate-add zero n turn = ap (λ (k : ℕ). replicate k turn) (zero-add n)
 replicate-add (suc m) n turn = ap (λ (k : ℕ). replicate k turn) (suc-add m n) ∙ ap (λ (ts : List ℕ). turn ∷ ts) (replicate-add m n turn)
 
-pub turns-with_run : (harts start : ℕ) (runs : List Stretch) (run : Stretch) → AreRuns harts (runs_from start runs) → last_end start runs < run.end
+pub turns-with_run : (harts start : ℕ) (runs : List RunEnd) (run : RunEnd) → AreRuns harts (runs_from start runs) → last_end start runs < run.end
     → expanded (runs_from start (with_run runs run)) ≡ expanded (runs_from start runs) ++ replicate (run.end - last_end start runs) run.hart
 turns-with_run harts start [] run are lt = append-nil (replicate (run.end - start) run.hart)
 turns-with_run harts start (last ∷ []) run are lt =
@@ -200,7 +200,7 @@ turns-with_run harts start (last ∷ []) run are lt =
     let old = replicate (last.end - start) last.hart in
     let new = replicate (run.end - last.end) run.hart in
     cond_both (eqb last.hart run.hart) (run ∷ []) (last ∷ run ∷ [])
-    (λ (made : List Stretch). expanded (runs_from start made) ≡ (old ++ []) ++ new)
+    (λ (made : List RunEnd). expanded (runs_from start made) ≡ (old ++ []) ++ new)
     (λ e.
     let same : last.hart ≡ run.hart = eqb-true last.hart run.hart e in
     let n : run.end - start ≡ (last.end - start) + (run.end - last.end) = omega (arith, some, lt) in
@@ -213,10 +213,10 @@ turns-with_run harts start (first ∷ (second ∷ others)) run are lt =
     ap (λ (ts : List ℕ). turns ++ ts) rest
     ∙ sym (append_assoc turns (expanded (runs_from first.end (second ∷ others))) (replicate (run.end - last_end first.end (second ∷ others)) run.hart))
 
-begins_with-with_run : (start : ℕ) (first : Stretch) (others : List Stretch) (run : Stretch) (hart : ℕ)
+begins_with-with_run : (start : ℕ) (first : RunEnd) (others : List RunEnd) (run : RunEnd) (hart : ℕ)
     → begins_with (runs_from start (with_run (first ∷ others) run)) hart ≡ begins_with (runs_from start (first ∷ others)) hart
 begins_with-with_run start first [] run hart =
-    cond_both (eqb first.hart run.hart) (run ∷ []) (first ∷ run ∷ []) (λ (made : List Stretch). begins_with (runs_from start made) hart ≡ eqb first.hart hart)
+    cond_both (eqb first.hart run.hart) (run ∷ []) (first ∷ run ∷ []) (λ (made : List RunEnd). begins_with (runs_from start made) hart ≡ eqb first.hart hart)
     (λ e. let same : first.hart ≡ run.hart = eqb-true first.hart run.hart e in ap (λ (h : ℕ). eqb h hart) (sym same))
     (λ e. refl)
 begins_with-with_run start first (second ∷ others) run hart = refl
@@ -224,12 +224,12 @@ begins_with-with_run start first (second ∷ others) run hart = refl
 other_way : (a b : ℕ) → eqb a b ≡ false → eqb b a ≡ false
 other_way a b e = ne_eqb b a (λ same. eqb-false a b e (sym same))
 
-pub AreRuns-with_run : (harts start : ℕ) (runs : List Stretch) (run : Stretch) → AreRuns harts (runs_from start runs) → last_end start runs < run.end
+pub AreRuns-with_run : (harts start : ℕ) (runs : List RunEnd) (run : RunEnd) → AreRuns harts (runs_from start runs) → last_end start runs < run.end
     → run.hart < harts → AreRuns harts (runs_from start (with_run runs run))
 AreRuns-with_run harts start [] run are lt below = (record { below = below; some = omega (arith, lt); other = refl }, tt)
 AreRuns-with_run harts start (last ∷ []) run are lt below =
     let some = are.0.some in
-    cond_both (eqb last.hart run.hart) (run ∷ []) (last ∷ run ∷ []) (λ (made : List Stretch). AreRuns harts (runs_from start made))
+    cond_both (eqb last.hart run.hart) (run ∷ []) (last ∷ run ∷ []) (λ (made : List RunEnd). AreRuns harts (runs_from start made))
     (λ e. (record { below = below; some = omega (arith, lt, some); other = refl }, tt))
     (λ e. (
       record { below = are.0.below; some = some; other = other_way last.hart run.hart e },
@@ -250,32 +250,32 @@ AreRuns-with_run harts start (first ∷ (second ∷ others)) run are lt below = 
 
 -- ---- how the code adds one
 
-pub with_run-joins : (runs : List Stretch) (run : Stretch) → is_of (last_of runs) run.hart ≡ true → set runs (length runs - 1) run ≡ with_run runs run
+pub with_run-joins : (runs : List RunEnd) (run : RunEnd) → is_of (last_of runs) run.hart ≡ true → set runs (length runs - 1) run ≡ with_run runs run
 with_run-joins [] run same = absurd cc
 with_run-joins (first ∷ []) run same = sym (cond-true (eqb first.hart run.hart) (run ∷ []) (first ∷ run ∷ []) same)
 with_run-joins (first ∷ (second ∷ others)) run same = ap (λ (k : ℕ). set (first ∷ (second ∷ others)) k run) (one_less first second others)
-    ∙ ap (λ (rs : List Stretch). first ∷ rs) (with_run-joins (second ∷ others) run same)
+    ∙ ap (λ (rs : List RunEnd). first ∷ rs) (with_run-joins (second ∷ others) run same)
 
-pub with_run-opens : (runs : List Stretch) (run : Stretch) → is_of (last_of runs) run.hart ≡ false → runs ++ run ∷ [] ≡ with_run runs run
+pub with_run-opens : (runs : List RunEnd) (run : RunEnd) → is_of (last_of runs) run.hart ≡ false → runs ++ run ∷ [] ≡ with_run runs run
 with_run-opens [] run other = refl
 with_run-opens (first ∷ []) run other = sym (cond-false (eqb first.hart run.hart) (run ∷ []) (first ∷ run ∷ []) other)
-with_run-opens (first ∷ (second ∷ others)) run other = ap (λ (rs : List Stretch). first ∷ rs) (with_run-opens (second ∷ others) run other)
+with_run-opens (first ∷ (second ∷ others)) run other = ap (λ (rs : List RunEnd). first ∷ rs) (with_run-opens (second ∷ others) run other)
 
 -- ---- the last turn
 
-last_of-there : (first : Stretch) (others : List Stretch) → last_of (first ∷ others) ≡ None → ⊥
+last_of-there : (first : RunEnd) (others : List RunEnd) → last_of (first ∷ others) ≡ None → ⊥
 last_of-there first [] e = cc
 last_of-there first (second ∷ others) e = last_of-there second others e
 
-pub no_turns : (runs : List Stretch) → last_of runs ≡ None → turns_of runs ≡ []
+pub no_turns : (runs : List RunEnd) → last_of runs ≡ None → turns_of runs ≡ []
 no_turns [] e = refl
 no_turns (first ∷ others) e = absurd (last_of-there first others e)
 
-pub last_hart-none : (runs : List Stretch) → last_of runs ≡ None → slice_get (turns_of runs) (length (turns_of runs) - 1) ≡ None
+pub last_hart-none : (runs : List RunEnd) → last_of runs ≡ None → slice_get (turns_of runs) (length (turns_of runs) - 1) ≡ None
 last_hart-none [] e = refl
 last_hart-none (first ∷ others) e = absurd (last_of-there first others e)
 
-pub last_hart-some : (harts : ℕ) (runs : List Stretch) (run : Stretch) → AreRuns harts (runs_from 0 runs) → last_of runs ≡ Some run
+pub last_hart-some : (harts : ℕ) (runs : List RunEnd) (run : RunEnd) → AreRuns harts (runs_from 0 runs) → last_of runs ≡ Some run
     → slice_get (turns_of runs) (length (turns_of runs) - 1) ≡ Some run.hart
 last_hart-some harts [] run are e = absurd cc
 last_hart-some harts (first ∷ others) run are e =
@@ -283,7 +283,7 @@ last_hart-some harts (first ∷ others) run are e =
     let some = some_turns harts 0 first others are in
     slice_get-get_or turns (length turns - 1) 0 (omega (arith, some)) ∙ ap (λ (h : ℕ). Some h) (last_turn harts 0 (first ∷ others) run are e)
 
-other_hart : (harts : ℕ) (runs : List Stretch) (hart : ℕ) (last : Option Stretch) → last_of runs ≡ last → AreRuns harts (runs_from 0 runs)
+other_hart : (harts : ℕ) (runs : List RunEnd) (hart : ℕ) (last : Option RunEnd) → last_of runs ≡ last → AreRuns harts (runs_from 0 runs)
     → is_of last hart ≡ false
     → slice_get (turns_of runs) (length (turns_of runs) - 1) ≡ Some hart → ⊥
 other_hart harts runs hart None e are other same = let none = last_hart-none runs e in absurd cc
@@ -293,13 +293,13 @@ other_hart harts runs hart (Some run) e are other same =
     eqb-false run.hart hart other hart_is
 
 -- the last turn is of another hart, where the last run is
-pub last_turn-other : (harts : ℕ) (runs : List Stretch) (hart : ℕ) → AreRuns harts (runs_from 0 runs) → is_of (last_of runs) hart ≡ false
+pub last_turn-other : (harts : ℕ) (runs : List RunEnd) (hart : ℕ) → AreRuns harts (runs_from 0 runs) → is_of (last_of runs) hart ≡ false
     → slice_get (turns_of runs) (length (turns_of runs) - 1) ≡ Some hart → ⊥
 last_turn-other harts runs hart are other = other_hart harts runs hart (last_of runs) refl are other
 
 -- ---- how many turns
 
-pub length-some : (harts : ℕ) (runs : List Stretch) (run : Stretch) → AreRuns harts (runs_from 0 runs) → last_of runs ≡ Some run
+pub length-some : (harts : ℕ) (runs : List RunEnd) (run : RunEnd) → AreRuns harts (runs_from 0 runs) → last_of runs ≡ Some run
     → length (turns_of runs) ≡ run.end
 length-some harts runs run are e =
     let all = length-turns harts 0 runs are in
@@ -307,7 +307,7 @@ length-some harts runs run are e =
     omega (arith, all, last)
 
 -- a total by its place, also of a hart that there isn't
-pub counted_at : (harts : ℕ) (totals : List ℕ) (runs : List Stretch) (hart : ℕ) → IsKept harts totals runs
+pub counted_at : (harts : ℕ) (totals : List ℕ) (runs : List RunEnd) (hart : ℕ) → IsKept harts totals runs
     → get_or totals hart 0 ≡ count_of (turns_of runs) hart
 counted_at harts totals runs hart is =
     elim (cases_lt hart 8) [
@@ -321,14 +321,14 @@ counted_at harts totals runs hart is =
 
 -- ---- a log with one more run
 
-pub record Grown (harts : ℕ) (totals : List ℕ) (runs : List Stretch) (run : Stretch) (count : ℕ) : Type 0 where
+pub record Grown (harts : ℕ) (totals : List ℕ) (runs : List RunEnd) (run : RunEnd) (count : ℕ) : Type 0 where
   pub kept : IsKept harts (set totals run.hart (get_or totals run.hart 0 + count)) (with_run runs run)
   pub turns : turns_of (with_run runs run) ≡ turns_of runs ++ replicate count run.hart
 
 abbrev is_number : ℕ → ℕ → Type 0
 is_number m n = m ≡ n
 
-pub grown : (harts : ℕ) (totals : List ℕ) (runs : List Stretch) (run : Stretch) (count : ℕ) → IsKept harts totals runs → run.hart < harts → 1 ≤ count
+pub grown : (harts : ℕ) (totals : List ℕ) (runs : List RunEnd) (run : RunEnd) (count : ℕ) → IsKept harts totals runs → run.hart < harts → 1 ≤ count
     → count_of (turns_of runs) run.hart + count ≤ most_turns → run.end ≡ length (turns_of runs) + count → Grown harts totals runs run count
 grown harts totals runs run count is below some room ends =
     let all = length-turns harts 0 runs is.runs in
@@ -370,22 +370,22 @@ grown harts totals runs run count is below some room ends =
 
 -- ---- the runs one after the other
 
-pub step : (start : ℕ) (rest : List Stretch) (d : Stretch) → 1 ≤ length rest
+pub step : (start : ℕ) (rest : List RunEnd) (d : RunEnd) → 1 ≤ length rest
     → runs_from start rest ≡ record { hart = (get_or rest 0 d).hart; length = (get_or rest 0 d).end - start } ∷ runs_from (get_or rest 0 d).end (drop 1 rest)
 step start [] d some = absurd (omega arith)
 step start (first ∷ others) d some = refl
 
 -- as many runs as are kept
-pub length-runs_from : (start : ℕ) (runs : List Stretch) → length (runs_from start runs) ≡ length runs
+pub length-runs_from : (start : ℕ) (runs : List RunEnd) → length (runs_from start runs) ≡ length runs
 length-runs_from start [] = refl
 length-runs_from start (run ∷ runs) = ap suc (length-runs_from run.end runs)
 
 -- which are the longest runs
-pub runs_of-kept : (harts : ℕ) (totals : List ℕ) (runs : List Stretch) → IsKept harts totals runs → runs_of (turns_of runs) ≡ runs_from 0 runs
+pub runs_of-kept : (harts : ℕ) (totals : List ℕ) (runs : List RunEnd) → IsKept harts totals runs → runs_of (turns_of runs) ≡ runs_from 0 runs
 runs_of-kept harts totals runs is = runs_of-expanded harts (runs_from 0 runs) is.runs
 
 -- and are spelled
-pub spelled-kept : (harts : ℕ) (totals : List ℕ) (runs : List Stretch) → IsKept harts totals runs → spelled (record { harts = harts; turns = turns_of runs })
+pub spelled-kept : (harts : ℕ) (totals : List ℕ) (runs : List RunEnd) → IsKept harts totals runs → spelled (record { harts = harts; turns = turns_of runs })
     ≡ header harts (length runs) ++ flat_map run_bytes (runs_from 0 runs)
 spelled-kept harts totals runs is =
     ap (λ (rs : List Run). header harts (length rs) ++ flat_map run_bytes rs) (runs_of-kept harts totals runs is)

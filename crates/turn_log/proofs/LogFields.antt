@@ -98,7 +98,7 @@ header_takes bytes x fits e =
     ∙ append_assoc (codes "HRL1") (little_bytes 4 harts) (little_bytes 8 runs ++ drop 16 bytes)) in
     subst (λ (y : ℕ × ℕ). IsHeader bytes y.0 y.1) (ok_is (harts, runs) x g4.1) (record { parts = parts; some = some; few = few })
 
--- the bytes behind a header
+-- the bytes after a header
 pub drop-header : (harts runs : ℕ) (rest : List ℕ) → drop 16 (header harts runs ++ rest) ≡ rest
 unfolding header
 drop-header harts runs rest = refl

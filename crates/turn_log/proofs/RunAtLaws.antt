@@ -31,7 +31,7 @@ ahead-replicate hart (suc n) turns =
     (suc (ahead hart (replicate n hart ++ turns))) 0 (eq-eqb hart hart refl) in
     omega (arith, here, rest)
 
--- the run at a place within a stretch of one hart, behind which another hart's turns stand
+-- the run at a place within a run of one hart, after which another hart's turns stand
 pub first_run-within : (hart n m : ℕ) (turns : List ℕ) → m < n → ahead hart turns ≡ 0 → first_run (drop m (replicate n hart ++ turns)) ≡ Some (hart, n - m)
 first_run-within hart n m turns within other =
     let k = n - m - 1 in

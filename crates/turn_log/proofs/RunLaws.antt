@@ -93,7 +93,7 @@ All-expanded harts (run ∷ runs) are =
     All-append (λ turn. turn < harts) (replicate run.length run.hart) (expanded runs) (All-replicate (λ turn. turn < harts) run.length run.hart are.0.below)
     (All-expanded harts runs are.1)
 
--- ---- runs that may stand behind others
+-- ---- runs that may stand after others
 
 pub record Follows (harts : ℕ) (before : List Run) (run : Run) : Type 0 where
   pub below : run.hart < harts
@@ -101,7 +101,7 @@ pub record Follows (harts : ℕ) (before : List Run) (run : Run) : Type 0 where
   pub other : begins_with before run.hart ≡ false
   pub few : total_of before run.hart + run.length ≤ most_turns
 
--- each run may stand behind those before it, of which the nearest is the first
+-- each run may stand after those before it, of which the nearest is the first
 abbrev pub AllFollow : ℕ → List Run → List Run → Type 0
 AllFollow harts before [] = Unit {0}
 AllFollow harts before (run ∷ runs) = Follows harts before run × AllFollow harts (run ∷ before) runs

@@ -70,7 +70,7 @@ header_at bytes =
 abbrev pub run_read : List ℕ → Run
 run_read bytes = record { hart = slice_index bytes 0; length = little_number 8 (drop 1 bytes) }
 
--- a run of so many harts, behind other runs, the nearest first
+-- a run of so many harts, after other runs, the nearest first
 unfoldable pub judged : ℕ → List Run → Run → Result Run LogFault
 judged harts before run =
     if nat_le harts run.hart then Err Hart
@@ -78,13 +78,13 @@ judged harts before run =
     else (if nat_lt most_turns (total_of before run.hart + run.length) then Err TooManyTurns
     else Ok run))
 
--- the run at the front, and the bytes behind it
+-- the run at the front, and the bytes after it
 unfoldable pub front_run : ℕ → List Run → List ℕ → Result (Run × List ℕ) LogFault
 front_run harts before bytes =
     if nat_lt (length bytes) 9 then Err Truncated
     else (judged harts before (run_read bytes) >>= λ run. Ok (run, drop 9 bytes))
 
--- so many runs at the front, and the bytes behind them
+-- so many runs at the front, and the bytes after them
 unfoldable pub front_runs : ℕ → ℕ → List Run → List ℕ → Result (List Run × List ℕ) LogFault
 front_runs harts zero before bytes = Ok ([], bytes)
 front_runs harts (suc count) before bytes = do
@@ -92,7 +92,7 @@ front_runs harts (suc count) before bytes = do
   others ← front_runs harts count (first.0 ∷ before) first.1
   Ok (first.0 ∷ others.0, others.1)
 
--- the log at the front, and the bytes behind it
+-- the log at the front, and the bytes after it
 unfoldable pub log_at : List ℕ → Result (LogState × List ℕ) LogFault
 log_at bytes = do
   numbers ← header_at bytes

@@ -1,3 +1,3 @@
 pub mod SoFar
 pub mod Kept
-pub mod Stretches
+pub mod RunEnds

@@ -5,7 +5,7 @@ ghost use Rattle.turn_log.specs.LogSpelling.{spelled};
 ghost use Rattle.turn_log.specs.RunAt.{run_at, Stand};
 ghost use Rattle.turn_log.specs.TurnLog.{LogState, IsLog};
 
-/// No spelling begins another, so that bytes behind a log don't change how it is read, and each log
+/// No spelling begins another, so that bytes after a log don't change how it is read, and each log
 /// has one spelling.
 pub fn one_spelling()
     ensures { (a b : LogState) (x y : List ℕ) → IsLog a → IsLog b → spelled a ++ x ≡ spelled b ++ y
@@ -13,7 +13,7 @@ pub fn one_spelling()
 {}
 
 /// The run at a place of a log stands there, at least one turn long, and is of one of its harts. There
-/// is none only behind the last turn.
+/// is none only after the last turn.
 pub fn runs_stand()
     ensures stand { (turns : List ℕ) (place hart count : ℕ) → run_at turns place ≡ Some (hart, count)
         → Stand turns place hart count }

@@ -14,8 +14,8 @@ mod laws;
 pub mod log_faults;
 mod log_reading;
 mod log_writing;
+mod run_ends;
 mod runs;
-mod stretches;
 mod turn_logs;
 
 pub use crate::laws::{one_spelling, runs_stand};

@@ -20,7 +20,7 @@ pub enum LogFault {
     /// 3: there are no harts or more than eight, or a run is of a hart that there isn't.
     #[error("a hart or the number of harts is out of range")]
     Hart,
-    /// 4: a run is empty or goes on with the run before it, or bytes stand behind the last one.
+    /// 4: a run is empty or goes on with the run before it, or bytes stand after the last one.
     #[error("the bytes are not the one spelling of a log")]
     NotCanonical,
     /// 5: a hart has more than 2^40 turns.

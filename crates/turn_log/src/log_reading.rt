@@ -35,7 +35,7 @@ fn header_of(bytes: &[u8]) -> Result<(u8, u64), LogFault>
     Ok((harts as u8, LittleEndian::read_u64(&bytes[8..])))
 }
 
-/// Judges a run behind those that the log has.
+/// Judges a run after those that the log has.
 #[tactic(auto, unfolding(crate::specs::LogSpelling::judged))]
 fn judge(log: &TurnLog, run: Run) -> Result<(), LogFault>
     ensures { (before : List RunState) → IsOf log.now before → MatchResult result (λ _. judged log.now.harts before run

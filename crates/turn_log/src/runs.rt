@@ -23,7 +23,7 @@ impl Run {
         bytes
     }
 
-    /// The run that the first nine bytes spell, and the bytes behind it, if there are nine.
+    /// The run that the first nine bytes spell, and the bytes after it, if there are nine.
     pub fn split_from(bytes: &[u8]) -> Option<(Run, &[u8])>
         ensures long { MatchOption result (length bytes.now < 9) (λ x. 9 ≤ length bytes.now) }
         ensures parts { IfSome result (λ x. (x.0 ≡ run_read bytes.now) × (x.1.now ≡ drop 9 bytes.now)) }

@@ -11,11 +11,11 @@ ghost use Rattle.turn_log.specs.LogSpelling.{spelled, log_of, Answers};
 ghost use Rattle.turn_log.specs.RunAt.{run_at};
 ghost use Rattle.turn_log.specs.TurnLog.{LogState, IsLog, count_of, most_turns};
 
-use crate::finding::{Near, find_run};
+use crate::finding::{SearchHint, find_run};
 use crate::log_faults::LogFault;
 use crate::log_reading::read_log;
 use crate::log_writing::{header_bytes, push_runs};
-use crate::stretches::{Stretch, push_stretch};
+use crate::run_ends::{RunEnd, push_run_end};
 use std::alloc::{AllocError, Global};
 use std::marker::Model;
 
@@ -29,8 +29,8 @@ pub const MOST_TURNS: u64 = 1 << 40;
 pub struct TurnLog {
     harts: u8,
     totals: [u64; 8],
-    runs: Vec<Stretch>,
-    near: Near,
+    runs: Vec<RunEnd>,
+    near: SearchHint,
 }
 
 impl Model for TurnLog {
@@ -69,7 +69,7 @@ impl TurnLog {
             harts: harts as u8,
             totals: [0; 8],
             runs: Vec::new(alloc),
-            near: Near::new(),
+            near: SearchHint::new(),
         }
     }
 
@@ -84,7 +84,7 @@ impl TurnLog {
             harts,
             totals: [0; 8],
             runs,
-            near: Near::new(),
+            near: SearchHint::new(),
         })
     }
 
@@ -167,7 +167,7 @@ impl TurnLog {
         ensures opens { OnErr result (slice_get self.old.turns (length self.old.turns - 1) ≢ Some hart) }
     {
         let end = self.len() + k;
-        push_stretch(&mut self.runs, Stretch::new(hart as u8, end))?;
+        push_run_end(&mut self.runs, RunEnd::new(hart as u8, end))?;
         self.totals[hart] += k;
         Ok(())
     }

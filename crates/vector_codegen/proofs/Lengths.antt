@@ -2,8 +2,8 @@
 use Rattle.std.proofs.Common.{◌≤◌, ℕ, suc, Bool, true, false, List, [], ◌∷◌, length, ap, ◌∙◌, arith, length-append}
 use Rattle.std.specs.Prelude.{◌==◌}
 use Rattle.loop_ir.specs.declared.statements.Phase.{Phase}
-use Rattle.vector_codegen_sharing.specs.Turns.{ticket_word}
-use Rattle.task_code_scalar.specs.declared.places.Places.{Places}
+use Rattle.work_sharing.specs.Turns.{ticket_word}
+use Rattle.task_code_scalar.specs.declared.layouts.Places.{Places}
 use Rattle.task_code_scalar.proofs.Spelling.{emits-length}
 use Rattle.vector_codegen.specs.PhaseCode.{Part, door_words, phase_code, program}
 use Rattle.vector_codegen.proofs.PhaseStanding.{phase-length}

@@ -6,10 +6,10 @@ use Rattle.std.proofs.Math.IntN.{pos-*ℤ-pos, pos-*ℤ-negsuc, neg_ℤ}
 use Rattle.rv_insn.specs.declared.instructions.Insn.{Insn}
 use Rattle.rv_insn.specs.declared.instructions.Insn.TheVariants.{Jal}
 use Rattle.hart_core.specs.Scalar.{plus, offset_from}
-use Rattle.multi_hart_logic.specs.Alone.{Says}
-use Rattle.multi_hart_logic.specs.Paths.{Spot, Stand, end}
-use Rattle.multi_hart_logic.proofs.Paths.{stand-front, stand-back}
-use Rattle.vector_codegen_sharing.specs.Turns.{ticket_word}
+use Rattle.multi_hart_laws.specs.Alone.{Says}
+use Rattle.multi_hart_laws.specs.Paths.{Spot, Stand, end}
+use Rattle.multi_hart_laws.proofs.Paths.{stand-front, stand-back}
+use Rattle.work_sharing.specs.Turns.{ticket_word}
 use Rattle.task_code_scalar.specs.Code.{forth, back}
 use Rattle.task_code_statements.specs.Tasks.{restored}
 use Rattle.vector_codegen.specs.PhaseCode.{Part, door_code, door_words, draw_code, tasks_code, phase_code, program, begin, door_at, draw_at}

@@ -5,9 +5,9 @@ use Rattle.std.specs.List.{AllByRecursion}
 use Rattle.rv_insn.specs.declared.instructions.Insn.{Insn}
 use Rattle.loop_ir.specs.declared.statements.Phase.{Phase}
 use Rattle.memory.specs.Access.{most_words}
-use Rattle.vector_codegen_sharing.specs.Turns.{ticket_word}
+use Rattle.work_sharing.specs.Turns.{ticket_word}
 use Rattle.task_code_scalar.specs.declared.CodeFault.{CodeFault}
-use Rattle.task_code_scalar.specs.declared.places.Places.{Places}
+use Rattle.task_code_scalar.specs.declared.layouts.Places.{Places}
 use Rattle.task_code_scalar.specs.Words.{Emits}
 use Rattle.task_code_scalar.proofs.Refusing.{passed}
 use Rattle.task_code_scalar.proofs.Spelling.{emits-length}

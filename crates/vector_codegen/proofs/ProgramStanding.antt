@@ -9,8 +9,8 @@ use Rattle.std.proofs.lemmas.List.{append-nil}
 use Rattle.rv_insn.specs.declared.instructions.Insn.{Insn}
 use Rattle.memory.specs.Access.{most_words}
 use Rattle.loop_ir.specs.declared.statements.Phase.{Phase}
-use Rattle.vector_codegen_sharing.specs.Turns.{ticket_word}
-use Rattle.task_code_scalar.specs.declared.places.Places.{Places}
+use Rattle.work_sharing.specs.Turns.{ticket_word}
+use Rattle.task_code_scalar.specs.declared.layouts.Places.{Places}
 use Rattle.task_code_scalar.specs.Words.{Emits}
 use Rattle.task_code.specs.Tasks.{EmitsTask}
 use Rattle.task_code.proofs.Standing.{appended-stand}

@@ -1,9 +1,9 @@
 -- The way to a phase's draw sets what the phase keeps.
 use Rattle.std.proofs.Common.{◌≡◌, ℕ, ◌+◌, ◌*◌, ◌%◌, ◌^◌, ◌<◌, List, ◌++◌, length, Bool, ◌∙◌, subst, arith}
-use Rattle.multi_hart_logic.specs.Alone.{World}
-use Rattle.multi_hart_logic.specs.Paths.{Stand, end, Path, Line}
-use Rattle.multi_hart_logic.proofs.Paths.{line-then, path-then}
-use Rattle.multi_hart_logic.proofs.Jumps.{jump}
+use Rattle.multi_hart_laws.specs.Alone.{World}
+use Rattle.multi_hart_laws.specs.Paths.{Stand, end, Path, Line}
+use Rattle.multi_hart_laws.proofs.Paths.{line-then, path-then}
+use Rattle.multi_hart_laws.proofs.Jumps.{jump}
 use Rattle.task_code_scalar.specs.Code.{literal, forth}
 use Rattle.task_code_statements.specs.Tasks.{restored}
 use Rattle.task_code_scalar.proofs.Values.{Sets, literal-sets}

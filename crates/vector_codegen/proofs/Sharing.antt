@@ -9,19 +9,19 @@ use Rattle.hart_core.specs.HartState.{HartState, opening_hart}
 use Rattle.hart_core.specs.Scalar.{offset_from}
 use Rattle.rv_insn.specs.declared.instructions.Insn.TheVariants.{Jal, Branch}
 use Rattle.rv_insn.specs.declared.operations.BranchOp.TheVariants.{Bne}
-use Rattle.multi_hart_logic.specs.Uses.{Task, Setup}
-use Rattle.multi_hart_logic.specs.Alone.{Says, Covers}
-use Rattle.multi_hart_logic.specs.Paths.{At, Stand, end, Path}
-use Rattle.multi_hart_logic.proofs.Paths.{path-then, covers-more}
-use Rattle.multi_hart_logic.proofs.Jumps.{jump}
-use Rattle.vector_codegen_sharing.specs.Phases.{Phase, Stands, IsControl, Code, HasGate, HasEnd}
-use Rattle.vector_codegen_sharing.specs.Solo.{world, SoonDone, TaskDone, TaskWrites}
-use Rattle.vector_codegen_sharing.specs.Bridges.{numbers_of, Keep}
-use Rattle.vector_codegen_sharing.specs.Programs.{IsControlByte, OfNoTask, Fresh, Link, Follows, Program, Opens}
-use Rattle.vector_codegen_sharing.specs.Turns.{ticket_word, gate_word}
-use Rattle.vector_codegen_sharing.proofs.Bridges.{at-numbers, stands-there, path-does}
-use Rattle.vector_codegen_sharing.proofs.Phases.{each-of}
-use Rattle.vector_codegen_sharing.proofs.ExampleWords.{zeros}
+use Rattle.multi_hart_laws.specs.Uses.{Task, Setup}
+use Rattle.multi_hart_laws.specs.Alone.{Says, Covers}
+use Rattle.multi_hart_laws.specs.Paths.{At, Stand, end, Path}
+use Rattle.multi_hart_laws.proofs.Paths.{path-then, covers-more}
+use Rattle.multi_hart_laws.proofs.Jumps.{jump}
+use Rattle.work_sharing.specs.Phases.{Phase, Stands, IsControl, Code, HasGate, HasEnd}
+use Rattle.work_sharing.specs.Solo.{world, SoonDone, TaskDone, TaskWrites}
+use Rattle.work_sharing.specs.Bridges.{numbers_of, Keep}
+use Rattle.work_sharing.specs.Programs.{IsControlByte, OfNoTask, Fresh, Link, Follows, Program, Opens}
+use Rattle.work_sharing.specs.Turns.{ticket_word, gate_word}
+use Rattle.work_sharing.proofs.Bridges.{at-numbers, stands-there, path-does}
+use Rattle.work_sharing.proofs.Phases.{each-of}
+use Rattle.work_sharing.proofs.ExampleWords.{zeros}
 use Rattle.task_code_scalar.specs.Code.{back, forth}
 use Rattle.vector_codegen.specs.PhaseCode.{Part, door_code, to_door, phase_code, begin, door_at, draw_at}
 use Rattle.vector_codegen.specs.Sharing.{Matter, no_part, part_at, is_last, phase, IsShared, ProgramsShare}
@@ -216,7 +216,7 @@ module _ (text : List ℕ) (size harts : ℕ) (parts : List Part) (matter : ℕ 
       let c = r.covers (from k) a (at-tasks text (at k) (ends k) (ticket_word k) (part k) (stands-code k l)) own w h here in
       subst (λ i. Covers text size i h m a) (let q : n + 1 ≡ suc n = omega arith in q) (covers-more text size n 1 h m a c)
 
-  -- ---- one phase behind the other
+  -- ---- one phase after the other
 
   fresh-word : (k a : ℕ) → k < last → data_start + 8 * suc k ≤ a → a + 4 ≤ data_start + 8 * suc last → Fresh (P k) a
   fresh-word k a l low high =

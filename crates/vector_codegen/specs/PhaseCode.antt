@@ -1,9 +1,9 @@
--- The code of phases one behind the other, around the code of their tasks, as a list of instructions. This project's own.
+-- The code of phases one after the other, around the code of their tasks, as a list of instructions. This project's own.
 --
 --     begin:          x13, x14, x15, x16           what the phase keeps: ticket, gate, 1, number of tasks
 --                     jal x0, draw
 --     door:           ecall                        of the last phase
---                     (or: one more at the gate, wait until all are, and go behind the phase)
+--                     (or: one more at the gate, wait until all are, and go on past the phase)
 --     draw:           amoadd.w x12, x15, (x13)     draw the next number
 --                     bgeu x12, x16, door          no task has it
 --                     ..                           the task's code
@@ -13,7 +13,7 @@ use Rattle.rv_insn.specs.declared.instructions.Insn.{Insn}
 use Rattle.rv_insn.specs.declared.instructions.Insn.TheVariants.{AmoaddW, Branch, Load, Jal, Ecall}
 use Rattle.rv_insn.specs.declared.operations.BranchOp.TheVariants.{Bgeu, Bne}
 use Rattle.rv_insn.specs.declared.operations.LoadOp.TheVariants.{Lw}
-use Rattle.vector_codegen_sharing.specs.Turns.{ticket_word}
+use Rattle.work_sharing.specs.Turns.{ticket_word}
 use Rattle.task_code_scalar.specs.Code.{forth, back}
 use Rattle.task_code_statements.specs.Tasks.{restored}
 
@@ -55,7 +55,7 @@ program number [] = []
 program number (part ∷ []) = phase_code true (ticket_word number) part
 program number (part ∷ other ∷ others) = phase_code false (ticket_word number) part ++ program (suc number) (other ∷ others)
 
--- where the code of each ends in words, where the first of them has this number and begins behind so many words
+-- where the code of each ends in words, where the first of them has this number and begins after so many words
 unfoldable pub ends_from : ℕ → ℕ → List Part → List ℕ
 ends_from number first [] = []
 ends_from number first (part ∷ parts) =

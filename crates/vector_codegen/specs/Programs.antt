@@ -1,16 +1,16 @@
--- The words of a program: its phases one behind the other, each around instructions that do each of its tasks. Which instructions those are isn't
+-- The words of a program: its phases one after the other, each around instructions that do each of its tasks. Which instructions those are isn't
 -- said. This project's own.
 use Rattle.std.specs.Prelude.{◌≡◌, ◌<◌, ◌≤◌, ◌^◌, ◌+◌, ℕ, suc, List, [], ◌∷◌, length}
 use Rattle.std.specs.List.{AllByRecursion}
 use Rattle.memory.specs.Access.{most_words, text_start}
-use Rattle.multi_hart_logic.specs.Paths.{Stand}
+use Rattle.multi_hart_laws.specs.Paths.{Stand}
 use Rattle.loop_ir.specs.declared.statements.Phase.{Phase}
 use Rattle.loop_ir.specs.Depths.{task_depth}
 use Rattle.loop_ir.specs.Needs.{greatest_need}
 use Rattle.loop_ir.specs.Sizes.{whole_size}
-use Rattle.vector_codegen_sharing.specs.Turns.{ticket_word}
+use Rattle.work_sharing.specs.Turns.{ticket_word}
 use Rattle.task_code_scalar.specs.declared.CodeFault.{CodeFault}
-use Rattle.task_code_scalar.specs.declared.places.Places.{Places}
+use Rattle.task_code_scalar.specs.declared.layouts.Places.{Places}
 use Rattle.task_code_scalar.specs.Faults.{IsFault, LieLow, HasRoom}
 use Rattle.task_code_scalar.specs.Words.{Emits}
 use Rattle.task_code.specs.Tasks.{task_size}

@@ -3,13 +3,13 @@
 use Rattle.std.specs.Prelude.{◌≡◌, ◌<◌, ◌≤◌, ℕ, zero, suc, ◌+◌, ◌*◌, ◌^◌, ◌==◌, Bool, true, List, [], length, slice_index_or}
 use Rattle.memory.specs.Access.{text_start, data_start, most_bytes, byte_at, AreBytes}
 use Rattle.hart_core.specs.HartState.{HartState}
-use Rattle.multi_hart_logic.specs.Uses.{Use, Control, Fixed, Owned, Shared, Job, Task, Setup}
-use Rattle.multi_hart_logic.specs.Paths.{Stand, Block, Writes}
-use Rattle.vector_codegen_sharing.specs.Phases.{Phase}
-use Rattle.vector_codegen_sharing.specs.Solo.{world, Leaves, Begins, TaskWrites}
-use Rattle.vector_codegen_sharing.specs.Bridges.{numbers_of, Keep}
-use Rattle.vector_codegen_sharing.specs.Programs.{IsControlByte, FoundBy, Program, Opens}
-use Rattle.vector_codegen_sharing.specs.Turns.{ticket_word, gate_word}
+use Rattle.multi_hart_laws.specs.Uses.{Use, Control, Fixed, Owned, Shared, Job, Task, Setup}
+use Rattle.multi_hart_laws.specs.Paths.{Stand, Block, Writes}
+use Rattle.work_sharing.specs.Phases.{Phase}
+use Rattle.work_sharing.specs.Solo.{world, Leaves, Begins, TaskWrites}
+use Rattle.work_sharing.specs.Bridges.{numbers_of, Keep}
+use Rattle.work_sharing.specs.Programs.{IsControlByte, FoundBy, Program, Opens}
+use Rattle.work_sharing.specs.Turns.{ticket_word, gate_word}
 use Rattle.vector_codegen.specs.PhaseCode.{Part, program, begin, door_at, draw_at}
 
 -- what a phase is about, beside its code

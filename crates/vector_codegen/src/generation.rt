@@ -1,8 +1,8 @@
-//! The words of phases, one behind the other.
+//! The words of phases, one after the other.
 
 ghost use Rattle.std.specs.Prelude.{◌≡◌, ◌+◌, ◌<◌, ◌≤◌, ◌++◌, ◌∷◌, [], OnOk, IfErr, IfOk, length};
 ghost use Rattle.std.specs.List.{AllByRecursion};
-ghost use Rattle.vector_codegen_sharing.specs.Turns.{ticket_word};
+ghost use Rattle.work_sharing.specs.Turns.{ticket_word};
 ghost use Rattle.vector_codegen.specs.Programs as spec;
 ghost use Rattle.vector_codegen.specs.inner.Emitting.{EmitsPhase, EmitsPhases, IsEnd, IsPhaseAtFault};
 
@@ -12,7 +12,7 @@ use memory::{DATA_START, MOST_WORDS};
 use std::alloc::{AllocError, Global};
 use task_code::emit;
 use task_code_scalar::CodeFault;
-use task_code_scalar::places::Places;
+use task_code_scalar::layouts::Places;
 use task_code_statements::stages::{CodeStage, add_last};
 
 /// A program has at most so many phases: the code around a phase's tasks takes 16 words.
@@ -30,11 +30,11 @@ fn ticket_of(number: u32) -> u32
     DATA_START + 8 * number
 }
 
-/// What stands of a program while its phases are laid one behind the other.
+/// What stands of a program while its phases are laid one after the other.
 #[derive(Drop)]
-struct Begun {
+struct BegunProgram {
     words: Vec<u32>,
-    /// The place behind the last word of each phase, from 0.
+    /// The place after the last word of each phase, from 0.
     ends: Vec<usize>,
     /// Stages inside of phases, in the order of their code.
     stages: Vec<CodeStage>,
@@ -43,7 +43,7 @@ struct Begun {
 /// Appends the words of the phase with this number, and the stages inside it.
 fn push_phase(
     alloc: Global,
-    begun: &mut Begun,
+    begun: &mut BegunProgram,
     places: &Places,
     number: u32,
     phase: &Phase,
@@ -87,7 +87,7 @@ fn push_end(ends: &mut Vec<usize>, end: usize) -> Result<(), AllocError>
 /// Appends the words of phases, the first of which has this number, where the code of each ends, and the stages inside.
 fn push_phases(
     alloc: Global,
-    begun: &mut Begun,
+    begun: &mut BegunProgram,
     places: &Places,
     number: u32,
     phases: &[Phase],
@@ -124,7 +124,7 @@ fn push_ends(narrow: &mut Vec<u32>, ends: &[usize]) -> Result<(), AllocError>
 #[derive(Drop)]
 pub struct Program {
     pub words: Vec<u32>,
-    /// The place behind the last word of each phase, from 0.
+    /// The place after the last word of each phase, from 0.
     pub ends: Vec<u32>,
     /// Stages inside of phases, in the order of their code.
     pub stages: Vec<CodeStage>,
@@ -145,7 +145,7 @@ pub fn generate(alloc: Global, phases: &[Phase], places: &Places) -> Result<Prog
     if phases.len() > MOST_PHASES {
         return Err(CodeFault::TooLong);
     }
-    let mut begun = Begun {
+    let mut begun = BegunProgram {
         words: Vec::new(alloc),
         ends: Vec::new(alloc),
         stages: Vec::new(alloc),
@@ -156,7 +156,7 @@ pub fn generate(alloc: Global, phases: &[Phase], places: &Places) -> Result<Prog
     }
     let mut ends = Vec::new(alloc);
     push_ends(&mut ends, begun.ends.as_slice())?;
-    let Begun { words, stages, .. } = begun;
+    let BegunProgram { words, stages, .. } = begun;
     Ok(Program {
         words,
         ends,

@@ -1,10 +1,10 @@
-//! The words of a program that computes a pipeline's phases, one behind the other: the code around that of their tasks.
+//! The words of a program that computes a pipeline's phases, one after the other: the code around that of their tasks.
 //!
 //! - [`generate`]: the words of a program, with where the code of each phase ends (`specs/Programs.antt`), and
 //!   [`program_laws`]: they have the program at the beginning of the text, and how many they are.
 //! - [`emit_phase`]: appends the words of a phase (`specs/PhaseCode.antt`).
 //! - [`phase_laws`]: where each task's code does its task, such a program shares its work as the promises of
-//!   `vector_codegen_sharing` on every list of turns ask (`specs/Sharing.antt`).
+//!   `work_sharing` on every list of turns ask (`specs/Sharing.antt`).
 #![tactic(auto)]
 
 mod generation;

@@ -7,7 +7,7 @@ use Rattle.halide_pipeline.specs.Pixel.{Planes}
 use Rattle.schedule.specs.declared.schedules.Schedule.{Schedule}
 use Rattle.bounds.specs.declared.verdict.Boxes.{Boxes}
 use Rattle.bounds.specs.Parts.{Root}
-use Rattle.multi_hart_logic.specs.Uses.{Use, Fixed, Owned}
+use Rattle.multi_hart_laws.specs.Uses.{Use, Fixed, Owned}
 use Rattle.loop_ir.specs.Running.{run_task}
 use Rattle.lowering.specs.Phases.{DoesPhase}
 use Rattle.lowering.specs.Planes.{box_points}

@@ -1,4 +1,4 @@
--- The phases of a pipeline one behind the other: each begins with what the one before it leaves at the points of Funcs at root.
+-- The phases of a pipeline one after the other: each begins with what the one before it leaves at the points of Funcs at root.
 use Rattle.std.proofs.Common.{◌≡◌, ℕ, zero, suc, ◌<◌, ◌≤◌, Bool, true, false, cond, List, [], ◌∷◌, ◌++◌, length, Option, Some, None, refl, sym, ap, subst, ◌∙◌}
 use Rattle.std.proofs.Common.{arith, inl, inr}
 use Rattle.std.specs.Prelude.{◌==◌, nat_lt, slice_get, Ok}
@@ -10,9 +10,9 @@ use Rattle.halide_pipeline.specs.Words as word
 use Rattle.halide_pipeline.specs.Pixel.{Planes, func_plane, stage, pixels}
 use Rattle.schedule.specs.declared.plans.FuncPlan.{FuncPlan}
 use Rattle.schedule.specs.declared.schedules.Schedule.{Schedule}
-use Rattle.schedule.specs.declared.standings.Place.{Place}
-use Rattle.schedule.specs.declared.standings.Place.TheVariants as standpoints
-use Rattle.schedule.specs.declared.standings.Standing.{Standing}
+use Rattle.schedule.specs.declared.placements.ComputeLevel.{ComputeLevel}
+use Rattle.schedule.specs.declared.placements.ComputeLevel.TheVariants as standpoints
+use Rattle.schedule.specs.declared.placements.FuncPlacement.{FuncPlacement}
 use Rattle.schedule.specs.Accepted.{IsAccepted, IsPlan}
 use Rattle.bounds.specs.declared.boxes.SourceBox.{SourceBox}
 use Rattle.bounds.specs.declared.verdict.Boxes.{Boxes}
@@ -41,7 +41,7 @@ get_last [] x (suc k) e = absurd (omega (arith, e))
 get_last (y ∷ xs) x zero e = absurd (omega (arith, e))
 get_last (y ∷ xs) x (suc k) e = get_last xs x k (omega (arith, e))
 
--- one more behind the first so many
+-- one more after the first so many
 with_last : (ℕ → Work) → ℕ → Work → ℕ → Work
 with_last works n last k = cond (nat_lt k n) (works k) last
 
@@ -242,9 +242,9 @@ module _ (pipeline : Pipeline) (schedule : Schedule) (boxes : Boxes) (inputs : P
           placed_is = same b.standing p.standing b.there.standing p.standing_is p.at_root;
         })
       where
-        same : (one other : Standing) → slice_get schedule.standings place ≡ Some one → slice_get schedule.standings place ≡ Some other
+        same : (one other : FuncPlacement) → slice_get schedule.standings place ≡ Some one → slice_get schedule.standings place ≡ Some other
             → other.place ≡ standpoints.Root → one.place ≡ standpoints.Root
-        same one other e f r = let q : one ≡ other = cc in ap (λ (s : Standing). s.place) q ∙ r
+        same one other e f r = let q : one ≡ other = cc in ap (λ (s : FuncPlacement). s.place) q ∙ r
 
     passed_agree : (place : ℕ) → IsNotAtRoot pipeline schedule boxes place → Agree (before place) (before (suc place))
     passed_agree place not_root k x y p = elim (cases_eq k place) [
@@ -263,13 +263,13 @@ module _ (pipeline : Pipeline) (schedule : Schedule) (boxes : Boxes) (inputs : P
     stages_root : (place : ℕ) (func : Func) (plan : FuncPlan) (own : SourceBox) → IsAtRoot pipeline schedule boxes place func plan own
         → stages_here place ≡ stages_to place (suc (length func.updates))
     stages_root place func plan own at =
-        ap (λ (s : Option Standing). stages_at place s (slice_get pipeline.funcs place) (slice_get boxes.funcs place)) at.there.standing
+        ap (λ (s : Option FuncPlacement). stages_at place s (slice_get pipeline.funcs place) (slice_get boxes.funcs place)) at.there.standing
         ∙ (ap (λ (f : Option Func). stages_at place (Some at.standing) f (slice_get boxes.funcs place)) at.func_is
         ∙ (ap (λ (b : Option (Option SourceBox)). stages_at place (Some at.standing) (Some func) b) at.box_is
-        ∙ ap (λ (p : Place). stages_where p func (Some own) place) at.placed_is))
+        ∙ ap (λ (p : ComputeLevel). stages_where p func (Some own) place) at.placed_is))
 
     -- a Func at root with a box has phases
-    root_passed : (place : ℕ) (standing : Standing) (func : Func) (own : SourceBox) → slice_get schedule.standings place ≡ Some standing
+    root_passed : (place : ℕ) (standing : FuncPlacement) (func : Func) (own : SourceBox) → slice_get schedule.standings place ≡ Some standing
         → slice_get boxes.funcs place ≡ Some (Some own)
         → standing.place ≡ standpoints.Root → IsNotAtRoot pipeline schedule boxes place → ⊥
     root_passed place standing func own s b root not_root =
@@ -283,13 +283,13 @@ module _ (pipeline : Pipeline) (schedule : Schedule) (boxes : Boxes) (inputs : P
           standing = box.standing;
           there = box.there;
           placed_is =
-              ap (λ (t : Standing). t.place) same ∙ root;
+              ap (λ (t : FuncPlacement). t.place) same ∙ root;
         })
 
     stages_passed : (place : ℕ) → IsNotAtRoot pipeline schedule boxes place → stages_here place ≡ []
     stages_passed place not_root = by_all (slice_get schedule.standings place) (slice_get pipeline.funcs place) (slice_get boxes.funcs place) refl refl
       where
-        by_place : (standing : Standing) (func : Func) (own : Option SourceBox) (at : Place) → slice_get schedule.standings place ≡ Some standing
+        by_place : (standing : FuncPlacement) (func : Func) (own : Option SourceBox) (at : ComputeLevel) → slice_get schedule.standings place ≡ Some standing
             → slice_get boxes.funcs place ≡ Some own → standing.place ≡ at
             → stages_where at func own place ≡ []
         by_place standing func None standpoints.Root s b e = refl
@@ -298,7 +298,7 @@ module _ (pipeline : Pipeline) (schedule : Schedule) (boxes : Boxes) (inputs : P
         by_place standing func own (standpoints.At at) s b e = refl
         by_place standing func own standpoints.Nowhere s b e = refl
 
-        by_all : (standing : Option Standing) (func : Option Func) (own : Option (Option SourceBox)) → slice_get schedule.standings place ≡ standing
+        by_all : (standing : Option FuncPlacement) (func : Option Func) (own : Option (Option SourceBox)) → slice_get schedule.standings place ≡ standing
             → slice_get boxes.funcs place ≡ own
             → stages_at place standing func own ≡ []
         by_all None func own s b = refl

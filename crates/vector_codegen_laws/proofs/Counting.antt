@@ -5,28 +5,28 @@ use Rattle.halide_pipeline.specs.declared.definitions.Func.{Func}
 use Rattle.halide_pipeline.specs.Pipelines.{Pipeline}
 use Rattle.schedule.specs.declared.plans.FuncPlan.{FuncPlan}
 use Rattle.schedule.specs.declared.schedules.Schedule.{Schedule}
-use Rattle.schedule.specs.declared.standings.Standing.{Standing}
+use Rattle.schedule.specs.declared.placements.FuncPlacement.{FuncPlacement}
 use Rattle.bounds.specs.declared.boxes.SourceBox.{SourceBox}
 use Rattle.bounds.specs.declared.verdict.Boxes.{Boxes}
 use Rattle.bounds.specs.Layout.{phases_of, phases}
 use Rattle.loop_ir.specs.declared.statements.Phase.{Phase}
 use Rattle.lowering.specs.Lowered.{ArePhasesOf, None_yet, One_more, AreLowered, No_func, Passed, Computed}
 
--- one more behind
+-- one more after
 pub length_behind : {A : Type 0} (xs : List A) (x : A) → length (xs ++ x ∷ []) ≡ suc (length xs)
 length_behind [] x = refl
 length_behind (y ∷ xs) x = ap suc (length_behind xs x)
 
 -- ---- the phases of the first so many Funcs
 
-phases_to : ℕ → List Standing → List Func → List (Option SourceBox) → ℕ
+phases_to : ℕ → List FuncPlacement → List Func → List (Option SourceBox) → ℕ
 phases_to zero standings funcs boxes = 0
 phases_to (suc n) [] funcs boxes = 0
 phases_to (suc n) (standing ∷ standings) [] boxes = 0
 phases_to (suc n) (standing ∷ standings) (func ∷ funcs) [] = 0
 phases_to (suc n) (standing ∷ standings) (func ∷ funcs) (own ∷ boxes) = phases_of standing.place func own + phases_to n standings funcs boxes
 
-all_of : (n : ℕ) (standings : List Standing) (funcs : List Func) (boxes : List (Option SourceBox))
+all_of : (n : ℕ) (standings : List FuncPlacement) (funcs : List Func) (boxes : List (Option SourceBox))
     → phases_to n standings funcs boxes ≤ phases standings funcs boxes
 unfolding phases_to
 all_of zero standings funcs boxes = omega arith
@@ -35,7 +35,7 @@ all_of (suc n) (standing ∷ standings) [] boxes = omega arith
 all_of (suc n) (standing ∷ standings) (func ∷ funcs) [] = omega arith
 all_of (suc n) (standing ∷ standings) (func ∷ funcs) (own ∷ boxes) = let l = all_of n standings funcs boxes in omega (arith, l)
 
-one_to : (n : ℕ) (standings : List Standing) (funcs : List Func) (boxes : List (Option SourceBox))
+one_to : (n : ℕ) (standings : List FuncPlacement) (funcs : List Func) (boxes : List (Option SourceBox))
     → phases_to n standings funcs boxes ≤ phases_to (suc n) standings funcs boxes
 unfolding phases_to
 one_to zero standings funcs boxes = omega arith
@@ -44,7 +44,7 @@ one_to (suc n) (standing ∷ standings) [] boxes = omega arith
 one_to (suc n) (standing ∷ standings) (func ∷ funcs) [] = omega arith
 one_to (suc n) (standing ∷ standings) (func ∷ funcs) (own ∷ boxes) = let l = one_to n standings funcs boxes in omega (arith, l)
 
-more_to : (n : ℕ) (standings : List Standing) (funcs : List Func) (boxes : List (Option SourceBox)) (standing : Standing) (func : Func) (own : Option SourceBox)
+more_to : (n : ℕ) (standings : List FuncPlacement) (funcs : List Func) (boxes : List (Option SourceBox)) (standing : FuncPlacement) (func : Func) (own : Option SourceBox)
     → slice_get standings n ≡ Some standing → slice_get funcs n ≡ Some func → slice_get boxes n ≡ Some own
     → phases_to n standings funcs boxes + phases_of standing.place func own ≤ phases_to (suc n) standings funcs boxes
 unfolding phases_to
@@ -56,7 +56,7 @@ more_to zero (first ∷ standings) (other ∷ funcs) (box ∷ boxes) standing fu
     let same_func : other ≡ func = cc in
     let same_box : box ≡ own = cc in
     let q : phases_of first.place other box ≡ phases_of standing.place func own =
-    ap (λ (t : Standing). phases_of t.place other box) same_standing ∙ (ap (λ (g : Func). phases_of standing.place g box) same_func
+    ap (λ (t : FuncPlacement). phases_of t.place other box) same_standing ∙ (ap (λ (g : Func). phases_of standing.place g box) same_func
     ∙ ap (phases_of standing.place func) same_box) in
     omega (arith, q)
 more_to (suc n) (first ∷ standings) (other ∷ funcs) (box ∷ boxes) standing func own s f b = let l = more_to n standings funcs boxes standing func own s f b in

@@ -11,10 +11,10 @@ use Rattle.halide_pipeline.specs.Pixel.{Planes, reads_of, pixels}
 use Rattle.schedule_lines.specs.declared.stages.Stage.{Stage}
 use Rattle.schedule.specs.declared.plans.FuncPlan.{FuncPlan}
 use Rattle.schedule.specs.declared.schedules.Schedule.{Schedule}
-use Rattle.schedule.specs.declared.standings.LoopPlace.{LoopPlace}
-use Rattle.schedule.specs.declared.standings.Place.{Place}
-use Rattle.schedule.specs.declared.standings.Place.TheVariants as standpoints
-use Rattle.schedule.specs.declared.standings.Standing.{Standing}
+use Rattle.schedule.specs.declared.placements.LoopPlace.{LoopPlace}
+use Rattle.schedule.specs.declared.placements.ComputeLevel.{ComputeLevel}
+use Rattle.schedule.specs.declared.placements.ComputeLevel.TheVariants as standpoints
+use Rattle.schedule.specs.declared.placements.FuncPlacement.{FuncPlacement}
 use Rattle.schedule.specs.Accepted.{IsAccepted}
 use Rattle.schedule.specs.Legal.{is_root}
 use Rattle.schedule_loops.specs.Visits.{iteration_count, owns}
@@ -34,7 +34,7 @@ use Rattle.lowering.specs.Planes.{held, has_point, box_points}
 use Rattle.bounds.specs.Stages.{IsAtRoot, names, StagePlace, iterations, iterations_in, iterations_of, update_iterations, writes, writes_in, writes_of}
 use Rattle.bounds.specs.Stages.{update_writes}
 use Rattle.lowering.specs.Stages.{is_at_loop, is_private_in, is_private, after_stages, DoesStage}
-use Rattle.lowering.specs.Rounds.{RoundsMayBeAtOnce}
+use Rattle.lowering.specs.LoopLanes.{LanesMayBeAtOnce}
 use Rattle.lowering.specs.Runs.{StoresInRuns}
 use Rattle.lowering.specs.Touching.{is_listed, is_root_at, is_root_in, TouchesItsOwn}
 use Rattle.lowering.specs.Updates.{IsUpdateAt, owns_update}
@@ -58,19 +58,19 @@ point_in (Some (Some own)) x y e =
 
 -- a Func is computed at a loop
 pub record IsAtLoop (schedule : Schedule) (func : ℕ) : Type 0 where
-  pub standing : Standing
+  pub standing : FuncPlacement
   pub standing_is : slice_get schedule.standings func ≡ Some standing
   pub loop : LoopPlace
   pub at_loop : standing.place ≡ standpoints.At loop
 
-root_of : (own : Standing) (place : Place) → own.place ≡ place → is_root place ≡ true → own.place ≡ standpoints.Root
+root_of : (own : FuncPlacement) (place : ComputeLevel) → own.place ≡ place → is_root place ≡ true → own.place ≡ standpoints.Root
 root_of own standpoints.Root e t = e
 root_of own (standpoints.At at) e t = absurd (true≢false (sym t))
 root_of own standpoints.Inlined e t = absurd (true≢false (sym t))
 root_of own standpoints.Nowhere e t = absurd (true≢false (sym t))
 
 module _ (pipeline : Pipeline) (schedule : Schedule) (boxes : Boxes) where
-  pub root_point : (func x y : ℕ) (standing : Standing) → slice_get schedule.standings func ≡ Some standing → standing.place ≡ standpoints.Root
+  pub root_point : (func x y : ℕ) (standing : FuncPlacement) → slice_get schedule.standings func ≡ Some standing → standing.place ≡ standpoints.Root
       → box_points boxes.funcs func x y ≡ true
       → RootPoint pipeline schedule boxes.funcs func x y
   root_point func x y standing e r t =
@@ -97,7 +97,7 @@ module _ (pipeline : Pipeline) (schedule : Schedule) (boxes : Boxes) where
       → RootPoint pipeline schedule boxes.funcs func x y
   listed_root_point func x y r t = by_standing (slice_get schedule.standings func) refl r
     where
-      by_standing : (standing : Option Standing) → slice_get schedule.standings func ≡ standing → is_root_in standing ≡ true
+      by_standing : (standing : Option FuncPlacement) → slice_get schedule.standings func ≡ standing → is_root_in standing ≡ true
           → RootPoint pipeline schedule boxes.funcs func x y
       by_standing None e s = absurd (true≢false (sym s))
       by_standing (Some own) e s = root_point func x y own e (root_of own own.place refl (and_parts own.is_reached (is_root own.place) s).1) t
@@ -117,7 +117,7 @@ module _ (pipeline : Pipeline) (schedule : Schedule) (boxes : Boxes) where
         let b = has_box pipeline schedule boxes accepted is func p.own p.is in
         by_place p.own b b.standing.place refl b.computed
       where
-        by_place : (own : SourceBox) → (b : HasBox pipeline schedule boxes func own) → (place : Place) → b.standing.place ≡ place → IsComputed func place
+        by_place : (own : SourceBox) → (b : HasBox pipeline schedule boxes func own) → (place : ComputeLevel) → b.standing.place ≡ place → IsComputed func place
             → RootPoint pipeline schedule boxes.funcs func x y
         by_place own b standpoints.Root w c = root_point func x y b.standing b.there.standing w t
         by_place own b (standpoints.At at) w c =
@@ -128,14 +128,14 @@ module _ (pipeline : Pipeline) (schedule : Schedule) (boxes : Boxes) where
 
 -- ---- Funcs at loops of a consumer
 
-record Listed (consumer at k : ℕ) (standings : List Standing) : Type 0 where
+record Listed (consumer at k : ℕ) (standings : List FuncPlacement) : Type 0 where
   n : ℕ
   place_is : k ≡ at + n
-  own : Standing
+  own : FuncPlacement
   there : slice_get standings n ≡ Some own
   produced : is_produced consumer own ≡ true
 
-listed_later : (consumer at k : ℕ) (first : Standing) (others : List Standing) → Listed consumer (suc at) k others → Listed consumer at k (first ∷ others)
+listed_later : (consumer at k : ℕ) (first : FuncPlacement) (others : List FuncPlacement) → Listed consumer (suc at) k others → Listed consumer at k (first ∷ others)
 listed_later consumer at k first others l = let e = l.place_is in record {
   n = suc l.n;
   place_is = omega (arith, e);
@@ -145,7 +145,7 @@ listed_later consumer at k first others l = let e = l.place_is in record {
       l.produced;
 }
 
-listed_here : (consumer at k : ℕ) (first : Standing) (others : List Standing) → (is_listed (produced_from consumer (suc at) others) k ≡ true
+listed_here : (consumer at k : ℕ) (first : FuncPlacement) (others : List FuncPlacement) → (is_listed (produced_from consumer (suc at) others) k ≡ true
     → Listed consumer (suc at) k others)
     → (b : Bool) → is_produced consumer first ≡ b → is_listed (cond b (at ∷ produced_from consumer (suc at) others) (produced_from consumer (suc at) others)) k
     ≡ true → Listed consumer at k (first ∷ others)
@@ -156,16 +156,16 @@ listed_here consumer at k first others next true f e = elim (cases_eq at k) [
       ∙ e))
 ]
 
-listed_of : (consumer at : ℕ) (standings : List Standing) (k : ℕ) → is_listed (produced_from consumer at standings) k ≡ true → Listed consumer at k standings
+listed_of : (consumer at : ℕ) (standings : List FuncPlacement) (k : ℕ) → is_listed (produced_from consumer at standings) k ≡ true → Listed consumer at k standings
 listed_of consumer at [] k e = absurd (true≢false (sym e))
 listed_of consumer at (first ∷ others) k e = listed_here consumer at k first others (λ f. listed_of consumer (suc at) others k f) (is_produced consumer first)
     refl e
 
-record LoopOf (place : Place) : Type 0 where
+record LoopOf (place : ComputeLevel) : Type 0 where
   loop : LoopPlace
   is : place ≡ standpoints.At loop
 
-loop_of : (consumer : ℕ) (place : Place) → is_at_loop_of consumer place ≡ true → LoopOf place
+loop_of : (consumer : ℕ) (place : ComputeLevel) → is_at_loop_of consumer place ≡ true → LoopOf place
 loop_of consumer (standpoints.At at) e = record { loop = at; is = refl }
 loop_of consumer standpoints.Root e = absurd (true≢false (sym e))
 loop_of consumer standpoints.Inlined e = absurd (true≢false (sym e))
@@ -200,14 +200,14 @@ pub record IsKnown (pipeline : Pipeline) (schedule : Schedule) (boxes : Boxes) (
   pub stores_in_runs : work.number ≡ 0 → StoresInRuns work.place (extents_of work.own) work.plan.pure work.phase
   pub number_is : work.number ≤ length work.func.updates
   pub func_is : slice_get pipeline.funcs work.place ≡ Some work.func
-  pub standing : Standing
+  pub standing : FuncPlacement
   pub standing_is : slice_get schedule.standings work.place ≡ Some standing
   pub at_root : standing.place ≡ standpoints.Root
   -- its private buffers are those of Funcs at loops
   pub produced : (func : ℕ) → is_listed work.phase.private func ≡ true → IsAtLoop schedule func
   pub does : DoesStage pipeline schedule boxes work.place work.func work.number work.owned work.phase
   pub touches : TouchesItsOwn pipeline schedule boxes work.place work.owned work.phase
-  pub rounds : RoundsMayBeAtOnce work.phase
+  pub loop_lanes : LanesMayBeAtOnce work.phase
   pub tasks_are : work.phase.tasks ≡ iterations pipeline schedule boxes (stage_of work)
   -- from what the stage begins with, a task stores at the points that its iteration writes, and owns them
   pub stores : (inputs : Planes) → AnswerWords pipeline.inputs (reads_of inputs (pixels pipeline.funcs inputs 0)) → (funcs : Planes) (task : ℕ)
@@ -267,7 +267,7 @@ module _ (pipeline : Pipeline) (schedule : Schedule) (boxes : Boxes) (place : �
 
   pub known_phase : (number : ℕ) (phase : Phase) → IsStagePhase pipeline schedule boxes place func plan own number phase
       → KnownPhase pipeline schedule boxes place func plan own number phase
-  known_phase _ _ (Pure phase tasks private_is bytes does touches few stores rounds in_runs) = record {
+  known_phase _ _ (Pure phase tasks private_is bytes does touches few stores loop_lanes in_runs) = record {
     owned = owns (extents_of own) plan.pure;
     known = record {
       at = at;
@@ -280,13 +280,13 @@ module _ (pipeline : Pipeline) (schedule : Schedule) (boxes : Boxes) (place : �
       produced = λ k e. produced_at_loop schedule place k (sym (ap (λ (l : List ℕ). is_listed l k) private_is) ∙ e);
       does = does;
       touches = touches;
-      rounds = rounds;
+      loop_lanes = loop_lanes;
       tasks_are = tasks ∙ sym (iterations_are 0);
       stores = λ inputs begun funcs task below holds x y. stores inputs funcs task below x y ∙ sym (writes_are inputs 0 task x y);
       owned_writes = λ inputs begun task below x y written. sym (writes_are inputs 0 task x y) ∙ written;
     };
   }
-  known_phase _ _ (Updating number update stage phase it tasks private_is bytes does touches few stores rounds) = record {
+  known_phase _ _ (Updating number update stage phase it tasks private_is bytes does touches few stores loop_lanes) = record {
     owned = owns_update own update stage;
     known = record {
       at = at;
@@ -299,7 +299,7 @@ module _ (pipeline : Pipeline) (schedule : Schedule) (boxes : Boxes) (place : �
       produced = λ k e. absurd (true≢false (sym e ∙ ap (λ (l : List ℕ). is_listed l k) private_is));
       does = does;
       touches = touches;
-      rounds = rounds;
+      loop_lanes = loop_lanes;
       tasks_are = tasks ∙ sym (update_iterations_are number update stage it);
       stores = λ inputs begun funcs task below holds x y. stores.exactly inputs begun funcs task below holds x y
           ∙ sym (update_writes_are number update stage it inputs task x y);

@@ -1,4 +1,4 @@
--- What memory holds before and behind a task.
+-- What memory holds before and after a task.
 use Rattle.std.proofs.Common.{◌≡◌, ℕ, zero, suc, ◌+◌, ◌*◌, ◌/◌, ◌%◌, ◌^◌, ◌<◌, ◌≤◌, List, [], ◌∷◌, Option, Some, None, true, false, Bool, refl, ap, ◌∙◌, sym}
 use Rattle.std.proofs.Common.{subst, arith, inl, inr}
 use Rattle.std.specs.Prelude.{◌==◌, nat_le, slice_get, slice_index, if◌then◌else◌}
@@ -15,11 +15,11 @@ use Rattle.halide_pipeline.specs.Pipelines.{Pipeline}
 use Rattle.halide_pipeline.specs.Pixel.{Planes, reads_of}
 use Rattle.halide_pipeline.specs.Points.{Point}
 use Rattle.schedule.specs.declared.schedules.Schedule.{Schedule}
-use Rattle.schedule.specs.declared.standings.Place.{Place as Standpoint}
-use Rattle.schedule.specs.declared.standings.Place.TheVariants as standpoints
-use Rattle.schedule.specs.declared.standings.Standing.{Standing}
+use Rattle.schedule.specs.declared.placements.ComputeLevel.{ComputeLevel}
+use Rattle.schedule.specs.declared.placements.ComputeLevel.TheVariants as standpoints
+use Rattle.schedule.specs.declared.placements.FuncPlacement.{FuncPlacement}
 use Rattle.bounds_ranges.specs.Laws.{AnswerWords}
-use Rattle.multi_hart_logic.specs.Uses.{Use, Control as ForControl, Fixed, Owned, Given}
+use Rattle.multi_hart_laws.specs.Uses.{Use, Control as ForControl, Fixed, Owned, Given}
 use Rattle.bounds.specs.declared.boxes.SourceBox.{SourceBox}
 use Rattle.bounds.specs.Extents.{box_in, extent, points}
 use Rattle.bounds.specs.Layout.{placed, root_bytes, root_sizes}
@@ -27,7 +27,7 @@ use Rattle.loop_ir.specs.Buffers.{Points}
 use Rattle.bounds.specs.Parts.{Part, Control, Input as InputPart, Root, Copies, Frame, Outside, sizes_of}
 use Rattle.bounds.specs.Finding.{roots_at}
 use Rattle.bounds.proofs.Finding.{roots-lie}
-use Rattle.task_code_scalar.specs.declared.places.Place.{Place}
+use Rattle.task_code_scalar.specs.declared.layouts.BufferLayout.{BufferLayout}
 use Rattle.task_code_scalar.specs.Code.{address}
 use Rattle.task_code_scalar.specs.Evaluation.{load_op}
 use Rattle.task_code_scalar.specs.Layout.{func_point, size_of}
@@ -151,9 +151,9 @@ module _ (pipeline : Pipeline) (schedule : Schedule) (boxes : List (Option Sourc
       numbered n w x y l c r =
           let some : 0 < w = omega (arith, l) in
           let whole : w * (n / w) + n % w ≡ n = omega (arith, some) in
-          let turned : y * w ≡ w * y = omega arith in
+          let swapped : y * w ≡ w * y = omega arith in
           let mine : w * y ≡ w * (n / w) = ap (λ i. w * i) (sym r) in
-          omega (arith, whole, turned, mine, c)
+          omega (arith, whole, swapped, mine, c)
 
 module _ (pipeline : Pipeline) (schedule : Schedule) (boxes : List (Option SourceBox)) (number : ℕ) (owners : Owners) where
   abbrev part_of : ℕ → Part
@@ -195,11 +195,11 @@ module _ (pipeline : Pipeline) (schedule : Schedule) (boxes : List (Option Sourc
           → number_in text memory (size_of (places pipeline schedule boxes) (record { source = sources.Input place; x = x; y = y })) (at (sources.Input place) x
           y) ≡ inputs place x y
       input-holds place x y p false e l =
-          ap (λ (z : Place). number_in text memory (load_size (load_op z.pixels)) (at (sources.Input place) x y)) (input-place-is pipeline schedule boxes place
+          ap (λ (z : BufferLayout). number_in text memory (load_size (load_op z.pixels)) (at (sources.Input place) x y)) (input-place-is pipeline schedule boxes place
           x y p false e)
           ∙ bytes-word text memory (at (sources.Input place) x y) (inputs place x y) l (input-bytes place x y p e)
       input-holds place x y p true e l =
-          ap (λ (z : Place). number_in text memory (load_size (load_op z.pixels)) (at (sources.Input place) x y)) (input-place-is pipeline schedule boxes place
+          ap (λ (z : BufferLayout). number_in text memory (load_size (load_op z.pixels)) (at (sources.Input place) x y)) (input-place-is pipeline schedule boxes place
           x y p true e)
           ∙ single-byte (byte_at text memory (at (sources.Input place) x y)) (inputs place x y) (input-byte place x y p e) (answer.bytes place p.input
           p.input_is e x y)
@@ -215,10 +215,10 @@ module _ (pipeline : Pipeline) (schedule : Schedule) (boxes : List (Option Sourc
           let may = loaded_at pipeline schedule boxes number owners text task hart it.few_harts it.below it.one_owner it.fits (sources.Input place) x y p in
           input-holds place x y p p.input.is_bytes refl (answer.words (sources.Input place) x y may.column may.row)
       holds-at (sources.Func func) x y (inl r) =
-          func-holds func x y (size_of (places pipeline schedule boxes) (func_point func x y)) (ap (λ (z : Place). load_size (load_op z.pixels))
+          func-holds func x y (size_of (places pipeline schedule boxes) (func_point func x y)) (ap (λ (z : BufferLayout). load_size (load_op z.pixels))
           (root-place pipeline schedule boxes func x y r.0))
       holds-at (sources.Func func) x y (inr p) =
-          func-holds func x y (size_of (places pipeline schedule boxes) (func_point func x y)) (ap (λ (z : Place). load_size (load_op z.pixels))
+          func-holds func x y (size_of (places pipeline schedule boxes) (func_point func x y)) (ap (λ (z : BufferLayout). load_size (load_op z.pixels))
           (copies-place pipeline schedule boxes func x y p))
 
     -- ---- what a task finds
@@ -259,7 +259,7 @@ module _ (pipeline : Pipeline) (schedule : Schedule) (boxes : List (Option Sourc
         (same : (x y : ℕ) → owners.owns task x y ≡ true → funcs owners.func x y ≡ result owners.func x y) where
       owned-word : (x y : ℕ) → owners.owns task x y ≡ true → word_at text left (at (sources.Func owners.func) x y) ≡ result owners.func x y
       owned-word x y e =
-          let size_is = ap (λ (z : Place). load_size (load_op z.pixels)) (root-place pipeline schedule boxes owners.func x y (there x y e)) in
+          let size_is = ap (λ (z : BufferLayout). load_size (load_op z.pixels)) (root-place pipeline schedule boxes owners.func x y (there x y e)) in
           sym (ap (λ z. number_in text left z (at (sources.Func owners.func) x y)) size_is) ∙ (holds.holds (func_point owners.func x y) (load x y e)
           ∙ same x y e)
 
@@ -312,8 +312,8 @@ tasks-leave-theirs pipeline schedule boxes number owners text left harts task ha
 
 -- ---- each byte of the box of a Func at root is one of a point
 
-record RootFound (standings : List Standing) (boxes : List (Option SourceBox)) (place offset : ℕ) : Type 0 where
-  standing : Standing
+record RootFound (standings : List FuncPlacement) (boxes : List (Option SourceBox)) (place offset : ℕ) : Type 0 where
+  standing : FuncPlacement
   standing_is : slice_get standings place ≡ Some standing
   at_root : standing.place ≡ standpoints.Root
   own : SourceBox
@@ -324,7 +324,7 @@ no-size : (place offset : ℕ) → offset < slice_index [] place → ⊥
 no-size zero offset l = omega (arith, l)
 no-size (suc place) offset l = omega (arith, l)
 
-first-found : (s : Standing) (ss : List Standing) (own : Option SourceBox) (bs : List (Option SourceBox)) (offset : ℕ) (place : Standpoint) → s.place ≡ place
+first-found : (s : FuncPlacement) (ss : List FuncPlacement) (own : Option SourceBox) (bs : List (Option SourceBox)) (offset : ℕ) (place : ComputeLevel) → s.place ≡ place
     → offset < root_bytes place own → RootFound (s ∷ ss) (own ∷ bs) 0 offset
 first-found s ss (Some own) bs offset standpoints.Root e l = record { standing = s; standing_is = refl; at_root = e; own = own; box_is = refl; below = l }
 first-found s ss None bs offset standpoints.Root e l = absurd (omega (arith, l))
@@ -332,7 +332,7 @@ first-found s ss own bs offset (standpoints.At at) e l = absurd (omega (arith, l
 first-found s ss own bs offset standpoints.Inlined e l = absurd (omega (arith, l))
 first-found s ss own bs offset standpoints.Nowhere e l = absurd (omega (arith, l))
 
-root-found : (standings : List Standing) (boxes : List (Option SourceBox)) (place offset : ℕ) → offset < slice_index (root_sizes standings boxes) place
+root-found : (standings : List FuncPlacement) (boxes : List (Option SourceBox)) (place offset : ℕ) → offset < slice_index (root_sizes standings boxes) place
     → RootFound standings boxes place offset
 root-found [] boxes place offset l = absurd (no-size place offset l)
 root-found (s ∷ ss) [] place offset l = absurd (no-size place offset l)
@@ -352,9 +352,9 @@ in-box (suc v) h k l = elim (cases_lt (k / suc v) h) [
   | inr b ↦
       let less : h * suc v ≤ k / suc v * suc v = mul-le-mul_right {m = h} {n = k / suc v} (suc v) b in
       let whole : suc v * (k / suc v) + k % suc v ≡ k = omega arith in
-      let turned : suc v * (k / suc v) ≡ k / suc v * suc v = omega arith in
+      let swapped : suc v * (k / suc v) ≡ k / suc v * suc v = omega arith in
       let other : suc v * h ≡ h * suc v = omega arith in
-      absurd (omega (arith, l, less, whole, turned, other))
+      absurd (omega (arith, l, less, whole, swapped, other))
 ]
   where
     mod-below : k % suc v < suc v

@@ -14,9 +14,9 @@ use Rattle.halide_pipeline.specs.declared.expressions.Source.TheVariants as sour
 use Rattle.halide_pipeline.specs.Pipelines.{Pipeline}
 use Rattle.halide_pipeline.specs.Points.{Point}
 use Rattle.schedule.specs.declared.schedules.Schedule.{Schedule}
-use Rattle.multi_hart_logic.specs.Uses.{Use, Fixed, Owned, Private, Task, MayRead, MayWrite}
-use Rattle.multi_hart_logic.specs.Alone.{World}
-use Rattle.multi_hart_logic.specs.Paths.{Readable, MayBeWritten}
+use Rattle.multi_hart_laws.specs.Uses.{Use, Fixed, Owned, Private, Task, MayRead, MayWrite}
+use Rattle.multi_hart_laws.specs.Alone.{World}
+use Rattle.multi_hart_laws.specs.Paths.{Readable, MayBeWritten}
 use Rattle.bounds.specs.declared.boxes.SourceBox.{SourceBox}
 use Rattle.bounds.specs.Extents.{box_in, extent, points}
 use Rattle.bounds.specs.Layout.{data_start, frame_bytes, laid_in, laid_out}
@@ -25,9 +25,9 @@ use Rattle.loop_ir.specs.Buffers.{Points}
 use Rattle.bounds.specs.Parts.{Part, Sizes, Input as InputPart, Root, Copies, Frame, sizes_of}
 use Rattle.bounds.specs.Finding.{frames_at}
 use Rattle.bounds.proofs.Finding.{frames-found}
-use Rattle.task_code_scalar.specs.declared.places.Pixels.{Pixels}
-use Rattle.task_code_scalar.specs.declared.places.Pixels.TheVariants as pixels
-use Rattle.task_code_scalar.specs.declared.places.Place.{Place}
+use Rattle.task_code_scalar.specs.declared.layouts.Pixels.{Pixels}
+use Rattle.task_code_scalar.specs.declared.layouts.Pixels.TheVariants as pixels
+use Rattle.task_code_scalar.specs.declared.layouts.BufferLayout.{BufferLayout}
 use Rattle.task_code_scalar.specs.Code.{place_of, pixel_bytes, address, frames_of, frame_words}
 use Rattle.task_code_scalar.specs.Evaluation.{load_op, word_start}
 use Rattle.task_code_scalar.specs.Layout.{IsAt, MayStore, MayLoad, OwnsFrame, Laid}
@@ -120,8 +120,8 @@ module _ (boxes : List (Option SourceBox)) (number : ℕ) (owners : Owners) wher
   copy-use : (func n hart rest : ℕ) → copy_bytes boxes func ≡ 4 * n → rest < 4 * n → use_of boxes number owners (Copies func (4 * n * hart + rest))
       ≡ Private hart
   copy-use func n hart rest e l =
-      let turned : 4 * n * hart + rest ≡ hart * (4 * n) + rest = omega arith in
-      ap (λ b. Private ((4 * n * hart + rest) / b)) e ∙ ap Private (ap (λ o. o / (4 * n)) turned ∙ div-mul-add hart (4 * n) rest l)
+      let swapped : 4 * n * hart + rest ≡ hart * (4 * n) + rest = omega arith in
+      ap (λ b. Private ((4 * n * hart + rest) / b)) e ∙ ap Private (ap (λ o. o / (4 * n)) swapped ∙ div-mul-add hart (4 * n) rest l)
 
 -- ---- bytes of a word
 
@@ -257,13 +257,13 @@ module _ (pipeline : Pipeline) (schedule : Schedule) (boxes : List (Option Sourc
 
   stored : (func x y : ℕ) → IsWritten pipeline schedule boxes number owners task func x y → MayStore world (places pipeline schedule boxes) func x y
   stored func x y (inl r) = record {
-    are_words = ap (λ (z : Place). z.pixels) (root-place pipeline schedule boxes func x y r.0);
+    are_words = ap (λ (z : BufferLayout). z.pixels) (root-place pipeline schedule boxes func x y r.0);
     low = root-lower func x y r.0;
     may = writable (at (sources.Func func) x y) (root_part func x y r.0) (Owned task) (root-there func x y r.0)
         (λ byte l. root-byte func x y r.0 byte l ∙ own-use boxes number owners task func x y one below r.1.0 r.1.1) refl;
   }
   stored func x y (inr p) = record {
-    are_words = ap (λ (z : Place). z.pixels) (copies-place pipeline schedule boxes func x y p);
+    are_words = ap (λ (z : BufferLayout). z.pixels) (copies-place pipeline schedule boxes func x y p);
     low = copy-lower func x y p;
     may = writable (at (sources.Func func) x y) (copy_part func x y p) (Private hart) (copy-there func x y p) (copy-byte func x y p) refl;
   }
@@ -271,7 +271,7 @@ module _ (pipeline : Pipeline) (schedule : Schedule) (boxes : List (Option Sourc
   -- ---- loads
 
   -- the coordinates of a point in front of the end of the data
-  near : (place : Place) (x y : ℕ) → x < place.width → address place hart x y < 2 ^ 32 → Below (2 ^ 32 - 1) x y
+  near : (place : BufferLayout) (x y : ℕ) → x < place.width → address place hart x y < 2 ^ 32 → Below (2 ^ 32 - 1) x y
   near place x y l m = by_pixels place.pixels m
     where
       by_pixels : (p : Pixels) → place.start + place.distance * hart + pixel_bytes p * (y * place.width + x) < 2 ^ 32 → Below (2 ^ 32 - 1) x y
@@ -323,13 +323,13 @@ module _ (pipeline : Pipeline) (schedule : Schedule) (boxes : List (Option Sourc
       let b = there.below in
       let may = readable (at (sources.Input place) x y) (λ byte. InputPart place (4 * (y * p.input.width + x) + byte)) Fixed there
       (λ byte l. ap (use_of boxes number owners) (there.parts byte l)) tt in
-      loadable (sources.Input place) x y p.input.width Word (ap (λ (z : Place). z.width) is) p.column (ap (λ (z : Place). load_size (load_op z.pixels)) is)
+      loadable (sources.Input place) x y p.input.width Word (ap (λ (z : BufferLayout). z.width) is) p.column (ap (λ (z : BufferLayout). load_size (load_op z.pixels)) is)
       (lower (at (sources.Input place) x y) (omega (arith, b))) may (itself (at (sources.Input place) x y) may)
   input-loaded place x y p true e =
       let there = byte-inputs-are-there pipeline schedule boxes hart place x y p e in
       let is = input-place-is pipeline schedule boxes place x y p true e in
       let b = there.below in
-      loadable (sources.Input place) x y p.input.width Byte (ap (λ (z : Place). z.width) is) p.column (ap (λ (z : Place). load_size (load_op z.pixels)) is)
+      loadable (sources.Input place) x y p.input.width Byte (ap (λ (z : BufferLayout). z.width) is) p.column (ap (λ (z : BufferLayout). load_size (load_op z.pixels)) is)
       (lower (at (sources.Input place) x y) b)
       (record {
         aligned = omega arith;
@@ -346,13 +346,13 @@ module _ (pipeline : Pipeline) (schedule : Schedule) (boxes : List (Option Sourc
   loaded_at (sources.Input place) x y p = input-loaded place x y p p.input.is_bytes refl
   loaded_at (sources.Func func) x y (inl r) =
       let is = root-place pipeline schedule boxes func x y r.0 in
-      loadable (sources.Func func) x y (extent r.0.own.x) Word (ap (λ (z : Place). z.width) is) r.0.column (ap (λ (z : Place). load_size (load_op z.pixels)) is)
+      loadable (sources.Func func) x y (extent r.0.own.x) Word (ap (λ (z : BufferLayout). z.width) is) r.0.column (ap (λ (z : BufferLayout). load_size (load_op z.pixels)) is)
       (root-lower func x y r.0) (root-loaded func x y r.0 r.1)
       (itself (at (sources.Func func) x y) (root-loaded func x y r.0 r.1))
   loaded_at (sources.Func func) x y (inr p) =
       let is = copies-place pipeline schedule boxes func x y p in
       let may = readable (at (sources.Func func) x y) (copy_part func x y p) (Private hart) (copy-there func x y p) (copy-byte func x y p) refl in
-      loadable (sources.Func func) x y (extent p.own.x) Word (ap (λ (z : Place). z.width) is) p.column (ap (λ (z : Place). load_size (load_op z.pixels)) is)
+      loadable (sources.Func func) x y (extent p.own.x) Word (ap (λ (z : BufferLayout). z.width) is) p.column (ap (λ (z : BufferLayout). load_size (load_op z.pixels)) is)
       (copy-lower func x y p) may
       (itself (at (sources.Func func) x y) may)
 
@@ -372,24 +372,24 @@ module _ (pipeline : Pipeline) (schedule : Schedule) (boxes : List (Option Sourc
   no-input func x y place x' y' P f none p false e l m =
       let there = word-inputs-are-there pipeline schedule boxes hart place x' y' p e in
       let is = input-place-is pipeline schedule boxes place x' y' p false e in
-      let four : bytes_at (sources.Input place) ≡ 4 = ap (λ (z : Place). pixel_bytes z.pixels) is in
+      let four : bytes_at (sources.Input place) ≡ 4 = ap (λ (z : BufferLayout). pixel_bytes z.pixels) is in
       let k = met part_of P (λ j. InputPart place (4 * (y' * p.input.width + x') + j)) (at (sources.Func func) x y) (at (sources.Input place) x' y') 4 f
       there.parts (omega arith) l (omega (arith, m, four)) in
       absurd (none k.i (4 * (y' * p.input.width + x') + k.j) k.same)
   no-input func x y place x' y' P f none p true e l m =
       let there = byte-inputs-are-there pipeline schedule boxes hart place x' y' p e in
       let is = input-place-is pipeline schedule boxes place x' y' p true e in
-      let single : bytes_at (sources.Input place) ≡ 1 = ap (λ (z : Place). pixel_bytes z.pixels) is in
+      let single : bytes_at (sources.Input place) ≡ 1 = ap (λ (z : BufferLayout). pixel_bytes z.pixels) is in
       let k = met part_of P (λ j. InputPart place (y' * p.input.width + x')) (at (sources.Func func) x y) (at (sources.Input place) x' y') 1 f
       (λ j s. let z : at (sources.Input place) x' y' + j ≡ at (sources.Input place) x' y' = omega (arith, s) in ap part_of z
       ∙ there.is_part) (omega arith) l (omega (arith, m, single)) in
       absurd (none k.i (y' * p.input.width + x') k.same)
 
   root-four : (func x y : ℕ) → RootPoint pipeline schedule boxes func x y → bytes_at (sources.Func func) ≡ 4
-  root-four func x y p = ap (λ (z : Place). pixel_bytes z.pixels) (root-place pipeline schedule boxes func x y p)
+  root-four func x y p = ap (λ (z : BufferLayout). pixel_bytes z.pixels) (root-place pipeline schedule boxes func x y p)
 
   copy-four : (func x y : ℕ) → PrivatePoint pipeline schedule boxes func x y → bytes_at (sources.Func func) ≡ 4
-  copy-four func x y p = ap (λ (z : Place). pixel_bytes z.pixels) (copies-place pipeline schedule boxes func x y p)
+  copy-four func x y p = ap (λ (z : BufferLayout). pixel_bytes z.pixels) (copies-place pipeline schedule boxes func x y p)
 
   meet-funcs : (func x y func' x' y' : ℕ) (P Q : ℕ → Part) → ((i : ℕ) → i < 4 → part_of (at (sources.Func func) x y + i) ≡ P i)
       → ((i : ℕ) → i < 4 → part_of (at (sources.Func func') x' y' + i) ≡ Q i)
@@ -480,12 +480,12 @@ module _ (pipeline : Pipeline) (schedule : Schedule) (boxes : List (Option Sourc
         → (at (sources.Input place) x y + bytes_at (sources.Input place) ≤ start) ⊎ (start + 4096 ≤ at (sources.Input place) x y)
     beside-input place x y p false e =
         let there = word-inputs-are-there pipeline schedule boxes hart place x y p e in
-        let four : bytes_at (sources.Input place) ≡ 4 = ap (λ (z : Place). pixel_bytes z.pixels) (input-place-is pipeline schedule boxes place x y p false e) in
+        let four : bytes_at (sources.Input place) ≡ 4 = ap (λ (z : BufferLayout). pixel_bytes z.pixels) (input-place-is pipeline schedule boxes place x y p false e) in
         subst (λ n. (at (sources.Input place) x y + n ≤ start) ⊎ (start + 4096 ≤ at (sources.Input place) x y)) (sym four)
         (beside (at (sources.Input place) x y) 4 start (λ j. InputPart place (4 * (y * p.input.width + x) + j)) there.parts (λ j owner k. cc k) (omega arith) g)
     beside-input place x y p true e =
         let there = byte-inputs-are-there pipeline schedule boxes hart place x y p e in
-        let single : bytes_at (sources.Input place) ≡ 1 = ap (λ (z : Place). pixel_bytes z.pixels) (input-place-is pipeline schedule boxes place x y p true e)
+        let single : bytes_at (sources.Input place) ≡ 1 = ap (λ (z : BufferLayout). pixel_bytes z.pixels) (input-place-is pipeline schedule boxes place x y p true e)
         in
         subst (λ n. (at (sources.Input place) x y + n ≤ start) ⊎ (start + 4096 ≤ at (sources.Input place) x y)) (sym single)
         (beside (at (sources.Input place) x y) 1 start (λ j. InputPart place (y * p.input.width + x))

@@ -4,9 +4,9 @@ use Rattle.std.proofs.Common.{arith}
 use Rattle.std.specs.Prelude.{slice_get, slice_index, slice_index_or, if◌then◌else◌}
 use Rattle.std.specs.List.{AllByRecursion}
 use Rattle.halide_pipeline.specs.declared.definitions.Input.{Input}
-use Rattle.schedule.specs.declared.standings.Place.{Place as Standpoint}
-use Rattle.schedule.specs.declared.standings.Place.TheVariants as standpoints
-use Rattle.schedule.specs.declared.standings.Standing.{Standing}
+use Rattle.schedule.specs.declared.placements.ComputeLevel.{ComputeLevel as Standpoint}
+use Rattle.schedule.specs.declared.placements.ComputeLevel.TheVariants as standpoints
+use Rattle.schedule.specs.declared.placements.FuncPlacement.{FuncPlacement}
 use Rattle.bounds.specs.declared.boxes.SourceBox.{SourceBox}
 use Rattle.bounds.specs.Extents.{points}
 use Rattle.bounds.specs.Layout.{input_bytes, root_bytes, private_bytes, root_sizes, private_sizes, placed}
@@ -53,7 +53,7 @@ inputs-four (input ∷ inputs) = (input-four input input.is_bytes, inputs-four i
 
 -- ---- Funcs
 
-pub func-at : (standings : List Standing) (boxes : List (Option SourceBox)) (roots privates : List ℕ) (k : ℕ) (standing : Standing) (own : Option SourceBox)
+pub func-at : (standings : List FuncPlacement) (boxes : List (Option SourceBox)) (roots privates : List ℕ) (k : ℕ) (standing : FuncPlacement) (own : Option SourceBox)
     → slice_get standings k ≡ Some standing → slice_get boxes k ≡ Some own → k < length roots → k < length privates
     → slice_index_or (func_places standings boxes roots privates) k nowhere ≡ func_place standing.place own (slice_index roots k) (slice_index privates k)
 func-at [] boxes roots privates k standing own e f l m = absurd (cc e)
@@ -66,7 +66,7 @@ func-at (s ∷ ss) (b ∷ bs) (r ∷ rs) (q ∷ qs) zero standing own e f l m =
     ap (λ z. func_place z.place b r q) es ∙ ap (λ z. func_place standing.place z r q) eb
 func-at (s ∷ ss) (b ∷ bs) (r ∷ rs) (q ∷ qs) (suc k) standing own e f l m = func-at ss bs rs qs k standing own e f (omega (arith, l)) (omega (arith, m))
 
-pub root-size : (standings : List Standing) (boxes : List (Option SourceBox)) (k : ℕ) (standing : Standing) (own : Option SourceBox)
+pub root-size : (standings : List FuncPlacement) (boxes : List (Option SourceBox)) (k : ℕ) (standing : FuncPlacement) (own : Option SourceBox)
     → slice_get standings k ≡ Some standing → slice_get boxes k ≡ Some own
     → slice_index (root_sizes standings boxes) k ≡ root_bytes standing.place own
 root-size [] boxes k standing own e f = absurd (cc e)
@@ -77,7 +77,7 @@ root-size (s ∷ ss) (b ∷ bs) zero standing own e f =
     ap (λ z. root_bytes z.place b) es ∙ ap (root_bytes standing.place) eb
 root-size (s ∷ ss) (b ∷ bs) (suc k) standing own e f = root-size ss bs k standing own e f
 
-pub private-size : (standings : List Standing) (boxes : List (Option SourceBox)) (k : ℕ) (standing : Standing) (own : Option SourceBox)
+pub private-size : (standings : List FuncPlacement) (boxes : List (Option SourceBox)) (k : ℕ) (standing : FuncPlacement) (own : Option SourceBox)
     → slice_get standings k ≡ Some standing → slice_get boxes k ≡ Some own
     → slice_index (private_sizes standings boxes) k ≡ private_bytes standing.place own
 private-size [] boxes k standing own e f = absurd (cc e)
@@ -88,14 +88,14 @@ private-size (s ∷ ss) (b ∷ bs) zero standing own e f =
     ap (λ z. private_bytes z.place b) es ∙ ap (private_bytes standing.place) eb
 private-size (s ∷ ss) (b ∷ bs) (suc k) standing own e f = private-size ss bs k standing own e f
 
-pub root-below : (standings : List Standing) (boxes : List (Option SourceBox)) (k : ℕ) → k < length standings → k < length boxes
+pub root-below : (standings : List FuncPlacement) (boxes : List (Option SourceBox)) (k : ℕ) → k < length standings → k < length boxes
     → k < length (root_sizes standings boxes)
 root-below [] boxes k l m = absurd (omega (arith, l))
 root-below (s ∷ ss) [] k l m = absurd (omega (arith, m))
 root-below (s ∷ ss) (b ∷ bs) zero l m = omega arith
 root-below (s ∷ ss) (b ∷ bs) (suc k) l m = let r = root-below ss bs k (omega (arith, l)) (omega (arith, m)) in omega (arith, r)
 
-pub private-below : (standings : List Standing) (boxes : List (Option SourceBox)) (k : ℕ) → k < length standings → k < length boxes
+pub private-below : (standings : List FuncPlacement) (boxes : List (Option SourceBox)) (k : ℕ) → k < length standings → k < length boxes
     → k < length (private_sizes standings boxes)
 private-below [] boxes k l m = absurd (omega (arith, l))
 private-below (s ∷ ss) [] k l m = absurd (omega (arith, m))
@@ -116,12 +116,12 @@ private-four standpoints.Inlined own = refl
 private-four standpoints.Root own = refl
 private-four standpoints.Nowhere own = refl
 
-pub roots-four : (standings : List Standing) (boxes : List (Option SourceBox)) → AllByRecursion (λ size. size % 4 ≡ 0) (root_sizes standings boxes)
+pub roots-four : (standings : List FuncPlacement) (boxes : List (Option SourceBox)) → AllByRecursion (λ size. size % 4 ≡ 0) (root_sizes standings boxes)
 roots-four [] boxes = tt
 roots-four (s ∷ ss) [] = tt
 roots-four (s ∷ ss) (b ∷ bs) = (root-four s.place b, roots-four ss bs)
 
-pub privates-four : (standings : List Standing) (boxes : List (Option SourceBox)) → AllByRecursion (λ size. size % 4 ≡ 0) (private_sizes standings boxes)
+pub privates-four : (standings : List FuncPlacement) (boxes : List (Option SourceBox)) → AllByRecursion (λ size. size % 4 ≡ 0) (private_sizes standings boxes)
 privates-four [] boxes = tt
 privates-four (s ∷ ss) [] = tt
 privates-four (s ∷ ss) (b ∷ bs) = (private-four s.place b, privates-four ss bs)

@@ -8,9 +8,9 @@ use Rattle.halide_pipeline.specs.declared.expressions.Source.TheVariants as sour
 use Rattle.halide_pipeline.specs.Pipelines.{Pipeline}
 use Rattle.halide_pipeline.specs.WellFormed.{IsWellFormed, is_width, is_height, are_dimensions}
 use Rattle.schedule.specs.declared.schedules.Schedule.{Schedule}
-use Rattle.schedule.specs.declared.standings.Place.{Place as Standpoint}
-use Rattle.schedule.specs.declared.standings.Place.TheVariants as standpoints
-use Rattle.schedule.specs.declared.standings.Standing.{Standing}
+use Rattle.schedule.specs.declared.placements.ComputeLevel.{ComputeLevel as Standpoint}
+use Rattle.schedule.specs.declared.placements.ComputeLevel.TheVariants as standpoints
+use Rattle.schedule.specs.declared.placements.FuncPlacement.{FuncPlacement}
 use Rattle.schedule.specs.Accepted.{IsAccepted}
 use Rattle.bounds_ranges.specs.declared.ranges.Range.{Range}
 use Rattle.bounds_ranges.specs.Ranges.{widened}
@@ -144,7 +144,7 @@ one_placed (standpoints.At at) None root private lr lp small = nowhere_place
 one_placed standpoints.Inlined None root private lr lp small = nowhere_place
 one_placed standpoints.Nowhere None root private lr lp small = nowhere_place
 
-funcs_placed : (standings : List Standing) (boxes : List (Option SourceBox)) (roots privates : List ℕ) → ((k : ℕ) → slice_index roots k < 2 ^ 32)
+funcs_placed : (standings : List FuncPlacement) (boxes : List (Option SourceBox)) (roots privates : List ℕ) → ((k : ℕ) → slice_index roots k < 2 ^ 32)
     → ((k : ℕ) → slice_index privates k < 2 ^ 32)
     → ((k : ℕ) (box : SourceBox) → slice_get boxes k ≡ Some (Some box) → (extent box.x < 2 ^ 32) × (4 * points box < 2 ^ 32))
     → (k : ℕ) → IsPlace (slice_index_or (func_places standings boxes roots privates) k nowhere)

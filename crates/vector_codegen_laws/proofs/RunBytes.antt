@@ -13,11 +13,11 @@ use Rattle.schedule.specs.declared.schedules.Schedule.{Schedule}
 use Rattle.schedule_loops.specs.Visits.{Visit, is_slice}
 use Rattle.bounds.specs.declared.boxes.SourceBox.{SourceBox}
 use Rattle.loop_ir.specs.Buffers.{Points}
-use Rattle.multi_hart_logic.specs.Uses.{Owned, Private}
-use Rattle.multi_hart_logic.specs.Alone.{Keeps}
+use Rattle.multi_hart_laws.specs.Uses.{Owned, Private}
+use Rattle.multi_hart_laws.specs.Alone.{Keeps}
 use Rattle.multi_hart.specs.Run.{is_in}
-use Rattle.multi_hart_logic.specs.LaneMemory.{firsts, accesses_to}
-use Rattle.task_code_scalar.specs.declared.places.Place.{Place}
+use Rattle.multi_hart_laws.specs.LaneMemory.{firsts, accesses_to}
+use Rattle.task_code_scalar.specs.declared.layouts.BufferLayout.{BufferLayout}
 use Rattle.task_code_scalar.specs.Code.{place_of, pixel_bytes, address}
 use Rattle.task_code_scalar.specs.Doing.{AreRun}
 use Rattle.task_code_lanes.proofs.StoredRows.{in-places}
@@ -261,14 +261,14 @@ module _ (pipeline : Pipeline) (schedule : Schedule) (boxes : List (Option Sourc
   at a b = address_at pipeline schedule boxes 0 (sources.Func owners.func) a b
 
   -- the points of a Func at root lie where they lie for all harts
-  same-for-all : (place : Place) → place.distance ≡ 0 → (a b : ℕ) → address place hart a b ≡ address place 0 a b
+  same-for-all : (place : BufferLayout) → place.distance ≡ 0 → (a b : ℕ) → address place hart a b ≡ address place 0 a b
   same-for-all place none a b = no-distance place.start (pixel_bytes place.pixels * (b * place.width + a)) place.distance hart none
 
   module _ (k : ℕ) (below : k < n) (root : RootPoint pipeline schedule boxes func (x k) (y k)) (same : func ≡ owners.func) (run : owners.in_runs ≡ true)
       (are : AreRun (setting pipeline schedule boxes number owners text harts task hart inputs points written loaded) n func x y) where
     lies : (a b : ℕ) → address_at pipeline schedule boxes hart (sources.Func func) a b ≡ at a b
     lies a b =
-        same-for-all (place_of (places pipeline schedule boxes) (sources.Func func)) (ap (λ (z : Place). z.distance) (root-place pipeline schedule boxes func
+        same-for-all (place_of (places pipeline schedule boxes) (sources.Func func)) (ap (λ (z : BufferLayout). z.distance) (root-place pipeline schedule boxes func
         (x k) (y k) root)) a b
         ∙ ap (λ f. address_at pipeline schedule boxes 0 (sources.Func f) a b) same
 

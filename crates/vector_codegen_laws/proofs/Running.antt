@@ -21,8 +21,8 @@ use Rattle.bounds.specs.declared.verdict.Boxes.{Boxes}
 use Rattle.bounds.specs.Verdict.{inferred}
 use Rattle.bounds.specs.Extents.{extents_of}
 use Rattle.bounds_laws.specs.Closure.{is_within}
-use Rattle.multi_hart_logic.specs.Uses.{Owned, Given}
-use Rattle.vector_codegen_sharing.specs.Turns.{ticket_word}
+use Rattle.multi_hart_laws.specs.Uses.{Owned, Given}
+use Rattle.work_sharing.specs.Turns.{ticket_word}
 use Rattle.loop_ir.specs.Buffers.{Points}
 use Rattle.loop_ir.specs.Running.{run_task, task_values}
 use Rattle.loop_ir.specs.Runs.{stores_in_runs}
@@ -31,13 +31,13 @@ use Rattle.lowering_nests.specs.Nests.{loops_of}
 use Rattle.lowering.specs.Phases.{Hold, DoesPhase}
 use Rattle.lowering.specs.Planes.{box_points}
 use Rattle.lowering.specs.Runs.{is_in_run}
-use Rattle.schedule_loops.specs.Runs.{is_vectorized_first, outside_innermost, run_of, are_turns}
+use Rattle.schedule_loops.specs.Runs.{is_vectorized_first, outside_innermost, run_of, are_iterations}
 use Rattle.lowering.specs.Stages.{is_private}
 use Rattle.lowering.specs.Touching.{is_listed, is_root_at, may_write, may_load_at, may_load}
 use Rattle.lowering.proofs.RunLists.{runs_are_listed}
 use Rattle.task_code_scalar.specs.Doing.{Setting, IsSetting, SoundIn, RunsIn, HoldsFuncs}
 use Rattle.task_code_scalar.specs.Layout.{AreWords, func_point}
-use Rattle.task_code_runs.specs.AtOnce.{AtOnceIn}
+use Rattle.task_code_vector_loops.specs.AtOnce.{AtOnceIn}
 use Rattle.task_code_statements.specs.Tasks.{EachTaskEnds, HasDrawn, TaskEnds}
 use Rattle.vector_codegen_laws.specs.Held.{funcs_in, HasInputs, setting, IsTask}
 use Rattle.vector_codegen_laws.specs.Points.{RootPoint}
@@ -81,13 +81,13 @@ runs_named : (work : Work) → RunsAreNamed (owners_of work)
 runs_named work values x y is =
     let extents = extents_of work.own in
     let stage = work.plan.pure in
-    let turns = loops_of work.place values in
-    let are : Bool = are_turns (counts extents stage.splits) (outside_innermost stage.loops) turns in
-    let in_turns = (and_parts are (list_any (is_slice x y) (run_of extents stage turns)) is).0 in
+    let iterations = loops_of work.place values in
+    let are : Bool = are_iterations (counts extents stage.splits) (outside_innermost stage.loops) iterations in
+    let in_iterations = (and_parts are (list_any (is_slice x y) (run_of extents stage iterations)) is).0 in
     record {
-      visits = run_of extents stage turns;
-      there = (runs_are_listed extents stage).0 turns in_turns;
-      is = λ a b. ap (λ (t : Bool). t && list_any (is_slice a b) (run_of extents stage turns)) in_turns;
+      visits = run_of extents stage iterations;
+      there = (runs_are_listed extents stage).0 iterations in_iterations;
+      is = λ a b. ap (λ (t : Bool). t && list_any (is_slice a b) (run_of extents stage iterations)) in_iterations;
     }
 
 module _ (pipeline : Pipeline) (schedule : Schedule) (boxes : Boxes) (rules : IsWellFormed pipeline) (accepted : IsAccepted pipeline schedule)
@@ -213,7 +213,7 @@ module _ (pipeline : Pipeline) (schedule : Schedule) (boxes : Boxes) (rules : Is
     sound funcs words = known.touches task below (reads_of inputs funcs) (answers funcs words)
 
     at_once : AtOnceIn own work.phase.body (task_values work.phase.counter task)
-    at_once funcs words = known.rounds task below (reads_of inputs funcs)
+    at_once funcs words = known.loop_lanes task below (reads_of inputs funcs)
 
     -- a Func that is written in runs is the phase's own
     module _ (func : ℕ) (asked : (func == work.place && writes_runs work.plan work.number) ≡ true) where

@@ -30,15 +30,15 @@ use Rattle.loop_ir.specs.Stores.{is_stored_by_task}
 use Rattle.lowering.specs.Planes.{held, box_points}
 use Rattle.bounds.specs.Stages.{IsAtRoot, StagePlace, stages, iterations, writes}
 use Rattle.lowering.proofs.RunLists.{runs_are_listed}
-use Rattle.multi_hart_logic.specs.Uses.{Control as ForControl, Fixed, Owned, Shared, Task}
-use Rattle.multi_hart_logic.specs.Paths.{Stand, Writes}
-use Rattle.vector_codegen_sharing.specs.Phases.{Phase as SharedPhase}
-use Rattle.vector_codegen_sharing.specs.Solo.{world, Begins}
-use Rattle.vector_codegen_sharing.specs.Bridges.{numbers_of}
-use Rattle.vector_codegen_sharing.specs.Programs.{IsControlByte, FoundBy}
-use Rattle.vector_codegen_sharing.specs.Turns.{ticket_word}
-use Rattle.vector_codegen_sharing.proofs.Bridges.{stands-there}
-use Rattle.task_code_scalar.specs.declared.places.Places.{Places}
+use Rattle.multi_hart_laws.specs.Uses.{Control as ForControl, Fixed, Owned, Shared, Task}
+use Rattle.multi_hart_laws.specs.Paths.{Stand, Writes}
+use Rattle.work_sharing.specs.Phases.{Phase as SharedPhase}
+use Rattle.work_sharing.specs.Solo.{world, Begins}
+use Rattle.work_sharing.specs.Bridges.{numbers_of}
+use Rattle.work_sharing.specs.Programs.{IsControlByte, FoundBy}
+use Rattle.work_sharing.specs.Turns.{ticket_word}
+use Rattle.work_sharing.proofs.Bridges.{stands-there}
+use Rattle.task_code_scalar.specs.declared.layouts.Places.{Places}
 use Rattle.task_code_statements.specs.Tasks.{EachTaskEnds, HasDrawn, TaskEnds}
 use Rattle.vector_codegen.specs.PhaseCode.{Part as CodePart, program}
 use Rattle.vector_codegen.specs.Sharing.{Matter, no_part, part_at, phase, Runs, IsShared}
@@ -445,7 +445,7 @@ module _ (pipeline : Pipeline) (schedule : Schedule) (boxes : Boxes) (rules : Is
         (subst (λ (o : SourceBox). IsOneRun (address_at pipeline schedule boxes.funcs 0 (sources.Func (work k).place)) (extents_of o) (work k).plan.pure
         written) same_own
         (record {
-          turns = run.turns;
+          iterations = run.iterations;
           are = run.are;
           all = λ x y byte visited small. bytes_of.all x y byte (ap (list_any (is_slice x y)) run.is ∙ visited) small;
           no_other = λ address i. subst (λ (visits : List Visit). IsByteOf (address_at pipeline schedule boxes.funcs 0 (sources.Func (work k).place)) visits

@@ -8,15 +8,15 @@ use Rattle.halide_pipeline.specs.declared.expressions.Source.{Source}
 use Rattle.halide_pipeline.specs.declared.expressions.Source.TheVariants as sources
 use Rattle.halide_pipeline.specs.Pipelines.{Pipeline}
 use Rattle.schedule.specs.declared.schedules.Schedule.{Schedule}
-use Rattle.schedule.specs.declared.standings.Standing.{Standing}
+use Rattle.schedule.specs.declared.placements.FuncPlacement.{FuncPlacement}
 use Rattle.bounds.specs.declared.boxes.SourceBox.{SourceBox}
 use Rattle.bounds.specs.Extents.{extent, points}
 use Rattle.bounds.specs.Layout.{data_start, laid_in, laid_out, root_bytes, private_bytes, placed, total}
 use Rattle.bounds.specs.Parts.{Input as InputPart, Sizes, sizes_of, part_at}
 use Rattle.bounds.specs.Finding.{inputs_at, roots_at, privates_at}
 use Rattle.bounds.proofs.Finding.{parts-end, parts-aligned, inputs-found, roots-found, copies-found}
-use Rattle.task_code_scalar.specs.declared.places.Pixels.TheVariants as pixels
-use Rattle.task_code_scalar.specs.declared.places.Place.{Place}
+use Rattle.task_code_scalar.specs.declared.layouts.Pixels.TheVariants as pixels
+use Rattle.task_code_scalar.specs.declared.layouts.BufferLayout.{BufferLayout}
 use Rattle.task_code_scalar.specs.Code.{place_of, address}
 use Rattle.task_code_scalar.specs.Evaluation.{word_start}
 use Rattle.vector_codegen_laws.specs.Places.{input_place, func_place, places_of}
@@ -30,8 +30,8 @@ pub within : (width height x y : ℕ) → x < width → y < height → y * width
 within width height x y below_x below_y =
     let next : suc y ≤ height = omega (arith, below_y) in
     let row : suc y * width ≡ y * width + width = omega arith in
-    let turned : height * width ≡ width * height = omega arith in
-    omega (arith, row, turned, below_x, mul-le-mul_right {m = suc y} {n = height} width next)
+    let swapped : height * width ≡ width * height = omega arith in
+    omega (arith, row, swapped, below_x, mul-le-mul_right {m = suc y} {n = height} width next)
 
 module _ (pipeline : Pipeline) (schedule : Schedule) (boxes : List (Option SourceBox)) where
   abbrev sizes : Sizes
@@ -46,7 +46,7 @@ module _ (pipeline : Pipeline) (schedule : Schedule) (boxes : List (Option Sourc
   abbrev inputs : List ℕ
   inputs = placed (inputs_at sizes) sizes.inputs
 
-  pub func-place-at : (func : ℕ) (standing : Standing) (own : SourceBox) → slice_get schedule.standings func ≡ Some standing
+  pub func-place-at : (func : ℕ) (standing : FuncPlacement) (own : SourceBox) → slice_get schedule.standings func ≡ Some standing
       → slice_get boxes func ≡ Some (Some own)
       → place_of (places_of pipeline schedule boxes (laid_out pipeline schedule boxes)) (sources.Func func) ≡ func_place standing.place (Some own)
       (slice_index roots func) (slice_index privates func)
@@ -139,14 +139,14 @@ copies-are-there pipeline schedule boxes hart func x y few-harts p =
     in
     let copies : suc hart * n ≤ 8 * n = mul-le-mul_right {m = suc hart} {n = 8} n (omega (arith, few-harts)) in
     let more : suc hart * n ≡ hart * n + n = omega arith in
-    let turned : 4 * n * hart ≡ 4 * (hart * n) = omega arith in
+    let swapped : 4 * n * hart ≡ 4 * (hart * n) = omega arith in
     record {
-      aligned = ap (λ i. i % 4) at ∙ (let q : (r + 4 * n * hart + 4 * k) % 4 ≡ 0 = omega (arith, four, turned) in q);
+      aligned = ap (λ i. i % 4) at ∙ (let q : (r + 4 * n * hart + 4 * k) % 4 ≡ 0 = omega (arith, four, swapped) in q);
       above = omega (arith, at, e0);
-      below = omega (arith, at, e1, all, size, few, copies, more, turned);
+      below = omega (arith, at, e1, all, size, few, copies, more, swapped);
       parts = λ byte l.
           let q : address_at pipeline schedule boxes hart (sources.Func func) x y + byte ≡ r + (4 * n * hart + (4 * k + byte)) = omega (arith, at) in
-          ap (part_at s) q ∙ copies-found s func (4 * n * hart + (4 * k + byte)) (omega (arith, size, few, l, copies, more, turned));
+          ap (part_at s) q ∙ copies-found s func (4 * n * hart + (4 * k + byte)) (omega (arith, size, few, l, copies, more, swapped));
     }
 
 module _ (pipeline : Pipeline) (schedule : Schedule) (boxes : List (Option SourceBox)) where
@@ -251,7 +251,7 @@ byte-words-are-there pipeline schedule boxes hart place x y p bytes =
 -- ---- how buffers lie
 
 module _ (pipeline : Pipeline) (schedule : Schedule) (boxes : List (Option SourceBox)) where
-  abbrev place_at : Source → Place
+  abbrev place_at : Source → BufferLayout
   place_at source = place_of (places_of pipeline schedule boxes (laid_out pipeline schedule boxes)) source
 
   pub root-place : (func x y : ℕ) → (p : RootPoint pipeline schedule boxes func x y)

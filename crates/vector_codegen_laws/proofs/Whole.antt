@@ -13,14 +13,14 @@ use Rattle.halide_pipeline.specs.WellFormed.{IsWellFormed}
 use Rattle.schedule_lines.specs.declared.stages.Stage.{Stage}
 use Rattle.schedule.specs.declared.plans.FuncPlan.{FuncPlan}
 use Rattle.schedule.specs.declared.schedules.Schedule.{Schedule}
-use Rattle.schedule.specs.declared.standings.Place.{Place}
-use Rattle.schedule.specs.declared.standings.Place.TheVariants as places
-use Rattle.schedule.specs.declared.standings.Standing.{Standing}
+use Rattle.schedule.specs.declared.placements.ComputeLevel.{ComputeLevel}
+use Rattle.schedule.specs.declared.placements.ComputeLevel.TheVariants as places
+use Rattle.schedule.specs.declared.placements.FuncPlacement.{FuncPlacement}
 use Rattle.schedule.specs.Accepted.{IsAccepted, IsPlan, IsUpdateStage}
 use Rattle.schedule.specs.Legal.{is_inlined, is_root}
 use Rattle.schedule.proofs.Uses.{IsSome}
 use Rattle.schedule_loops.specs.declared.extents.Extents.{Extents}
-use Rattle.schedule_loops.specs.Visits.{HasOwner, iteration, iteration_count, owns, is_slice, rising, slice, upto, visits}
+use Rattle.schedule_loops.specs.Visits.{HasOwner, visits_in, iteration_count, owns, is_slice, rising, slice, upto, visits}
 use Rattle.schedule_loops.specs.Stages.{IsStageOf, KeepsRules, extent_in, first_loops, has_variable, is_slice_of, points_of}
 use Rattle.schedule_loops.proofs.AcceptedStages.{pair_at}
 use Rattle.schedule_loops.proofs.Parallel.{all_iterations, slice_owner}
@@ -51,7 +51,7 @@ some_at [] k l = absurd (omega (arith, l))
 some_at (first ∷ xs) zero l = record { value = first; is = refl }
 some_at (first ∷ xs) (suc k) l = some_at xs k (omega (arith, l))
 
--- one of two lists, one behind the other, has it
+-- one of two lists, one after the other, has it
 either_has : {A : Type 0} (xs ys : List A) (k : ℕ) (x : A) → slice_get (xs ++ ys) k ≡ Some x → (slice_get xs k ≡ Some x) ⊎ ((j : ℕ) × (slice_get ys j ≡ Some x))
 either_has [] ys k x found = inr (k, found)
 either_has (first ∷ xs) ys zero x found = inl found
@@ -80,7 +80,7 @@ module _ (pipeline : Pipeline) (schedule : Schedule) (boxes : Boxes) where
 
   pub record IsListed (stage : StagePlace) : Type 0 where
     pub func : Func
-    pub standing : Standing
+    pub standing : FuncPlacement
     pub own : SourceBox
     pub func_is : slice_get pipeline.funcs stage.func ≡ Some func
     pub standing_is : slice_get schedule.standings stage.func ≡ Some standing
@@ -88,7 +88,7 @@ module _ (pipeline : Pipeline) (schedule : Schedule) (boxes : Boxes) where
     pub box_is : slice_get boxes.funcs stage.func ≡ Some (Some own)
     pub few : stage.number ≤ length func.updates
 
-  listed_where : (place k : ℕ) (stage : StagePlace) (standing : Standing) (func : Func) (own : Option SourceBox) (at : Place)
+  listed_where : (place k : ℕ) (stage : StagePlace) (standing : FuncPlacement) (func : Func) (own : Option SourceBox) (at : ComputeLevel)
       → slice_get schedule.standings place ≡ Some standing
       → slice_get pipeline.funcs place ≡ Some func → slice_get boxes.funcs place ≡ Some own → standing.place ≡ at → slice_get (stages_where at func own place) k
       ≡ Some stage → IsListed stage
@@ -110,7 +110,7 @@ module _ (pipeline : Pipeline) (schedule : Schedule) (boxes : Boxes) where
   listed_where place k stage standing func own (places.At loop) s f b at found = absurd cc
   listed_where place k stage standing func own places.Nowhere s f b at found = absurd cc
 
-  listed_at : (place k : ℕ) (stage : StagePlace) (standing : Option Standing) (func : Option Func) (own : Option (Option SourceBox))
+  listed_at : (place k : ℕ) (stage : StagePlace) (standing : Option FuncPlacement) (func : Option Func) (own : Option (Option SourceBox))
       → slice_get schedule.standings place ≡ standing
       → slice_get pipeline.funcs place ≡ func → slice_get boxes.funcs place ≡ own → slice_get (stages_at place standing func own) k ≡ Some stage
       → IsListed stage
@@ -143,7 +143,7 @@ module _ (pipeline : Pipeline) (schedule : Schedule) (boxes : Boxes) where
           standing = box.standing;
           there = box.there;
           placed_is =
-              ap (λ (t : Standing). t.place) same ∙ listed.at_root;
+              ap (λ (t : FuncPlacement). t.place) same ∙ listed.at_root;
         },
       )
 
@@ -177,14 +177,14 @@ module _ (pipeline : Pipeline) (schedule : Schedule) (boxes : Boxes) where
     owned_by : (x y : ℕ) → x < extent listed.own.x → y < extent listed.own.y → IsOwned x y
     owned_by x y lx ly = by_test (owns extents plan.pure h.owner x y) refl
       where
-        h : HasOwner (iteration_count extents plan.pure) (iteration extents plan.pure) x y
+        h : HasOwner (iteration_count extents plan.pure) (visits_in extents plan.pure) x y
         h = slice_owner listed.func None extents plan.pure stage_facts.0 stage_facts.1 x y (slice_of x y lx ly)
 
         none : owns extents plan.pure h.owner x y ≡ false → (number : ℕ) → number < iteration_count extents plan.pure
             → owns extents plan.pure number x y ≡ false
         none e number l = elim (cases_eq number h.owner) [
           | inl same ↦ ap (λ (n : ℕ). owns extents plan.pure n x y) same ∙ e
-          | inr other ↦ none_kept (is_slice x y) (iteration extents plan.pure number) (h.no_other number l other)
+          | inr other ↦ none_kept (is_slice x y) (visits_in extents plan.pure number) (h.no_other number l other)
         ]
 
         by_test : (test : Bool) → owns extents plan.pure h.owner x y ≡ test → IsOwned x y
@@ -232,7 +232,7 @@ module _ (pipeline : Pipeline) (schedule : Schedule) (boxes : Boxes) where
             absurd (seen (points_of listed.func (Some update) reduced) some_points
             (slice_is listed.func update reduced own_stage facts.0 0 0 (is_slice_of listed.func (Some update) reduced 0 0) refl
             ∙ ap (λ (there : Bool). rising 0 0 0 (cond there (points_of listed.func (Some update) reduced) 0)) first_slice)
-            (all_iterations listed.func (Some update) reduced own_stage facts.0 facts.1 ∙ ap (λ (n : ℕ). upto n (iteration reduced own_stage)) none))
+            (all_iterations listed.func (Some update) reduced own_stage facts.0 facts.1 ∙ ap (λ (n : ℕ). upto n (visits_in reduced own_stage)) none))
       ]
 
     -- ---- how many iterations there are
@@ -289,7 +289,7 @@ pure-stages-write-all pipeline schedule boxes rules accepted is inputs phase sta
 
 -- ---- which stages they are
 
-same_where : (at : Place) (reached : Bool) (place : ℕ) (func : Func) (own : Option SourceBox) → is_some own ≡ (reached && not (is_inlined at))
+same_where : (at : ComputeLevel) (reached : Bool) (place : ℕ) (func : Func) (own : Option SourceBox) → is_some own ≡ (reached && not (is_inlined at))
     → stages_where at func own place ≡ cond (reached && is_root at) (stages_to place (suc (length func.updates))) []
 same_where places.Root true place func None e = absurd (true≢false (sym e))
 same_where places.Root true place func (Some own) e = refl
@@ -298,13 +298,13 @@ same_where places.Root false place func (Some own) e = absurd (true≢false e)
 same_where other true place func own e = refl
 same_where other false place func own e = refl
 
-same_at : (place : ℕ) (standing : Option Standing) (func : Option Func) (own : Option (Option SourceBox)) → is_some (box_in own) ≡ is_computed_there standing
+same_at : (place : ℕ) (standing : Option FuncPlacement) (func : Option Func) (own : Option (Option SourceBox)) → is_some (box_in own) ≡ is_computed_there standing
     → stages_at place standing func own ≡ reached_at place standing func
 same_at place None func own e = refl
 same_at place (Some standing) None own e = refl
 same_at place (Some standing) (Some func) None e = nothing standing.place standing.is_reached e
   where
-    nothing : (at : Place) (reached : Bool) → false ≡ (reached && not (is_inlined at))
+    nothing : (at : ComputeLevel) (reached : Bool) → false ≡ (reached && not (is_inlined at))
         → [] ≡ cond (reached && is_root at) (stages_to place (suc (length func.updates))) []
     nothing places.Root true e = absurd (true≢false (sym e))
     nothing places.Root false e = refl

@@ -1,4 +1,4 @@
--- What memory holds before and behind a task: the inputs' pixels, and of Funcs the words at their points.
+-- What memory holds before and after a task: the inputs' pixels, and of Funcs the words at their points.
 -- This project's own.
 use Rattle.std.specs.Prelude.{◌≡◌, ◌<◌, ◌≤◌, ℕ, ◌^◌, ◌==◌, ◌&&◌, Bool, true, List, length, slice_get, Option}
 use Rattle.memory.specs.Access.{byte_at, AreBytes, most_bytes, word_at}
@@ -9,7 +9,7 @@ use Rattle.halide_pipeline.specs.Points.{Point}
 use Rattle.schedule.specs.declared.schedules.Schedule.{Schedule}
 use Rattle.bounds_ranges.specs.Laws.{AnswerWords}
 use Rattle.bounds.specs.declared.boxes.SourceBox.{SourceBox}
-use Rattle.multi_hart_logic.specs.Uses.{Owned, Given}
+use Rattle.multi_hart_laws.specs.Uses.{Owned, Given}
 use Rattle.loop_ir.specs.Buffers.{Points}
 use Rattle.bounds.specs.Parts.{Input as InputPart}
 use Rattle.task_code_scalar.specs.Doing.{Setting, MayBeWrittenAtOnce, HoldsFuncs}

@@ -6,9 +6,9 @@ use Rattle.halide_pipeline.specs.declared.expressions.Source.{Source}
 use Rattle.halide_pipeline.specs.declared.expressions.Source.TheVariants as sources
 use Rattle.halide_pipeline.specs.Pipelines.{Pipeline}
 use Rattle.schedule.specs.declared.schedules.Schedule.{Schedule}
-use Rattle.schedule.specs.declared.standings.LoopPlace.{LoopPlace}
-use Rattle.schedule.specs.declared.standings.Place.TheVariants as standpoints
-use Rattle.schedule.specs.declared.standings.Standing.{Standing}
+use Rattle.schedule.specs.declared.placements.LoopPlace.{LoopPlace}
+use Rattle.schedule.specs.declared.placements.ComputeLevel.TheVariants as standpoints
+use Rattle.schedule.specs.declared.placements.FuncPlacement.{FuncPlacement}
 use Rattle.bounds.specs.declared.boxes.SourceBox.{SourceBox}
 use Rattle.bounds.specs.Extents.{extent, points}
 use Rattle.bounds.specs.Layout.{data_start, laid_out}
@@ -21,14 +21,14 @@ module _ (pipeline : Pipeline) (schedule : Schedule) (boxes : List (Option Sourc
 
   -- the Func at a place is computed at root, and has a box
   pub record RootFunc (func : ℕ) : Type 0 where
-    pub standing : Standing
+    pub standing : FuncPlacement
     pub standing_is : slice_get schedule.standings func ≡ Some standing
     pub at_root : standing.place ≡ standpoints.Root
     pub own : SourceBox
     pub box_is : slice_get boxes func ≡ Some (Some own)
 
   pub record RootPoint (func x y : ℕ) : Type 0 where
-    pub standing : Standing
+    pub standing : FuncPlacement
     pub standing_is : slice_get schedule.standings func ≡ Some standing
     pub at_root : standing.place ≡ standpoints.Root
     pub own : SourceBox
@@ -37,7 +37,7 @@ module _ (pipeline : Pipeline) (schedule : Schedule) (boxes : List (Option Sourc
     pub row : y < extent own.y
 
   pub record PrivatePoint (func x y : ℕ) : Type 0 where
-    pub standing : Standing
+    pub standing : FuncPlacement
     pub standing_is : slice_get schedule.standings func ≡ Some standing
     pub loop : LoopPlace
     pub at_loop : standing.place ≡ standpoints.At loop

@@ -6,7 +6,7 @@ use Rattle.schedule_lines.specs.declared.stages.Stage.{Stage}
 use Rattle.schedule.specs.declared.plans.FuncPlan.{FuncPlan}
 use Rattle.schedule_loops.specs.declared.extents.Extents.{Extents}
 use Rattle.schedule_loops.specs.Visits.{Values, counts, is_slice, Visit}
-use Rattle.schedule_loops.specs.Runs.{AreTurns, is_vectorized_first, outside_innermost, run_of}
+use Rattle.schedule_loops.specs.Runs.{AreIterations, is_vectorized_first, outside_innermost, run_of}
 use Rattle.multi_hart.specs.Run.{is_in}
 
 -- the place is a byte of a point that is visited
@@ -26,8 +26,8 @@ writes_runs plan number = number == 0 && is_vectorized_first plan.pure.loops
 -- Where points lie so, the addresses are those of all bytes of the points that the stage visits while its innermost loop takes all its values and
 -- its other loops stay, and of no others.
 pub record IsOneRun (at : ℕ → ℕ → ℕ) (extents : Extents) (stage : Stage) (written : List ℕ) : Type 0 where
-  -- in which turns the other loops are
-  pub turns : Values
-  pub are : AreTurns (counts extents stage.splits) (outside_innermost stage.loops) turns
-  pub all : (x y byte : ℕ) → list_any (is_slice x y) (run_of extents stage turns) ≡ true → byte < 4 → is_in (at x y + byte) written ≡ true
-  pub no_other : (address : ℕ) → is_in address written ≡ true → IsByteOf at (run_of extents stage turns) address
+  -- in which iterations the other loops are
+  pub iterations : Values
+  pub are : AreIterations (counts extents stage.splits) (outside_innermost stage.loops) iterations
+  pub all : (x y byte : ℕ) → list_any (is_slice x y) (run_of extents stage iterations) ≡ true → byte < 4 → is_in (at x y + byte) written ≡ true
+  pub no_other : (address : ℕ) → is_in address written ≡ true → IsByteOf at (run_of extents stage iterations) address

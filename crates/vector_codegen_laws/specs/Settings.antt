@@ -8,12 +8,12 @@ use Rattle.halide_pipeline.specs.Pipelines.{Pipeline}
 use Rattle.halide_pipeline.specs.Points.{Point}
 use Rattle.schedule.specs.declared.schedules.Schedule.{Schedule}
 use Rattle.memory.specs.Access.{most_bytes}
-use Rattle.multi_hart_logic.specs.Uses.{Use, Task}
-use Rattle.multi_hart_logic.specs.Alone.{World}
+use Rattle.multi_hart_laws.specs.Uses.{Use, Task}
+use Rattle.multi_hart_laws.specs.Alone.{World}
 use Rattle.bounds.specs.declared.boxes.SourceBox.{SourceBox}
 use Rattle.bounds.specs.Layout.{laid_out}
 use Rattle.loop_ir.specs.Buffers.{Points}
-use Rattle.task_code_scalar.specs.declared.places.Places.{Places}
+use Rattle.task_code_scalar.specs.declared.layouts.Places.{Places}
 use Rattle.task_code_scalar.specs.Layout.{Laid}
 use Rattle.vector_codegen_laws.specs.Places.{places_of}
 use Rattle.vector_codegen_laws.specs.Points.{RootPoint, PrivatePoint, InputPoint, part}

@@ -20,8 +20,8 @@ use Rattle.loop_ir.specs.declared.statements.Phase.{Phase}
 use Rattle.lowering.specs.Lowered.{AreLowered}
 use Rattle.lowering.specs.Planes.{held}
 use Rattle.bounds.specs.Stages.{IsAtRoot, StagePlace, stages, iterations, writes}
-use Rattle.multi_hart_logic.specs.Uses.{Fixed, Owned}
-use Rattle.multi_hart_logic.specs.Paths.{Stand}
+use Rattle.multi_hart_laws.specs.Uses.{Fixed, Owned}
+use Rattle.multi_hart_laws.specs.Paths.{Stand}
 use Rattle.vector_codegen.specs.PhaseCode.{Part, program}
 use Rattle.vector_codegen.specs.Sharing.{Matter, IsShared, part_at}
 use Rattle.vector_codegen.specs.Programs.{ArePartsOf, HasFewTasks}

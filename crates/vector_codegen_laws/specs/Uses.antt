@@ -8,7 +8,7 @@ use Rattle.bounds.specs.declared.boxes.SourceBox.{SourceBox}
 use Rattle.bounds.specs.Extents.{box_in, extent, points}
 use Rattle.schedule_loops.specs.Visits.{Visit}
 use Rattle.loop_ir.specs.Counters.{Values}
-use Rattle.multi_hart_logic.specs.Uses.{Use, Control as ForControl, Fixed, Owned, Private}
+use Rattle.multi_hart_laws.specs.Uses.{Use, Control as ForControl, Fixed, Owned, Private}
 use Rattle.bounds.specs.Parts.{Part, Control, Input as InputPart, Root, Copies, Frame, Outside}
 
 -- ---- points by their numbers in a buffer
@@ -66,7 +66,7 @@ use_of boxes number owners Outside = ForControl
 abbrev pub byte_of : ℕ → ℕ → ℕ
 byte_of n byte = slice_index (to_le_bytes w32 n) byte
 
--- a byte of an input: of its pixel, or behind its pixels
+-- a byte of an input: of its pixel, or after its pixels
 abbrev pub input_byte : Option Input → ℕ → Planes → ℕ → ℕ
 input_byte None place inputs offset = 0
 input_byte (Some input) place inputs offset =

@@ -7,7 +7,7 @@ use Rattle.halide_pipeline.specs.Pipelines.{Pipeline}
 use Rattle.halide_pipeline.specs.Pixel.{Planes}
 use Rattle.halide_pipeline.specs.WellFormed.{IsWellFormed}
 use Rattle.schedule.specs.declared.schedules.Schedule.{Schedule}
-use Rattle.schedule.specs.declared.standings.Standing.{Standing}
+use Rattle.schedule.specs.declared.placements.FuncPlacement.{FuncPlacement}
 use Rattle.schedule.specs.Accepted.{IsAccepted}
 use Rattle.schedule.specs.Legal.{is_root}
 use Rattle.bounds.specs.declared.boxes.SourceBox.{SourceBox}
@@ -18,7 +18,7 @@ use Rattle.bounds.specs.Stages.{StagePlace, stages_to, stages, iterations, write
 
 -- ---- which stages they are, without a word of boxes
 
-abbrev pub reached_at : ℕ → Option Standing → Option Func → List StagePlace
+abbrev pub reached_at : ℕ → Option FuncPlacement → Option Func → List StagePlace
 reached_at place None func = []
 reached_at place (Some own) None = []
 reached_at place (Some own) (Some func) = if own.is_reached && is_root own.place then stages_to place (suc (length func.updates)) else []

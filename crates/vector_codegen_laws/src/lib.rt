@@ -4,7 +4,7 @@
 //! (`specs/Sharing.antt`).
 //!
 //! - [`memory_laws`]: points of buffers lie where the layout has them (`specs/Points.antt`); what a task touches lies
-//!   so that its code may touch it (`specs/Settings.antt`); what memory holds before and behind a task
+//!   so that its code may touch it (`specs/Settings.antt`); what memory holds before and after a task
 //!   (`specs/Held.antt`); that turns which write a vectorized Func's points write whole runs (`specs/RunBytes.antt`).
 //! - [`sharing_laws`]: phases whose code stands in the text share their work, and leave the pixels of Funcs at root.
 //! - [`stage_laws`]: which stages phases compute, and that those of pure definitions write all points

@@ -10,8 +10,8 @@ use Rattle.rv_insn.specs.declared.vector_operations.CompareVxOp.{CompareVxOp}
 use Rattle.rv_insn.specs.declared.vector_operations.ReductionOp.{ReductionOp}
 use Rattle.vector_unit.specs.declared.elements.NewElements.{NewElements}
 use Rattle.vector_unit.specs.declared.elements.NewElements.TheVariants.{Arithmetic, Multiply, Merge, Copy, Numbers, Bytes}
-use Rattle.vector_unit.specs.declared.operands.Operand.{Operand}
-use Rattle.vector_unit.specs.declared.operands.Operand.TheVariants.{Register, Number, Immediate, Amount}
+use Rattle.vector_unit.specs.declared.operands.OtherOperand.{OtherOperand}
+use Rattle.vector_unit.specs.declared.operands.OtherOperand.TheVariants.{Register, Number, Immediate, Amount}
 use Rattle.vector_unit.specs.Vector.{Vectors, register, with_register, has_vill, width, count, group, of_group, element_from, active_in, with_registers}
 use Rattle.vector_unit.specs.Vector.{with_elements}
 use Rattle.vector_unit.specs.Operands.{operand_elements}
@@ -84,7 +84,7 @@ part-group state cut v part l =
     ∙ same-below (λ i. element_from state (width state) v (part * own_count state + i)) (element (width state) (register state (v + part))) (own_count state)
     (λ i low. own state cut v part i low)
 
-pub part-operand : (state : Vectors) → IsCut state → (other : Operand) (part : ℕ) → part < group state
+pub part-operand : (state : Vectors) → IsCut state → (other : OtherOperand) (part : ℕ) → part < group state
     → part_of (own_count state) part (operand_elements state other) ≡ operand_part state other part
 part-operand state cut (Register v) part l = part-group state cut v part l
 part-operand state cut (Number n) part l = part-replicate _ (own_count state) part (count state) (within state cut part l)
@@ -172,7 +172,7 @@ written_alone state e one vd vm new = ap (with_parts state vd vm new 0) (sym one
 
 -- ---- bits
 
-bits_in_parts : (state : Vectors) → IsCut state → (o : CompareVxOp) (vs2 : ℕ) (other : Operand) (vm : Bool) (others part : ℕ) (bytes : List ℕ)
+bits_in_parts : (state : Vectors) → IsCut state → (o : CompareVxOp) (vs2 : ℕ) (other : OtherOperand) (vm : Bool) (others part : ℕ) (bytes : List ℕ)
     → part + others ≡ group state
     → with_mask_bits_from (part * own_count state) (drop (part * own_count state) (active_in state vm))
     (drop (part * own_count state) (zip_with (op.compare_vx o (width state)) (of_group state vs2) (operand_elements state other))) bytes
@@ -201,7 +201,7 @@ bits_in_parts state cut o vs2 other vm (suc others) part bytes l =
     ∙ rw (more, next_part n part (active_in state vm), next_part n part bits, part-active state cut vm part below, here)
     (bits_in_parts state cut o vs2 other vm others (part + 1) (with_part_bits state o vs2 other vm part bytes) (omega (arith, l)))
 
-pub compared_bits : (state : Vectors) → has_vill state ≡ false → (o : CompareVxOp) (vs2 : ℕ) (other : Operand) (vm : Bool) (bytes : List ℕ)
+pub compared_bits : (state : Vectors) → has_vill state ≡ false → (o : CompareVxOp) (vs2 : ℕ) (other : OtherOperand) (vm : Bool) (bytes : List ℕ)
     → with_parts_bits state o vs2 other vm 0 (group state) bytes
     ≡ with_mask_bits_from 0 (active_in state vm) (zip_with (op.compare_vx o (width state)) (of_group state vs2) (operand_elements state other)) bytes
 compared_bits state e o vs2 other vm bytes =

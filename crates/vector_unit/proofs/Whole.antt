@@ -13,8 +13,8 @@ use Rattle.vector_unit.specs.Operations as op
 use Rattle.vector_unit.specs.declared.elements.NewElements.{NewElements}
 use Rattle.vector_unit.specs.declared.elements.NewElements.TheVariants.{Arithmetic, Multiply, Merge, Copy, Numbers, Bytes}
 use Rattle.rv_insn.specs.declared.vector_operations.CompareVxOp.{CompareVxOp}
-use Rattle.vector_unit.specs.declared.operands.Operand.{Operand}
-use Rattle.vector_unit.specs.declared.operands.Operand.TheVariants.{Register, Number, Immediate, Amount}
+use Rattle.vector_unit.specs.declared.operands.OtherOperand.{OtherOperand}
+use Rattle.vector_unit.specs.declared.operands.OtherOperand.TheVariants.{Register, Number, Immediate, Amount}
 use Rattle.vector_unit.specs.Accesses.{with_element_from}
 use Rattle.vector_unit.specs.Vector.{Vectors, register, with_register, with_registers, with_elements, is_supported, vsew_of, vlmul_of, most_elements}
 use Rattle.vector_unit.specs.Vector.{width, count, group, of_group, element_from, has_vill, is_misplaced}
@@ -44,7 +44,7 @@ zip_length f (suc n) (x ∷ xs) (y ∷ ys) l m = let others = zip_length f n xs 
 group_length : (state : Vectors) (v : ℕ) → length (of_group state v) ≡ count state
 group_length state v = length-map-range_with_len (element_from state (width state) v) 0 (count state)
 
-operand_length : (state : Vectors) (other : Operand) → length (operand_elements state other) ≡ count state
+operand_length : (state : Vectors) (other : OtherOperand) → length (operand_elements state other) ≡ count state
 operand_length state (Register v) = group_length state v
 operand_length state (Number n) = length-replicate (count state) _
 operand_length state (Immediate imm) = length-replicate (count state) _
@@ -80,13 +80,13 @@ written_each state whole vd all each long same =
     ∙ rw (from_none n, first) at parts
     ∙ ap (λ w. with_each state w vd each 0 (group state)) words)
 
-pub operand_words : (state : Vectors) → IsWhole state → (other : Operand) (part : ℕ) → operand_part state other part ≡ words_of state other part
+pub operand_words : (state : Vectors) → IsWhole state → (other : OtherOperand) (part : ℕ) → operand_part state other part ≡ words_of state other part
 operand_words state whole (Register v) part = rw whole.words refl
 operand_words state whole (Number n) part = rw whole.words refl
 operand_words state whole (Immediate imm) part = rw whole.words refl
 operand_words state whole (Amount amount) part = rw whole.words refl
 
-pub written_pairs : (state : Vectors) → IsWhole state → (f : ℕ → ℕ → ℕ) (vd vs2 : ℕ) (other : Operand)
+pub written_pairs : (state : Vectors) → IsWhole state → (f : ℕ → ℕ → ℕ) (vd vs2 : ℕ) (other : OtherOperand)
     → with_each state 32 vd (paired_words state f vs2 other) 0 (group state)
     ≡ with_elements state vd true (zip_with f (of_group state vs2) (operand_elements state other))
 written_pairs state whole f vd vs2 other =
@@ -190,7 +190,7 @@ one_register state whole few = by_size (group state) (group_sizes state whole.co
     by_size g (inr (inl e)) few = absurd (omega (arith, e, few))
     by_size g (inr (inr e)) few = absurd (omega (arith, e, few))
 
-pub written_by_size : (state : Vectors) → IsWhole state → (n : ℕ) → group state ≡ n → (f : ℕ → ℕ → ℕ → ℕ) (vd vs2 : ℕ) (other : Operand)
+pub written_by_size : (state : Vectors) → IsWhole state → (n : ℕ) → group state ≡ n → (f : ℕ → ℕ → ℕ → ℕ) (vd vs2 : ℕ) (other : OtherOperand)
     → with_each state 32 vd (paired_words state (f 32) vs2 other) 0 n
     ≡ with_elements state vd true (zip_with (f (width state)) (of_group state vs2) (operand_elements state other))
 written_by_size state whole n e f vd vs2 other =
@@ -253,7 +253,7 @@ part_active_whole state whole part l =
     ∙ part-replicate true (own_count state) part (count state) (within state cut part l)
     ∙ ap (λ w. replicate (128 / w) true) whole.words
 
-pub compared_words : (state : Vectors) → IsWhole state → (o : CompareVxOp) (vs2 : ℕ) (other : Operand) (part : ℕ) (bytes : List ℕ) → part < group state
+pub compared_words : (state : Vectors) → IsWhole state → (o : CompareVxOp) (vs2 : ℕ) (other : OtherOperand) (part : ℕ) (bytes : List ℕ) → part < group state
     → with_mask_bits_from (part * 4) (true ∷ true ∷ true ∷ true ∷ []) (zip_with (op.compare_vx o 32) (words_in state vs2 part) (words_of state other part)) bytes
     ≡ with_part_bits state o vs2 other true part bytes
 compared_words state whole o vs2 other part bytes l =
@@ -263,7 +263,7 @@ compared_words state whole o vs2 other part bytes l =
     ∙ ap (bits (width state) (true ∷ true ∷ true ∷ true ∷ [])) (operand_words state whole other part)
     ∙ ap (λ w. bits w (true ∷ true ∷ true ∷ true ∷ []) (words_of state other part)) whole.words)
 
-pub compared_count : (state : Vectors) (f : ℕ → ℕ → Bool) (vs2 : ℕ) (other : Operand) (part : ℕ) → length (zip_with f (words_in state vs2 part) (words_of state other part)) ≡ 4
+pub compared_count : (state : Vectors) (f : ℕ → ℕ → Bool) (vs2 : ℕ) (other : OtherOperand) (part : ℕ) → length (zip_with f (words_in state vs2 part) (words_of state other part)) ≡ 4
 unfolding elements
 compared_count state f vs2 (Register v) part = refl
 compared_count state f vs2 (Number n) part = refl

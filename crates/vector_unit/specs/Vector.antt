@@ -19,8 +19,8 @@ use Rattle.rv_insn.specs.declared.vector_instructions.Addressing.{Addressing}
 use Rattle.rv_insn.specs.declared.vector_instructions.Addressing.TheVariants as addressings
 use Rattle.rv_insn.specs.declared.vector_operations.ElementWidth.{ElementWidth}
 use Rattle.rv_insn.specs.declared.vector_operations.ElementWidth.TheVariants as widths
-use Rattle.vector_unit.specs.declared.configuration.Asked.{Asked}
-use Rattle.vector_unit.specs.declared.configuration.Asked.TheVariants.{AtMost, AsManyAsFit, AsBefore}
+use Rattle.vector_unit.specs.declared.configuration.RequestedLength.{RequestedLength}
+use Rattle.vector_unit.specs.declared.configuration.RequestedLength.TheVariants.{AtMost, AsManyAsFit, AsBefore}
 use Rattle.vector_unit.specs.Operations as op
 
 -- ---- The vector state of a hart, and its configuration.
@@ -81,23 +81,23 @@ has_vill state = not (is_supported state.vtype)
 -- ---- configuration
 
 -- by vsetvli and vsetvl: the number in rs1, unless that is x0; then as many as fit, or with rd x0 too as before
-abbrev pub asked_by : ℕ → ℕ → ℕ → Asked
+abbrev pub asked_by : ℕ → ℕ → ℕ → RequestedLength
 asked_by rd rs1 number = if not (rs1 == 0) then AtMost number else (if rd == 0 then AsBefore else AsManyAsFit)
 
 -- vl can be kept only if there is a configuration with the same VLMAX
-abbrev pub is_illegal_configuration : Vectors → ℕ → Asked → Bool
+abbrev pub is_illegal_configuration : Vectors → ℕ → RequestedLength → Bool
 is_illegal_configuration state vtype (AtMost count) = false
 is_illegal_configuration state vtype AsManyAsFit = false
 is_illegal_configuration state vtype AsBefore =
     is_supported vtype && (has_vill state || not (most_elements state.vtype == most_elements vtype))
 
-abbrev pub length_for : Vectors → ℕ → Asked → ℕ
+abbrev pub length_for : Vectors → ℕ → RequestedLength → ℕ
 length_for state vtype (AtMost count) = min count (most_elements vtype)
 length_for state vtype AsManyAsFit = most_elements vtype
 length_for state vtype AsBefore = state.vl
 
 -- a vtype that is not supported sets vill and vl 0
-abbrev pub configured : Vectors → ℕ → Asked → Vectors
+abbrev pub configured : Vectors → ℕ → RequestedLength → Vectors
 configured state vtype asked =
     if is_supported vtype then record state { vl = length_for state vtype asked; vtype = vtype }
     else record state { vl = 0; vtype = vill }
@@ -164,7 +164,7 @@ merged_by_mask state other of_vs2 = merged (mask_bits 0 (count state) (register 
 -- ---- what a configuration asks for
 
 -- the vtype and the elements that are asked for, where x gives the integer registers
-abbrev pub asked_of : VectorInsn → (ℕ → ℕ) → Option (ℕ × Asked)
+abbrev pub asked_of : VectorInsn → (ℕ → ℕ) → Option (ℕ × RequestedLength)
 asked_of (v.Vsetvli rd rs1 vtype) x = Some (vtype, asked_by rd rs1 (x rs1))
 asked_of (v.Vsetivli rd length vtype) x = Some (vtype, AtMost length)
 asked_of (v.Vsetvl rd rs1 rs2) x = Some (x rs2, asked_by rd rs1 (x rs1))
@@ -323,7 +323,7 @@ is_refused insn state =
     has_vill state || overwrites_mask insn || is_other_width state (fixed_width insn) || is_misplaced state (groups_in insn)
     || is_unfit state (moved_in insn)
 
-abbrev pub is_illegal_unless_asked : VectorInsn → Vectors → Option (ℕ × Asked) → Bool
+abbrev pub is_illegal_unless_asked : VectorInsn → Vectors → Option (ℕ × RequestedLength) → Bool
 is_illegal_unless_asked insn state (Some asked) = is_illegal_configuration state asked.0 asked.1
 is_illegal_unless_asked insn state None = is_refused insn state
 

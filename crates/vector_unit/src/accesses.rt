@@ -20,7 +20,7 @@ use rv_insn::{ElementWidth, VReg};
 /// How the elements of an access lie.
 #[derive(Clone, Copy, Debug, PartialEq, Eq)]
 pub enum Spacing {
-    /// One behind the other, at this width.
+    /// One after the other, at this width.
     UnitStride(ElementWidth),
     /// So many bytes apart, modulo 2^32.
     Strided(u32),

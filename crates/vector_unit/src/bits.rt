@@ -11,14 +11,14 @@ ghost use Rattle.vector_unit.specs.inner.Parts.{with_part_bits, with_parts_bits,
 ghost use Rattle.vector_unit.specs.Operations as op;
 
 use crate::comparisons::{compared, joined};
-use crate::operands::{Operand, Pair};
+use crate::operands::{OtherOperand, PairOperands};
 use crate::states::VectorState;
 use lanes::{LaneKind, write_mask_bits};
 use rv_insn::{CompareVxOp, ElementWidth, ReductionOp, VReg};
 
 /// What a reduction joins, and by which operation.
 #[derive(Clone, Copy)]
-struct Reduction {
+struct ElementReduction {
     operation: ReductionOp,
     /// The group whose elements are joined.
     vs2: VReg,
@@ -29,7 +29,7 @@ struct Reduction {
 impl VectorState {
     /// Writes as bits where a comparison holds of the pair. All bits are made before any is written.
     #[tactic(auto, using(crate::proofs::Groups::compared_bits))]
-    pub(crate) fn compare(&mut self, operation: CompareVxOp, pair: Pair)
+    pub(crate) fn compare(&mut self, operation: CompareVxOp, pair: PairOperands)
         requires { has_vill self.old ≡ false }
         ensures { self.new ≡ with_bits self.old pair.vd pair.vm (zip_with (op.compare_vx operation (width self.old))
             (of_group self.old pair.vs2) (operand_elements self.old pair.other)) }
@@ -43,7 +43,7 @@ impl VectorState {
     fn compare_parts(
         &self,
         operation: CompareVxOp,
-        pair: &Pair,
+        pair: &PairOperands,
         part: usize,
         others: usize,
         register: &mut [u8; 16],
@@ -63,7 +63,7 @@ impl VectorState {
     fn compare_part(
         &self,
         operation: CompareVxOp,
-        pair: &Pair,
+        pair: &PairOperands,
         part: usize,
         register: &mut [u8; 16],
     )
@@ -72,8 +72,8 @@ impl VectorState {
         ensures { register.new ≡ with_part_bits self.now operation pair.now.vs2 pair.now.other pair.now.vm part
             register.old }
     {
-        let Pair { vs2, other, vm, .. } = *pair;
-        let vs2 = Operand::Register(vs2);
+        let PairOperands { vs2, other, vm, .. } = *pair;
+        let vs2 = OtherOperand::Register(vs2);
         match self.width() {
             ElementWidth::Bits8 => {
                 let bits = compared(operation, &self.bytes(vs2, part), &self.bytes(other, part));
@@ -109,7 +109,7 @@ impl VectorState {
             (active_in self.old vm) (element (width self.old) (register self.old vs1) 0) (of_group self.old vs2)) }
     {
         let start = self.register(vs1);
-        let reduction = Reduction { operation, vs2, vm };
+        let reduction = ElementReduction { operation, vs2, vm };
         let group = self.group();
         match self.width() {
             ElementWidth::Bits8 => {
@@ -131,7 +131,7 @@ impl VectorState {
     }
 
     /// A start, joined with the active elements of so many registers of a group from one on, at 8 bits.
-    fn join_bytes(&self, reduction: Reduction, start: u8, part: usize, others: usize) -> u8
+    fn join_bytes(&self, reduction: ElementReduction, start: u8, part: usize, others: usize) -> u8
         requires width { width self.now ≡ 8 }
         requires few { part + others ≤ 4 }
         ensures { result ≡ reduced_parts self.now reduction.operation reduction.vs2 reduction.vm part others
@@ -140,14 +140,20 @@ impl VectorState {
         if others == 0 {
             return start;
         }
-        let Reduction { operation, vs2, vm } = reduction;
-        let elements = self.bytes(Operand::Register(vs2), part);
+        let ElementReduction { operation, vs2, vm } = reduction;
+        let elements = self.bytes(OtherOperand::Register(vs2), part);
         let total = joined(operation, start, &elements, &self.active::<16>(vm, part));
         self.join_bytes(reduction, total, part + 1, others - 1)
     }
 
     /// A start, joined with the active elements of so many registers of a group from one on, at 16 bits.
-    fn join_halves(&self, reduction: Reduction, start: u16, part: usize, others: usize) -> u16
+    fn join_halves(
+        &self,
+        reduction: ElementReduction,
+        start: u16,
+        part: usize,
+        others: usize,
+    ) -> u16
         requires width { width self.now ≡ 16 }
         requires few { part + others ≤ 4 }
         ensures { result ≡ reduced_parts self.now reduction.operation reduction.vs2 reduction.vm part others
@@ -156,14 +162,14 @@ impl VectorState {
         if others == 0 {
             return start;
         }
-        let Reduction { operation, vs2, vm } = reduction;
-        let elements = self.halves(Operand::Register(vs2), part);
+        let ElementReduction { operation, vs2, vm } = reduction;
+        let elements = self.halves(OtherOperand::Register(vs2), part);
         let total = joined(operation, start, &elements, &self.active::<8>(vm, part));
         self.join_halves(reduction, total, part + 1, others - 1)
     }
 
     /// A start, joined with the active elements of so many registers of a group from one on, at 32 bits.
-    fn join_words(&self, reduction: Reduction, start: u32, part: usize, others: usize) -> u32
+    fn join_words(&self, reduction: ElementReduction, start: u32, part: usize, others: usize) -> u32
         requires width { width self.now ≡ 32 }
         requires few { part + others ≤ 4 }
         ensures { result ≡ reduced_parts self.now reduction.operation reduction.vs2 reduction.vm part others
@@ -172,8 +178,8 @@ impl VectorState {
         if others == 0 {
             return start;
         }
-        let Reduction { operation, vs2, vm } = reduction;
-        let elements = self.words(Operand::Register(vs2), part);
+        let ElementReduction { operation, vs2, vm } = reduction;
+        let elements = self.words(OtherOperand::Register(vs2), part);
         let total = joined(operation, start, &elements, &self.active::<4>(vm, part));
         self.join_words(reduction, total, part + 1, others - 1)
     }

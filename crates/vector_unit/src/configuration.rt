@@ -11,7 +11,7 @@ use rv_insn::{Reg, Trap};
 
 /// How many elements a configuration asks for.
 #[derive(Clone, Copy, Debug, PartialEq, Eq)]
-pub enum Asked {
+pub enum RequestedLength {
     /// So many, if they fit.
     AtMost(u32),
     /// As many as a group has.
@@ -20,17 +20,17 @@ pub enum Asked {
     AsBefore,
 }
 
-impl Asked {
+impl RequestedLength {
     /// What vsetvli and vsetvl ask for, by their registers and the number in `rs1`.
-    pub fn by(rd: Reg, rs1: Reg, number: u32) -> Asked
+    pub fn by(rd: Reg, rs1: Reg, number: u32) -> RequestedLength
         ensures { result ≡ asked_by rd rs1 number }
     {
         if rs1.number() != 0 {
-            Asked::AtMost(number)
+            RequestedLength::AtMost(number)
         } else if rd.number() == 0 {
-            Asked::AsBefore
+            RequestedLength::AsBefore
         } else {
-            Asked::AsManyAsFit
+            RequestedLength::AsManyAsFit
         }
     }
 }
@@ -39,7 +39,7 @@ impl VectorState {
     /// Configures the unit, and says how many elements it works on now. A vtype that is not supported
     /// leaves no configuration and no elements. Refused, with nothing changed, where the number of
     /// elements is to be as before and can't be.
-    pub fn configure(&mut self, vtype: u32, asked: Asked) -> Result<u32, Trap>
+    pub fn configure(&mut self, vtype: u32, asked: RequestedLength) -> Result<u32, Trap>
         ensures legal { OnOk result (is_illegal_configuration self.old vtype asked ≡ false) }
         ensures done { OnOk result (self.new ≡ configured self.old vtype asked) }
         ensures vl { IfOk result (λ vl. vl ≡ self.new.vl) }
@@ -57,9 +57,9 @@ impl VectorState {
         }
         let most = most_elements(vtype);
         let vl = match asked {
-            Asked::AtMost(count) => count.min(most),
-            Asked::AsManyAsFit => most,
-            Asked::AsBefore => {
+            RequestedLength::AtMost(count) => count.min(most),
+            RequestedLength::AsManyAsFit => most,
+            RequestedLength::AsBefore => {
                 if self.has_vill() || self.count != most {
                     return Err(Trap::IllegalInstruction);
                 }

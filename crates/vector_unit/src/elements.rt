@@ -5,7 +5,7 @@ ghost use Rattle.vector_unit.specs.Vector.{has_vill, with_register};
 ghost use Rattle.vector_unit.specs.Vector.{group, width, with_elements};
 ghost use Rattle.vector_unit.specs.inner.Parts.{new_elements, new_part, merged_register, with_parts, AtWords};
 
-use crate::operands::Operand;
+use crate::operands::OtherOperand;
 use crate::operations::{arithmetic, multiplied};
 use crate::states::VectorState;
 use lanes::{Lanes, mask_bits};
@@ -18,22 +18,22 @@ pub(crate) enum NewElements {
     Arithmetic {
         op: ArithmeticVxOp,
         vs2: VReg,
-        other: Operand,
+        other: OtherOperand,
     },
     /// What a multiplication or division makes of each pair.
     Multiply {
         op: MultiplyOp,
         vs2: VReg,
-        other: Operand,
+        other: OtherOperand,
     },
     /// The other operand where the mask has a 1, and the elements of `vs2` where it has a 0.
     Merge {
         vs2: VReg,
-        other: Operand,
+        other: OtherOperand,
     },
     /// An operand.
     Copy {
-        other: Operand,
+        other: OtherOperand,
     },
     /// Each element's number.
     Numbers,
@@ -55,7 +55,7 @@ impl VectorState {
     }
 
     /// Writes new elements to so many registers of a group, from one on. What a register gets is made before any that
-    /// is behind it is written, so that all is read before anything is written.
+    /// is after it is written, so that all is read before anything is written.
     fn write_parts(&mut self, vd: VReg, vm: bool, new: &NewElements, part: usize, others: usize)
         requires configured { has_vill self.old ≡ false }
         requires bytes { AtWords self.old new.now }
@@ -79,7 +79,7 @@ impl VectorState {
         requires part { part < 4 }
         ensures { self.new ≡ with_register self.old (vd + part) (merged_register self.old vd vm new.now part) }
     {
-        let before = Operand::Register(vd);
+        let before = OtherOperand::Register(vd);
         match self.width() {
             ElementWidth::Bits8 => {
                 let new = self.new_bytes(new, part);
@@ -104,7 +104,7 @@ impl VectorState {
         ensures { self.new ≡ with_register self.old (vd + part) (merged_register self.old vd vm new.now part) }
     {
         let new = self.new_words(new, part);
-        let before = self.words(Operand::Register(vd), part);
+        let before = self.words(OtherOperand::Register(vd), part);
         let register = self.merged(vm, part, &before, &new);
         self.set_part(vd, part, register);
     }
@@ -128,7 +128,7 @@ impl VectorState {
         requires part { part < 4 }
         ensures { result ≡ merged_register self.now vd vm new.now part }
     {
-        let before = Operand::Register(vd);
+        let before = OtherOperand::Register(vd);
         match self.width() {
             ElementWidth::Bits8 => {
                 self.merged(
@@ -168,17 +168,17 @@ impl VectorState {
         match *new {
             NewElements::Arithmetic { op, vs2, other } => arithmetic(
                 op,
-                &self.bytes(Operand::Register(vs2), part),
+                &self.bytes(OtherOperand::Register(vs2), part),
                 &self.bytes(other, part),
             ),
             NewElements::Multiply { op, vs2, other } => multiplied(
                 op,
-                &self.bytes(Operand::Register(vs2), part),
+                &self.bytes(OtherOperand::Register(vs2), part),
                 &self.bytes(other, part),
             ),
             NewElements::Merge { vs2, other } => {
                 let chosen = mask_bits::<16>(part * 16, &self.registers[0]);
-                self.bytes(Operand::Register(vs2), part)
+                self.bytes(OtherOperand::Register(vs2), part)
                     .merge(&self.bytes(other, part), &chosen)
             }
             NewElements::Copy { other } => self.bytes(other, part),
@@ -198,17 +198,17 @@ impl VectorState {
         match *new {
             NewElements::Arithmetic { op, vs2, other } => arithmetic(
                 op,
-                &self.halves(Operand::Register(vs2), part),
+                &self.halves(OtherOperand::Register(vs2), part),
                 &self.halves(other, part),
             ),
             NewElements::Multiply { op, vs2, other } => multiplied(
                 op,
-                &self.halves(Operand::Register(vs2), part),
+                &self.halves(OtherOperand::Register(vs2), part),
                 &self.halves(other, part),
             ),
             NewElements::Merge { vs2, other } => {
                 let chosen = mask_bits::<8>(part * 8, &self.registers[0]);
-                self.halves(Operand::Register(vs2), part)
+                self.halves(OtherOperand::Register(vs2), part)
                     .merge(&self.halves(other, part), &chosen)
             }
             NewElements::Copy { other } => self.halves(other, part),
@@ -228,17 +228,17 @@ impl VectorState {
         match *new {
             NewElements::Arithmetic { op, vs2, other } => arithmetic(
                 op,
-                &self.words(Operand::Register(vs2), part),
+                &self.words(OtherOperand::Register(vs2), part),
                 &self.words(other, part),
             ),
             NewElements::Multiply { op, vs2, other } => multiplied(
                 op,
-                &self.words(Operand::Register(vs2), part),
+                &self.words(OtherOperand::Register(vs2), part),
                 &self.words(other, part),
             ),
             NewElements::Merge { vs2, other } => {
                 let chosen = mask_bits::<4>(part * 4, &self.registers[0]);
-                self.words(Operand::Register(vs2), part)
+                self.words(OtherOperand::Register(vs2), part)
                     .merge(&self.words(other, part), &chosen)
             }
             NewElements::Copy { other } => self.words(other, part),

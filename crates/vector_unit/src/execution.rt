@@ -11,7 +11,7 @@ ghost use Rattle.lanes.specs.Words.{zip_with};
 ghost use Rattle.vector_unit.specs.Operands.{operand_elements, pair_of};
 
 use crate::elements::NewElements;
-use crate::operands::{Operand, Pair};
+use crate::operands::{OtherOperand, PairOperands};
 use crate::states::VectorState;
 use crate::{comparisons, operations};
 use rv_insn::{Addressing, ArithmeticVxOp, ElementWidth, MultiplyOp, Trap, VReg, VectorInsn};
@@ -32,7 +32,7 @@ impl VectorState {
         if self.refuses(insn) {
             return Err(Trap::IllegalInstruction);
         }
-        match Pair::of(insn, scalar) {
+        match PairOperands::of(insn, scalar) {
             Some(pair) => {
                 self.execute_on_pairs(insn, pair);
                 Ok(None)
@@ -135,7 +135,7 @@ impl VectorState {
     }
 
     /// Executes an instruction with these operands.
-    fn execute_on_pairs(&mut self, insn: &VectorInsn, pair: Pair)
+    fn execute_on_pairs(&mut self, insn: &VectorInsn, pair: PairOperands)
         requires { has_vill self.old ≡ false }
         ensures { (number : ℕ) → pair_of insn.now number ≡ Some pair
             → self.new ≡ vector_after insn.now (λ r. number) self.old }
@@ -164,13 +164,13 @@ impl VectorState {
     }
 
     /// Writes what an operation makes of each pair.
-    fn compute(&mut self, operation: ArithmeticVxOp, pair: Pair)
+    fn compute(&mut self, operation: ArithmeticVxOp, pair: PairOperands)
         requires { has_vill self.old ≡ false }
         ensures { self.new ≡ with_elements self.old pair.vd pair.vm
             (zip_with (op.arithmetic_vx operation (width self.old)) (of_group self.old pair.vs2)
             (operand_elements self.old pair.other)) }
     {
-        let Pair { vd, vs2, other, vm } = pair;
+        let PairOperands { vd, vs2, other, vm } = pair;
         let new = NewElements::Arithmetic {
             op: operation,
             vs2,
@@ -180,12 +180,12 @@ impl VectorState {
     }
 
     /// Writes what a multiplication or division makes of each pair.
-    fn multiply(&mut self, operation: MultiplyOp, pair: Pair)
+    fn multiply(&mut self, operation: MultiplyOp, pair: PairOperands)
         requires { has_vill self.old ≡ false }
         ensures { self.new ≡ with_elements self.old pair.vd pair.vm (zip_with (op.multiply operation (width self.old))
             (of_group self.old pair.vs2) (operand_elements self.old pair.other)) }
     {
-        let Pair { vd, vs2, other, vm } = pair;
+        let PairOperands { vd, vs2, other, vm } = pair;
         let new = NewElements::Multiply {
             op: operation,
             vs2,
@@ -195,7 +195,7 @@ impl VectorState {
     }
 
     /// Writes the other operand where the mask has a 1, and the elements of `vs2` where it has a 0.
-    fn merge(&mut self, vd: VReg, vs2: VReg, other: Operand)
+    fn merge(&mut self, vd: VReg, vs2: VReg, other: OtherOperand)
         requires { has_vill self.old ≡ false }
         ensures { self.new ≡ with_elements self.old vd true (merged_by_mask self.old (operand_elements self.old other)
             (of_group self.old vs2)) }
@@ -204,7 +204,7 @@ impl VectorState {
     }
 
     /// Writes an operand.
-    fn copy(&mut self, vd: VReg, other: Operand)
+    fn copy(&mut self, vd: VReg, other: OtherOperand)
         requires { has_vill self.old ≡ false }
         ensures { self.new ≡ with_elements self.old vd true (operand_elements self.old other) }
     {
@@ -231,12 +231,24 @@ impl VectorState {
                 vs1,
                 vm,
             } => self.reduce(op, vd, vs2, vs1, vm),
-            VectorInsn::MergeVv { vd, vs2, vs1 } => self.merge(vd, vs2, Operand::Register(vs1)),
-            VectorInsn::MergeVx { vd, vs2, .. } => self.merge(vd, vs2, Operand::Number(scalar)),
-            VectorInsn::MergeVi { vd, vs2, imm } => self.merge(vd, vs2, Operand::Immediate(imm)),
-            VectorInsn::MoveVv { vd, vs1 } => self.copy(vd, Operand::Register(vs1)),
-            VectorInsn::MoveVx { vd, .. } => self.copy(vd, Operand::Number(scalar)),
-            VectorInsn::MoveVi { vd, imm } => self.copy(vd, Operand::Immediate(imm)),
+            VectorInsn::MergeVv { vd, vs2, vs1 } => self.merge(
+                vd,
+                vs2,
+                OtherOperand::Register(vs1),
+            ),
+            VectorInsn::MergeVx { vd, vs2, .. } => self.merge(
+                vd,
+                vs2,
+                OtherOperand::Number(scalar),
+            ),
+            VectorInsn::MergeVi { vd, vs2, imm } => self.merge(
+                vd,
+                vs2,
+                OtherOperand::Immediate(imm),
+            ),
+            VectorInsn::MoveVv { vd, vs1 } => self.copy(vd, OtherOperand::Register(vs1)),
+            VectorInsn::MoveVx { vd, .. } => self.copy(vd, OtherOperand::Number(scalar)),
+            VectorInsn::MoveVi { vd, imm } => self.copy(vd, OtherOperand::Immediate(imm)),
             VectorInsn::MoveToScalar { vs2, .. } => return Ok(Some(self.scalar(vs2))),
             VectorInsn::MoveFromScalar { vd, .. } => self.put_scalar(vd, scalar),
             VectorInsn::ElementNumbers { vd, vm } => {

@@ -30,6 +30,6 @@ mod wholes;
 mod word_comparisons;
 
 pub use crate::accesses::Spacing;
-pub use crate::configuration::Asked;
+pub use crate::configuration::RequestedLength;
 pub use crate::numbers::Numbers;
 pub use crate::states::{VILL, VectorState};

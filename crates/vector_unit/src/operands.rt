@@ -16,7 +16,7 @@ use rv_insn::{Imm5, ShiftAmount, VReg, VectorInsn};
 
 /// The other operand of an instruction.
 #[derive(Clone, Copy)]
-pub(crate) enum Operand {
+pub(crate) enum OtherOperand {
     /// The elements of a register.
     Register(VReg),
     /// The low bits of a number, in each element.
@@ -29,33 +29,33 @@ pub(crate) enum Operand {
 
 /// The operands of an instruction that works on pairs of elements, and where it writes.
 #[derive(Clone, Copy)]
-pub(crate) struct Pair {
+pub(crate) struct PairOperands {
     /// The register that is written.
     pub vd: VReg,
     /// The register of the first elements.
     pub vs2: VReg,
     /// The second elements.
-    pub other: Operand,
+    pub other: OtherOperand,
     /// Whether all elements below the length are active, whatever the mask.
     pub vm: bool,
 }
 
-impl Pair {
+impl PairOperands {
     /// The operands of an instruction, if it works on pairs of elements; `scalar` is the number in `rs1`.
-    pub fn of(insn: &VectorInsn, scalar: u32) -> Option<Pair>
+    pub fn of(insn: &VectorInsn, scalar: u32) -> Option<PairOperands>
         ensures { result ≡ pair_of insn.now scalar }
     {
         let other = match *insn {
             VectorInsn::ArithmeticVv { vs1, .. }
             | VectorInsn::CompareVv { vs1, .. }
-            | VectorInsn::MultiplyVv { vs1, .. } => Operand::Register(vs1),
+            | VectorInsn::MultiplyVv { vs1, .. } => OtherOperand::Register(vs1),
             VectorInsn::ArithmeticVx { .. }
             | VectorInsn::CompareVx { .. }
-            | VectorInsn::MultiplyVx { .. } => Operand::Number(scalar),
+            | VectorInsn::MultiplyVx { .. } => OtherOperand::Number(scalar),
             VectorInsn::ArithmeticVi { imm, .. } | VectorInsn::CompareVi { imm, .. } => {
-                Operand::Immediate(imm)
+                OtherOperand::Immediate(imm)
             }
-            VectorInsn::ShiftVi { amount, .. } => Operand::Amount(amount),
+            VectorInsn::ShiftVi { amount, .. } => OtherOperand::Amount(amount),
             _ => return None,
         };
         match *insn {
@@ -67,7 +67,12 @@ impl Pair {
             | VectorInsn::CompareVx { vd, vs2, vm, .. }
             | VectorInsn::CompareVi { vd, vs2, vm, .. }
             | VectorInsn::MultiplyVv { vd, vs2, vm, .. }
-            | VectorInsn::MultiplyVx { vd, vs2, vm, .. } => Some(Pair { vd, vs2, other, vm }),
+            | VectorInsn::MultiplyVx { vd, vs2, vm, .. } => Some(PairOperands {
+                vd,
+                vs2,
+                other,
+                vm,
+            }),
             _ => None,
         }
     }
@@ -91,44 +96,44 @@ pub(crate) fn word_of_amount(amount: ShiftAmount) -> u32
 
 impl VectorState {
     /// A part of an operand, as elements of 8 bits.
-    pub(crate) fn bytes(&self, operand: Operand, part: usize) -> Lanes<u8, 16>
+    pub(crate) fn bytes(&self, operand: OtherOperand, part: usize) -> Lanes<u8, 16>
         requires width { width self.now ≡ 8 }
         requires part { part < 4 }
         ensures { result ≡ operand_part self.now operand part }
     {
         match operand {
-            Operand::Register(v) => Lanes::<u8, 16>::from_register(&self.part(v, part)),
-            Operand::Number(number) => Lanes::<u8, 16>::splat(u8::from_u32(number)),
-            Operand::Immediate(imm) => Lanes::<u8, 16>::splat(u8::from_u32(word_of(imm))),
-            Operand::Amount(amount) => Lanes::<u8, 16>::splat(amount.value()),
+            OtherOperand::Register(v) => Lanes::<u8, 16>::from_register(&self.part(v, part)),
+            OtherOperand::Number(number) => Lanes::<u8, 16>::splat(u8::from_u32(number)),
+            OtherOperand::Immediate(imm) => Lanes::<u8, 16>::splat(u8::from_u32(word_of(imm))),
+            OtherOperand::Amount(amount) => Lanes::<u8, 16>::splat(amount.value()),
         }
     }
 
     /// A part of an operand, as elements of 16 bits.
-    pub(crate) fn halves(&self, operand: Operand, part: usize) -> Lanes<u16, 8>
+    pub(crate) fn halves(&self, operand: OtherOperand, part: usize) -> Lanes<u16, 8>
         requires width { width self.now ≡ 16 }
         requires part { part < 4 }
         ensures { result ≡ operand_part self.now operand part }
     {
         match operand {
-            Operand::Register(v) => Lanes::<u16, 8>::from_register(&self.part(v, part)),
-            Operand::Number(number) => Lanes::<u16, 8>::splat(u16::from_u32(number)),
-            Operand::Immediate(imm) => Lanes::<u16, 8>::splat(u16::from_u32(word_of(imm))),
-            Operand::Amount(amount) => Lanes::<u16, 8>::splat(u16::from(amount.value())),
+            OtherOperand::Register(v) => Lanes::<u16, 8>::from_register(&self.part(v, part)),
+            OtherOperand::Number(number) => Lanes::<u16, 8>::splat(u16::from_u32(number)),
+            OtherOperand::Immediate(imm) => Lanes::<u16, 8>::splat(u16::from_u32(word_of(imm))),
+            OtherOperand::Amount(amount) => Lanes::<u16, 8>::splat(u16::from(amount.value())),
         }
     }
 
     /// A part of an operand, as elements of 32 bits.
-    pub(crate) fn words(&self, operand: Operand, part: usize) -> Lanes<u32, 4>
+    pub(crate) fn words(&self, operand: OtherOperand, part: usize) -> Lanes<u32, 4>
         requires width { width self.now ≡ 32 }
         requires part { part < 4 }
         ensures { result ≡ operand_part self.now operand part }
     {
         match operand {
-            Operand::Register(v) => Lanes::<u32, 4>::from_register(&self.part(v, part)),
-            Operand::Number(number) => Lanes::<u32, 4>::splat(u32::from_u32(number)),
-            Operand::Immediate(imm) => Lanes::<u32, 4>::splat(u32::from_u32(word_of(imm))),
-            Operand::Amount(amount) => Lanes::<u32, 4>::splat(u32::from(amount.value())),
+            OtherOperand::Register(v) => Lanes::<u32, 4>::from_register(&self.part(v, part)),
+            OtherOperand::Number(number) => Lanes::<u32, 4>::splat(u32::from_u32(number)),
+            OtherOperand::Immediate(imm) => Lanes::<u32, 4>::splat(u32::from_u32(word_of(imm))),
+            OtherOperand::Amount(amount) => Lanes::<u32, 4>::splat(u32::from(amount.value())),
         }
     }
 

@@ -4,8 +4,8 @@
 ghost use Rattle.std.specs.Prelude.{◌≡◌, ◌<◌, ◌%◌, ℕ};
 ghost use Rattle.lanes.specs.Words as word;
 ghost use Rattle.lanes.specs.Words.{zip_with};
-ghost use Rattle.vector_unit.specs.declared.operands.Operand.{Operand};
-ghost use Rattle.vector_unit.specs.declared.operands.Operand.TheVariants.{Register, Number, Immediate};
+ghost use Rattle.vector_unit.specs.declared.operands.OtherOperand.{OtherOperand};
+ghost use Rattle.vector_unit.specs.declared.operands.OtherOperand.TheVariants.{Register, Number, Immediate};
 ghost use Rattle.vector_unit.specs.Vector.{group};
 ghost use Rattle.vector_unit.specs.inner.Wholes.{IsWhole, words_of};
 
@@ -17,7 +17,7 @@ use rv_insn::{Imm5, VReg};
 /// An operand of words beside `vs2`: a group, or a number in each word.
 pub(crate) trait WordOperand: Copy {
     /// The operand that it is.
-    ghost operand: { Self → Operand };
+    ghost operand: { Self → OtherOperand };
 
     /// Whether it begins where groups of so many registers do.
     ghost IsPlaced: { Self → ℕ → Type 0 };
@@ -262,9 +262,9 @@ impl PairOperation for RemainderSigned {
 }
 
 /// The low halves of products.
-pub(crate) struct Product;
+pub(crate) struct LowProduct;
 
-impl PairOperation for Product {
+impl PairOperation for LowProduct {
     ghost operation = { word.multiply };
 
     fn of(first: &Lanes<u32, 4>, other: &Lanes<u32, 4>) -> Lanes<u32, 4> {

@@ -10,7 +10,7 @@ ghost use Rattle.vector_unit.specs.Operations as op;
 
 use crate::elements::NewElements;
 use crate::execution::overwrites_mask;
-use crate::operands::Operand;
+use crate::operands::OtherOperand;
 use crate::operations;
 use crate::states::VectorState;
 use rv_insn::{ArithmeticVvOp, VReg, VectorInsn};
@@ -66,7 +66,7 @@ impl VectorState {
         let new = NewElements::Arithmetic {
             op: operations::of_two_registers(operation),
             vs2,
-            other: Operand::Register(vs1),
+            other: OtherOperand::Register(vs1),
         };
         self.write_single(vd, vm, new);
     }

@@ -15,7 +15,7 @@ use crate::operations::{shift, with_immediate};
 use crate::pair_operations::{
     Addition, ArithmeticShift, Conjunction, Difference, Disjunction, GreatestSigned,
     GreatestUnsigned, HighProductMixed, HighProductSigned, HighProductUnsigned, LeastSigned,
-    LeastUnsigned, LeftShift, LogicalShift, PairOperation, Product, QuotientSigned,
+    LeastUnsigned, LeftShift, LogicalShift, LowProduct, PairOperation, QuotientSigned,
     QuotientUnsigned, RemainderSigned, RemainderUnsigned, ReverseSubtraction, Subtraction,
     WordOperand,
 };
@@ -231,7 +231,7 @@ impl VectorState {
             MultiplyOp::Vremu => self.compute_pairs::<RemainderUnsigned, T>(vd, vs2, other),
             MultiplyOp::Vrem => self.compute_pairs::<RemainderSigned, T>(vd, vs2, other),
             MultiplyOp::Vmulhu => self.compute_pairs::<HighProductUnsigned, T>(vd, vs2, other),
-            MultiplyOp::Vmul => self.compute_pairs::<Product, T>(vd, vs2, other),
+            MultiplyOp::Vmul => self.compute_pairs::<LowProduct, T>(vd, vs2, other),
             MultiplyOp::Vmulhsu => self.compute_pairs::<HighProductMixed, T>(vd, vs2, other),
             MultiplyOp::Vmulh => self.compute_pairs::<HighProductSigned, T>(vd, vs2, other),
         }

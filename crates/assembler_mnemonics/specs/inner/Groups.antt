@@ -1,19 +1,19 @@
 -- Groups of forms whose instructions are made, and read, alike. This project's own.
 use Rattle.std.specs.Prelude.{⊤}
-use Rattle.assembler_mnemonics.specs.declared.forms.Form.{Form}
-use Rattle.assembler_mnemonics.specs.declared.forms.Form.TheVariants as f
+use Rattle.assembler_mnemonics.specs.declared.forms.MnemonicForm.{MnemonicForm}
+use Rattle.assembler_mnemonics.specs.declared.forms.MnemonicForm.TheVariants as f
 use Rattle.assembler_mnemonics.specs.declared.forms.VectorForm.{VectorForm}
 use Rattle.assembler_mnemonics.specs.declared.forms.VectorForm.TheVariants as v
 
 -- an operation on integer registers
-abbrev pub IsOperation : Form → Type 0
+abbrev pub IsOperation : MnemonicForm → Type 0
 IsOperation (f.AluImm op) = ⊤
 IsOperation (f.Shift op) = ⊤
 IsOperation (f.Alu op) = ⊤
 IsOperation form = ⊥
 
 -- a load or store of an integer register, or both
-abbrev pub IsAccess : Form → Type 0
+abbrev pub IsAccess : MnemonicForm → Type 0
 IsAccess (f.Load op) = ⊤
 IsAccess (f.Store op) = ⊤
 IsAccess (f.AmoaddW aq rl) = ⊤

@@ -5,13 +5,13 @@ use Rattle.memory.specs.Access.{most_words}
 use Rattle.rv_insn.specs.declared.instructions.Insn.{Insn}
 use Rattle.hart_core.specs.HartState.{HartState}
 use Rattle.multi_hart.specs.Run.{State}
-use Rattle.debugger_stores.specs.Stored.{store_in}
-use Rattle.debugger.specs.declared.kept.Kept.{Kept}
+use Rattle.debugger_writes.specs.Stored.{store_in}
+use Rattle.debugger.specs.declared.kept.KeptPlaces.{KeptPlaces}
 use Rattle.debugger.specs.Places.{SessionState, state_at, state_here}
 use Rattle.debugger.specs.Marks.{marks, most_marks}
-use Rattle.debugger.specs.inner.Kept.{KeptFits}
+use Rattle.debugger.specs.inner.KeptPlaces.{KeptFits}
 
-pub record Held (session : SessionState) (machine : State) (first : List HartState) (stores : List (Option Insn)) (places : Kept) : Type 0 where
+pub record Held (session : SessionState) (machine : State) (first : List HartState) (stores : List (Option Insn)) (places : KeptPlaces) : Type 0 where
   pub state : machine ≡ state_here session
   pub harts : length machine.harts ≡ session.log.harts
   pub within : session.place ≤ length session.log.turns

@@ -19,13 +19,13 @@ pub record IsPassed (session : SessionState) (place : ℕ) (passed : Passed) : T
   pub between : (k : ℕ) → place < k → k < place + passed.turns → stops session k ≡ passed.between
   pub behind : stops session (place + passed.turns) ≡ passed.behind
 
--- the greatest stop behind one place up to another, if there is one
+-- the greatest stop after one place up to another, if there is one
 abbrev pub Latest : SessionState → ℕ → ℕ → Option ℕ → Type 0
 Latest session from place None = (k : ℕ) → from < k → k ≤ place → stops session k ≡ false
 Latest session from place (Some stop) =
     (stop ≤ place) × (stops session stop ≡ true) × ((k : ℕ) → stop < k → k ≤ place → stops session k ≡ false)
 
--- the least stop behind one place up to another, if there is one
+-- the least stop after one place up to another, if there is one
 abbrev pub First : SessionState → ℕ → ℕ → Option ℕ → Type 0
 First session from place None = (k : ℕ) → from < k → k ≤ place → stops session k ≡ false
 First session from place (Some stop) =

@@ -5,11 +5,11 @@ use Rattle.halide_pipeline.specs.declared.definitions.Func.{Func}
 use Rattle.halide_parser_syntax.specs.declared.tokens.Token.{Token}
 use Rattle.halide_parser_syntax.specs.declared.tokens.Token.TheVariants as t
 use Rattle.halide_parser_syntax.specs.declared.tokens.SumOperator.TheVariants.{Subtract}
-use Rattle.halide_parser.specs.declared.readers.Reader.{Reader}
-use Rattle.halide_parser.specs.declared.scopes.Scope.{Scope}
+use Rattle.halide_parser.specs.declared.readers.AlgorithmReader.{AlgorithmReader}
+use Rattle.halide_parser.specs.declared.scopes.NameScope.{NameScope}
 use Rattle.halide_parser.specs.Expressions.{func, func_place, empty}
 
--- behind the first `over`
+-- after the first `over`
 abbrev pub behind_over : List Token → List Token
 behind_over [] = []
 behind_over (t.Over ∷ rest) = rest
@@ -23,7 +23,7 @@ abbrev pub second_argument : List Token → Option (List ℕ)
 second_argument (t.Comma ∷ rest) = first_name rest
 second_argument _ = None
 
--- of a second reduction variable, behind the numbers of the first
+-- of a second reduction variable, after the numbers of the first
 abbrev pub name_behind : List Token → Option (List ℕ)
 name_behind (t.Number minimum ∷ t.Number extent ∷ t.Comma ∷ rest) = first_name rest
 name_behind _ = None
@@ -32,8 +32,8 @@ abbrev pub second_name : List Token → Option (List ℕ)
 second_name (t.Sum Subtract ∷ rest) = name_behind rest
 second_name tokens = name_behind tokens
 
--- behind `func name (`
-abbrev pub definition_scope : List Token → Scope
+-- after `func name (`
+abbrev pub definition_scope : List Token → NameScope
 definition_scope (t.Name first ∷ rest) = record {
   first_argument = Some first;
   second_argument = second_argument rest;
@@ -44,7 +44,7 @@ definition_scope (t.Name first ∷ rest) = record {
 }
 definition_scope _ = empty
 
-abbrev pub arguments_of : Option Func → Option ℕ → Scope
+abbrev pub arguments_of : Option Func → Option ℕ → NameScope
 arguments_of None own = record { first_argument = None; second_argument = None; first_reduction = None; second_reduction = None; own = own }
 arguments_of (Some f) own = record {
   first_argument = Some f.first_argument;
@@ -55,8 +55,8 @@ arguments_of (Some f) own = record {
   own = own;
 }
 
--- with the reduction variables that stand behind `over`
-abbrev pub with_ranges : Scope → List Token → Scope
+-- with the reduction variables that stand after `over`
+abbrev pub with_ranges : NameScope → List Token → NameScope
 with_ranges scope (t.Name first ∷ rest) = record {
   first_argument = scope.first_argument;
   second_argument = scope.second_argument;
@@ -67,11 +67,11 @@ with_ranges scope (t.Name first ∷ rest) = record {
 }
 with_ranges scope _ = scope
 
-abbrev pub update_scope : Reader → List ℕ → List Token → Scope
+abbrev pub update_scope : AlgorithmReader → List ℕ → List Token → NameScope
 update_scope reader name ranges = with_ranges (arguments_of (func reader name) (func_place reader name)) ranges
 
 -- the variables of the line that tokens spell, if they spell one
-abbrev pub scope_ahead : Reader → List Token → Scope
+abbrev pub scope_ahead : AlgorithmReader → List Token → NameScope
 scope_ahead reader (t.Func ∷ t.Name name ∷ t.Open ∷ rest) = definition_scope rest
 scope_ahead reader (t.Update ∷ t.Name name ∷ t.Open ∷ rest) = update_scope reader name (behind_over rest)
 scope_ahead reader _ = empty

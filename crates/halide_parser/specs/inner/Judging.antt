@@ -11,8 +11,8 @@ use Rattle.halide_pipeline.specs.declared.expressions.Expr.TheVariants as e
 use Rattle.halide_pipeline.specs.WellFormed.{is_alone, fits}
 use Rattle.halide_parser.specs.declared.judging.Marks.{Marks}
 use Rattle.halide_parser.specs.declared.judging.Judged.{Judged}
-use Rattle.halide_parser.specs.declared.readers.Reader.{Reader}
-use Rattle.halide_parser.specs.declared.scopes.Scope.{Scope}
+use Rattle.halide_parser.specs.declared.readers.AlgorithmReader.{AlgorithmReader}
+use Rattle.halide_parser.specs.declared.scopes.NameScope.{NameScope}
 use Rattle.halide_pipeline.specs.declared.expressions.Source.{Source}
 use Rattle.halide_parser_syntax.specs.declared.tokens.ProductOperator.{ProductOperator}
 use Rattle.halide_parser_syntax.specs.declared.tokens.ProductOperator.TheVariants as products
@@ -78,7 +78,7 @@ binary operation a b =
 abbrev pub kept : Bool → Option Expr → Option Expr
 kept is_wanted tree = if is_wanted then tree else None
 
--- in one more bracket, or behind one more sign
+-- in one more bracket, or after one more sign
 unfoldable pub enclosed : Judged → Judged
 enclosed a =
     let nesting = deeper a.nesting in
@@ -114,7 +114,7 @@ bare_as found is_source = record {
   tree = option_map (λ v. e.Variable v) found;
 }
 
-abbrev pub bare : Reader → Scope → List ℕ → Judged
+abbrev pub bare : AlgorithmReader → NameScope → List ℕ → Judged
 bare reader scope name = bare_as (variable scope name) (is_some (source reader name))
 
 abbrev pub group : Judged → Judged
@@ -175,7 +175,7 @@ abbrev pub call_two_tree : Bool → Option (Source × ℕ) → Option Expr → O
 call_two_tree is_wanted (Some callee) (Some a) (Some b) = if is_wanted then Some (e.Call2 callee.0 a b) else None
 call_two_tree is_wanted _ _ _ = None
 
-abbrev pub call_as : Scope → Option (Source × ℕ) → Judged → Judged
+abbrev pub call_as : NameScope → Option (Source × ℕ) → Judged → Judged
 call_as scope callee a =
     let nodes = node_sum 1 a.nodes in
     let nesting = deeper a.nesting in
@@ -188,10 +188,10 @@ call_as scope callee a =
       tree = call_tree (fits nodes nesting) callee a.tree;
     }
 
-unfoldable pub call : Reader → Scope → List ℕ → Judged → Judged
+unfoldable pub call : AlgorithmReader → NameScope → List ℕ → Judged → Judged
 call reader scope name a = call_as scope (source reader name) a
 
-abbrev pub call_two_as : Scope → Option (Source × ℕ) → Judged → Judged → Judged
+abbrev pub call_two_as : NameScope → Option (Source × ℕ) → Judged → Judged → Judged
 call_two_as scope callee a b =
     let nodes = node_sum 1 (node_sum a.nodes b.nodes) in
     let nesting = deeper (max a.nesting b.nesting) in
@@ -205,7 +205,7 @@ call_two_as scope callee a b =
       tree = call_two_tree (fits nodes nesting) callee a.tree b.tree;
     }
 
-unfoldable pub call_two : Reader → Scope → List ℕ → Judged → Judged → Judged
+unfoldable pub call_two : AlgorithmReader → NameScope → List ℕ → Judged → Judged → Judged
 call_two reader scope name a b = call_two_as scope (source reader name) a b
 
 abbrev pub two : TwoFunction → Judged → Judged → Judged
@@ -285,8 +285,8 @@ sum operator a b = binary (sum_operation operator) a b
 abbrev pub comparison : CompareOperator → Judged → Judged → Judged
 comparison operator a b = binary (comparison_operation operator) a b
 
--- what is known of an expression, in a scope behind some lines
-abbrev pub judging : Reader → Scope → Algebra Judged
+-- what is known of an expression, in a scope after some lines
+abbrev pub judging : AlgorithmReader → NameScope → Algebra Judged
 judging reader scope = record {
   literal = literal;
   bare = bare reader scope;

@@ -6,8 +6,8 @@ use Rattle.halide_parser_syntax.specs.declared.tokens.SumOperator.{SumOperator}
 use Rattle.halide_parser_syntax.specs.declared.tokens.CompareOperator.{CompareOperator}
 use Rattle.halide_parser_syntax.specs.declared.tokens.TwoFunction.{TwoFunction}
 use Rattle.halide_parser_syntax.specs.declared.tokens.ThreeFunction.{ThreeFunction}
-use Rattle.halide_parser_syntax.specs.declared.lines.Line.{Line}
-use Rattle.halide_parser_syntax.specs.declared.lines.Line.TheVariants as line
+use Rattle.halide_parser_syntax.specs.declared.lines.AlgorithmLine.{AlgorithmLine}
+use Rattle.halide_parser_syntax.specs.declared.lines.AlgorithmLine.TheVariants as line
 use Rattle.halide_parser_syntax.specs.Grammar.{Written, Literal, Bare, Group, Minus, Call, CallTwo, Two, Three, Product, Sum, Comparison}
 
 -- what is made of each way to write an expression
@@ -59,7 +59,7 @@ made_index alg None = None
 made_index alg (Some w) = Some (made alg w)
 
 -- the line with what an algebra makes of its expressions
-abbrev pub made_line : {V : Type 0} → Algebra V → Line Written → Line V
+abbrev pub made_line : {V : Type 0} → Algebra V → AlgorithmLine Written → AlgorithmLine V
 made_line alg line.Blank = line.Blank
 made_line alg (line.Input e is_bytes) = line.Input e is_bytes
 made_line alg (line.Func d) = line.Func (record {

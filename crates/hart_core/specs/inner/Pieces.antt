@@ -1,4 +1,4 @@
--- Accesses to all elements of a group that lie one behind the other in data: the words of private functions, which a reader need
+-- Accesses to all elements of a group that lie one after the other in data: the words of private functions, which a reader need
 -- not believe.
 use Rattle.std.specs.Prelude.{◌≡◌, ◌<◌, ◌≤◌, ℕ, zero, suc, ◌+◌, ◌*◌, ◌%◌, ◌^◌, Bool, true, false, IsTrue, List, [], ◌∷◌, map, replicate, take, length, None}
 use Rattle.std.specs.List.{range_with_len}
@@ -20,7 +20,7 @@ use Rattle.hart_core.specs.declared.vectors.VectorAccess.{VectorAccess}
 abbrev pub accesses_of : HartState → VectorAccess → List Access
 accesses_of hart access = accesses_at access.group.width (addresses_by (vectors_of hart) access.spacing access.vm (register hart access.rs1))
 
--- so many addresses, of elements of a width one behind the other
+-- so many addresses, of elements of a width one after the other
 abbrev pub addresses_from : ElementWidth → ℕ → ℕ → List ℕ
 addresses_from w address zero = []
 addresses_from w address (suc others) = address ∷ addresses_from w (address + bytes_in (size_of w)) others
@@ -31,7 +31,7 @@ pub record LiesInData (bytes : ℕ) (w : ElementWidth) (address others : ℕ) : 
   pub inside : IsTrue (in_data bytes address (others * bytes_in (size_of w)))
   pub below : address + others * bytes_in (size_of w) < 2 ^ 32
 
--- an access to all elements, one behind the other, that lies so
+-- an access to all elements, one after the other, that lies so
 pub record IsPiece (bytes : ℕ) (state : Vectors) (w : ElementWidth) (spacing : Spacing) (vm : Bool) (base : ℕ) : Type 0 where
   pub spacing_is : spacing ≡ UnitStride w
   pub full : active_in state vm ≡ replicate (count state) true
@@ -47,7 +47,7 @@ pub record IsRun (bytes : ℕ) (state : Vectors) (v base : ℕ) : Type 0 where
   pub placed : v % group state ≡ 0
   pub lies : LiesInData bytes widths.Bits32 base (count state)
 
--- so many words from an element and an address on, loaded one behind the other
+-- so many words from an element and an address on, loaded one after the other
 abbrev pub words_filled : (Access → ℕ) → ℕ → Vectors → ℕ → ℕ → ℕ → Vectors
 words_filled f v state i address n =
     filled_from i state 32 v (replicate n true) (map f (accesses_at widths.Bits32 (addresses_from widths.Bits32 address n)))

@@ -5,7 +5,7 @@ use Rattle.std.specs.Str.{IsUtf8}
 use Rattle.line_text.specs.Lines.{continues_name, is_blank}
 use Rattle.hrv_engines.specs.declared.texts.Extent.{Extent}
 use Rattle.hrv_engines.specs.declared.texts.Extent.TheVariants.{All, Bytes, FirstLine}
-use Rattle.hrv_engines.specs.declared.texts.Kept.{Kept}
+use Rattle.hrv_engines.specs.declared.texts.KeptFront.{KeptFront}
 use Rattle.hrv_engines.specs.declared.texts.Reading.{Reading}
 use Rattle.hrv_engines.specs.Devices.{BeginsNoText, GaveEach, GaveNoText, GaveText, NamesFailed, NoneFailed, Sources, most_picture_bytes}
 
@@ -39,12 +39,12 @@ Decides (FirstLine most) text = (most < length text) × IsLineTold text
 abbrev pub KeepsOf : Extent → List ℕ → List ℕ → Type 0
 KeepsOf extent kept text = (kept ≡ text) ⊎ (Decides extent kept × ((rest : List ℕ) × (kept ++ rest ≡ text)))
 
-abbrev pub KeepsIf : Bool → Kept → List ℕ → Type 0
+abbrev pub KeepsIf : Bool → KeptFront → List ℕ → Type 0
 KeepsIf false kept text = kept.bytes.items ≡ text
 KeepsIf true kept text = Decides kept.extent kept.bytes.items × ((rest : List ℕ) × (kept.bytes.items ++ rest ≡ text))
 
 -- the front of this text is kept
-pub record Keeps (kept : Kept) (text : List ℕ) : Type 0 where
+pub record Keeps (kept : KeptFront) (text : List ℕ) : Type 0 where
   pub keeps : KeepsIf kept.is_enough kept text
   pub is_text : IsUtf8 kept.bytes.items
   pub told : kept.is_line_told ≡ true → IsLineTold kept.bytes.items

@@ -10,12 +10,12 @@ use Rattle.halide_pipeline.specs.Expressions.{nodes}
 use Rattle.halide_pipeline.specs.Words as word
 use Rattle.picture.specs.declared.scenes.Scene.{Scene}
 use Rattle.picture.specs.declared.memos.Memo.{Memo}
-use Rattle.picture.specs.declared.scenes.Known.{Known}
+use Rattle.picture.specs.declared.scenes.UpdatedPixels.{UpdatedPixels}
 use Rattle.picture.specs.declared.scenes.Pass.{Pass}
 use Rattle.picture.specs.declared.scenes.Slice.{Slice}
 use Rattle.picture.specs.declared.scenes.Table.{Table}
-use Rattle.picture.specs.declared.scenes.State.{State}
-use Rattle.picture.specs.declared.scenes.State.TheVariants as states
+use Rattle.picture.specs.declared.scenes.FuncState.{FuncState}
+use Rattle.picture.specs.declared.scenes.FuncState.TheVariants as states
 use Rattle.halide_pipeline.specs.Contents.{PictureContents}
 use Rattle.picture.specs.Slices.{is_on}
 use Rattle.picture.specs.Writes.{written}
@@ -51,7 +51,7 @@ after_of own (Some func) inputs earlier updates number x y =
     after_some own (slice_get func.updates updates) inputs earlier (stage own func inputs earlier updates) number x y
 
 -- what the Funcs answer in a definition of the one at this place
-abbrev pub funcs_in : Scene → ℕ → State → Planes
+abbrev pub funcs_in : Scene → ℕ → FuncState → Planes
 funcs_in scene own states.Earlier = earlier_of scene own
 funcs_in scene own (states.After updates number) =
     with_plane own (after_of own (slice_get scene.funcs.now own) (inputs_of scene) (earlier_of scene own) updates number) (earlier_of scene own)
@@ -59,7 +59,7 @@ funcs_in scene own (states.Forward updates number slice) =
     with_plane own (after_of own (slice_get scene.funcs.now own) (inputs_of scene) (earlier_of scene own) updates number) (earlier_of scene own)
 
 -- and all sources
-abbrev pub reads_in : Scene → ℕ → State → Reads
+abbrev pub reads_in : Scene → ℕ → FuncState → Reads
 reads_in scene own state = reads_of (inputs_of scene) (funcs_in scene own state)
 
 -- ---- updates, run forward
@@ -96,7 +96,7 @@ pub record IsBegun (update : Update) (x y : ℕ) (slice : Slice) : Type 0 where
   pub second : slice.is_second_in_place ≡ is_second_in_place update
 
 -- what a state says is so
-abbrev pub IsState : Scene → ℕ → State → Type 0
+abbrev pub IsState : Scene → ℕ → FuncState → Type 0
 IsState scene own states.Earlier = Unit {0}
 IsState scene own (states.After updates number) = Unit {0}
 IsState scene own (states.Forward updates number slice) = IsForward scene own updates number slice.now
@@ -154,12 +154,12 @@ pub record AreBoxes (plane : Plane) (boxes : List Table) : Type 0 where
   pub each : (at : ℕ) (box : Table) → slice_get boxes at ≡ Some box → IsTable plane box
 
 -- what is known of this update of this Func
-pub record IsKnown (funcs : List Func) (pictures : List PictureContents) (own updates : ℕ) (known : Known) : Type 0 where
+pub record IsKnown (funcs : List Func) (pictures : List PictureContents) (own updates : ℕ) (known : UpdatedPixels) : Type 0 where
   pub slices : AreSlicesOf funcs pictures own updates known.slices.items
   pub boxes : AreBoxes (stage_in funcs pictures own (updates + 1)) known.boxes.items
 
-pub record AreKnownOf (funcs : List Func) (pictures : List PictureContents) (known : List Known) : Type 0 where
-  pub each : (at : ℕ) (k : Known) → slice_get known at ≡ Some k → IsKnown funcs pictures k.own k.updates k
+pub record AreKnownOf (funcs : List Func) (pictures : List PictureContents) (known : List UpdatedPixels) : Type 0 where
+  pub each : (at : ℕ) (k : UpdatedPixels) → slice_get known at ≡ Some k → IsKnown funcs pictures k.own k.updates k
 
 -- each pixel that is kept is the Func's
 pub record IsMemo (funcs : List Func) (pictures : List PictureContents) (memo : Memo) : Type 0 where

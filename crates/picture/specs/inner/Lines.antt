@@ -9,7 +9,7 @@ use Rattle.halide_pipeline.specs.Words as word
 use Rattle.halide_pipeline.specs.Pixel.{Plane, Reads, reads_of, value, with_plane}
 use Rattle.picture.specs.declared.lines.Along.{Along}
 use Rattle.picture.specs.declared.lines.Along.TheVariants as alongs
-use Rattle.picture.specs.declared.lines.Line.{Line}
+use Rattle.picture.specs.declared.lines.PointLine.{PointLine}
 use Rattle.picture.specs.declared.lines.Own.{Own}
 use Rattle.picture.specs.declared.lines.Own.TheVariants as owns
 use Rattle.picture.specs.declared.scenes.Scene.{Scene}
@@ -56,7 +56,7 @@ IsLong width owns.Nothing = Unit {0}
 IsLong width (owns.Pixels before) = length before.now ≡ width
 IsLong width (owns.Box own) = (plane : Plane) × IsTable plane own.now
 
-abbrev pub IsLine : Line → Type 0
+abbrev pub IsLine : PointLine → Type 0
 IsLine line = IsLong line.width line.own
 
 -- the own Func answers as is known
@@ -65,7 +65,7 @@ Knows width start owns.Nothing plane = Unit {0}
 Knows width start (owns.Pixels before) plane = AreValues width (λ at. plane (word.add start.first_argument at) start.second_argument) before.now
 Knows width start (owns.Box own) plane = IsTable plane own.now
 
-abbrev pub Fits : Line → Plane → Type 0
+abbrev pub Fits : PointLine → Plane → Type 0
 Fits line plane = Knows line.width line.start line.own plane
 
 -- reads, where the own Func answers by this plane
@@ -73,7 +73,7 @@ abbrev pub reads_with : Scene → ℕ → Plane → Reads
 reads_with scene own plane = reads_of (inputs_of scene) (with_plane own plane (earlier_of scene own))
 
 -- the value of an expression at a point of a line, where the own Func answers by this plane
-abbrev pub value_along : Scene → ℕ → Line → Expr → Plane → ℕ → ℕ
+abbrev pub value_along : Scene → ℕ → PointLine → Expr → Plane → ℕ → ℕ
 value_along scene own line expr plane at = value (reads_with scene own plane) (line_point line.along line.start at) expr
 
 abbrev pub is_own : ℕ → Source → Bool
@@ -81,10 +81,10 @@ is_own own (sources.Input place) = false
 is_own own (sources.Func place) = place == own
 
 -- what a row has at its places, whatever the own Func answers where it isn't known
-pub record IsShared (line : Line) (says : Plane → ℕ → ℕ) (row : Row) : Type 0 where
+pub record IsShared (line : PointLine) (says : Plane → ℕ → ℕ) (row : Row) : Type 0 where
   pub len : HasLength line.width row
   pub each : (plane : Plane) → Fits line plane → (at : ℕ) → at < line.width → value_at row at ≡ says plane at
 
 -- a row of the reduction box
-abbrev pub reduction_line : ℕ → Environment → Line
+abbrev pub reduction_line : ℕ → Environment → PointLine
 reduction_line width start = record { start = start; along = alongs.Reduction; width = width; own = owns.Nothing }

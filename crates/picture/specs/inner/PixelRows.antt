@@ -4,13 +4,13 @@ use Rattle.std.specs.Prelude.{◌≡◌, ℕ, true, List}
 use Rattle.halide_pipeline.specs.Words as word
 use Rattle.halide_pipeline.specs.declared.definitions.Update.{Update}
 use Rattle.halide_pipeline.specs.Pixel.{Plane, Reads, at_reduction, is_hit, value}
-use Rattle.picture.specs.declared.in_place.Stretch.{Stretch}
+use Rattle.picture.specs.declared.in_place.PixelSpan.{PixelSpan}
 use Rattle.picture.specs.declared.scenes.Scene.{Scene}
 use Rattle.picture.specs.inner.Lines.{reads_with}
 use Rattle.picture_rows.specs.Rows.{AreValues}
 
 -- the pixels of a plane
-abbrev pub IsRowOf : Plane → Stretch → List ℕ → Type 0
+abbrev pub IsRowOf : Plane → PixelSpan → List ℕ → Type 0
 IsRowOf plane stretch pixels = AreValues stretch.width (λ at. plane (word.add stretch.left at) stretch.y) pixels
 
 -- what the right side of an update is at a point of its reduction box, where the own Func answers by this plane

@@ -8,7 +8,7 @@ use Rattle.halide_pipeline.specs.Pixel.{Plane, Reads, after, index_value, stage,
 use Rattle.picture.specs.Slices.{is_forward}
 use Rattle.picture.specs.declared.lines.Along.{Along}
 use Rattle.picture.specs.declared.lines.Along.TheVariants as alongs
-use Rattle.picture.specs.declared.lines.Line.{Line}
+use Rattle.picture.specs.declared.lines.PointLine.{PointLine}
 use Rattle.picture.specs.declared.lines.Own.TheVariants as owns
 use Rattle.picture.specs.declared.scenes.Pass.{Pass}
 use Rattle.picture.specs.declared.scenes.Scene.{Scene}
@@ -41,11 +41,11 @@ side_length alongs.Columns table = table.width
 side_length alongs.Rows table = table.height
 
 -- a line on which nothing of the own Func is known
-abbrev pub free : Line → Line
+abbrev pub free : PointLine → PointLine
 free line = record { start = line.start; along = line.along; width = line.width; own = owns.Nothing }
 
 -- what the points of a line store
-pub record IsStoreRow (scene : Scene) (pass : Pass) (line : Line) (row : StoreRow) : Type 0 where
+pub record IsStoreRow (scene : Scene) (pass : Pass) (line : PointLine) (row : StoreRow) : Type 0 where
   pub x : IsShared (free line) (λ plane at. value (reads_with scene pass.own plane) (line_point line.along line.start at) pass.update.now.left_x) row.x
   pub y : IsShared (free line) (λ plane at. index_value (reads_with scene pass.own plane) (line_point line.along line.start at) pass.update.now.left_y) row.y
   pub value : IsShared line (λ plane at. value (reads_with scene pass.own plane) (line_point line.along line.start at) pass.update.now.right) row.value

@@ -8,12 +8,12 @@ use Rattle.halide_pipeline.specs.Words as word
 use Rattle.halide_pipeline.specs.Pixel.{Plane, value, index_value, at_reduction}
 use Rattle.picture.specs.declared.scenes.Scene.{Scene}
 use Rattle.picture.specs.declared.scenes.Slice.{Slice}
-use Rattle.picture.specs.declared.scenes.State.TheVariants as states
+use Rattle.picture.specs.declared.scenes.FuncState.TheVariants as states
 use Rattle.picture.specs.declared.update_rows.Indices.{Indices}
 use Rattle.picture.specs.declared.update_rows.Right.{Right}
 use Rattle.picture.specs.declared.update_rows.Right.TheVariants as rights
 use Rattle.picture.specs.declared.update_rows.UpdateRow.{UpdateRow}
-use Rattle.picture.specs.declared.update_runs.Store.{Store}
+use Rattle.picture.specs.declared.update_runs.UpdateStore.{UpdateStore}
 use Rattle.picture.specs.Writes.{Sets}
 use Rattle.picture.specs.inner.Evaluation.{reads_in}
 use Rattle.picture.specs.inner.Lines.{reads_with, reduction_line, row_point, IsShared}
@@ -47,7 +47,7 @@ pub record IsUpdateRow (scene : Scene) (own width : ℕ) (start : Environment) (
   pub right : IsRight width (λ plane at. value (reads_with scene own plane) (row_point start at) update.right) row.right
 
 -- what a point of an update stores
-pub record IsStore (scene : Scene) (own updates number : ℕ) (update : Update) (slice : Slice) (store : Store) : Type 0 where
+pub record IsStore (scene : Scene) (own updates number : ℕ) (update : Update) (slice : Slice) (store : UpdateStore) : Type 0 where
   pub left_x : store.x ≡ value (reads_in scene own states.Earlier) (at_reduction update number slice.x slice.y) update.left_x
   pub left_y : store.y ≡ index_value (reads_in scene own states.Earlier) (at_reduction update number slice.x slice.y) update.left_y
   pub right : store.value ≡ value (reads_in scene own (states.After updates number)) (at_reduction update number slice.x slice.y) update.right
@@ -60,7 +60,7 @@ pub record KeepsPlace (old new : Slice) : Type 0 where
   pub second : new.is_second_in_place ≡ old.is_second_in_place
 
 -- a slice with one store more
-pub record Puts (old new : Slice) (store : Store) : Type 0 where
+pub record Puts (old new : Slice) (store : UpdateStore) : Type 0 where
   pub sets : Sets old.writes new.writes store.x store.y store.value
   pub place : KeepsPlace old new
 

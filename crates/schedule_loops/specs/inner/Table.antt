@@ -9,7 +9,7 @@ use Rattle.schedule_lines.specs.Directives.{is_shift}
 use Rattle.schedule_loops.specs.declared.extents.Extents.{Extents}
 use Rattle.schedule_loops.specs.declared.sizes.LoopSize.{LoopSize}
 use Rattle.schedule_loops.specs.declared.sizes.SizedSplit.{SizedSplit}
-use Rattle.schedule_loops.specs.Visits.{extent_of, rounds, AreSplits}
+use Rattle.schedule_loops.specs.Visits.{extent_of, outer_extent, AreSplits}
 
 abbrev pub whole_size : Extents → Variable → LoopSize
 whole_size extents variable = record { count = extent_of extents variable; stride = 1; is_uneven = false }
@@ -37,11 +37,11 @@ abbrev pub row_of : LoopSize → Split → SizedSplit
 row_of whole split = record {
   split = split;
   extent = whole.count;
-  outer = record { count = rounds whole.count split.factor; stride = whole.stride * split.factor; is_uneven = whole.is_uneven || is_shift split.tail };
+  outer = record { count = outer_extent whole.count split.factor; stride = whole.stride * split.factor; is_uneven = whole.is_uneven || is_shift split.tail };
   inner = record { count = split.factor; stride = whole.stride; is_uneven = whole.is_uneven };
 }
 
--- behind the rows that are there, those of more splits
+-- after the rows that are there, those of more splits
 abbrev pub rows_from : Extents → List SizedSplit → List Split → List SizedSplit
 rows_from extents rows [] = rows
 rows_from extents rows (split ∷ others) = rows_from extents (rows ++ row_of (looked_up extents rows split.of) split ∷ []) others
@@ -61,7 +61,7 @@ pub record IsKept (extents : Extents) (rows : List SizedSplit) : Type 0 where
   pub table : IsTable extents rows
   pub splits : AreSplits (splits_of rows)
 
--- the most that a stride is behind so many splits
+-- the most that a stride is after so many splits
 abbrev pub stride_limit : ℕ → ℕ
 stride_limit zero = 1
 stride_limit (suc n) = stride_limit n * 64

@@ -1,7 +1,7 @@
 -- What comes of one way to make a task's code. This project's own.
 use Rattle.std.specs.Prelude.{◌≡◌, ℕ, Bool, true, false, List}
 use Rattle.loop_ir.specs.declared.statements.Phase.{Phase}
-use Rattle.task_code_scalar.specs.declared.places.Places.{Places}
+use Rattle.task_code_scalar.specs.declared.layouts.Places.{Places}
 use Rattle.task_code.specs.Tasks.{EmitsTask}
 
 -- words of a task are appended, or nothing is

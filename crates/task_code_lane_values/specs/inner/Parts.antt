@@ -21,12 +21,12 @@ use Rattle.loop_ir.specs.declared.expressions.Expr.{Expr}
 use Rattle.loop_ir.specs.declared.expressions.Linear.{Linear}
 use Rattle.loop_ir.specs.Counters.{Values, with}
 use Rattle.loop_ir.specs.Expressions.{value, loads, linear_value}
-use Rattle.multi_hart_logic.specs.Alone.{World}
-use Rattle.multi_hart_logic.specs.Paths.{lane}
-use Rattle.task_code_scalar.specs.declared.places.Pixels.{Pixels}
-use Rattle.task_code_scalar.specs.declared.places.Pixels.TheVariants.{Words}
-use Rattle.task_code_scalar.specs.declared.places.Place.{Place}
-use Rattle.task_code_scalar.specs.declared.places.Places.{Places}
+use Rattle.multi_hart_laws.specs.Alone.{World}
+use Rattle.multi_hart_laws.specs.Paths.{lane}
+use Rattle.task_code_scalar.specs.declared.layouts.Pixels.{Pixels}
+use Rattle.task_code_scalar.specs.declared.layouts.Pixels.TheVariants.{Words}
+use Rattle.task_code_scalar.specs.declared.layouts.BufferLayout.{BufferLayout}
+use Rattle.task_code_scalar.specs.declared.layouts.Places.{Places}
 use Rattle.task_code_scalar.specs.Code.{address, pixel_bytes, place_of}
 use Rattle.task_code_scalar.specs.Evaluation.{ArePlaces, Loads, LoadsAt}
 use Rattle.task_code_scalar.specs.Words.{Emits}
@@ -34,11 +34,11 @@ use Rattle.task_code_registers.specs.declared.scopes.Held.{Held}
 use Rattle.task_code_registers.specs.Registers.{zero_register, first_value, IsSource}
 use Rattle.task_code_registers.specs.Scopes.{Knows, AreHolders}
 use Rattle.task_code_values.specs.Making.{Leaves}
-use Rattle.task_code_lanes.specs.declared.groups.Group.{Group}
+use Rattle.task_code_lanes.specs.declared.groups.LaneGroup.{LaneGroup}
 use Rattle.task_code_lanes.specs.Groups.{registers, slot}
 use Rattle.task_code_lanes.specs.Lanes.{compared}
 use Rattle.task_code_lanes.specs.Leaving.{HasLanes}
-use Rattle.task_code_lane_values.specs.declared.vectorized.Lanes.{Lanes}
+use Rattle.task_code_lane_values.specs.declared.vectorized.VectorLanes.{VectorLanes}
 use Rattle.task_code_lane_values.specs.Leaving.{LeavesLanes}
 
 -- ---- expressions that all iterations have in common
@@ -51,7 +51,7 @@ IsSteady counter e = (reads : Reads) (values : Values) (i : ℕ) → value reads
 
 -- Appended code leaves a number in register s, from what registers hold in the first iteration. It keeps memory and all registers but
 -- those of values, the scratch ones and the one where addresses are made.
-pub record MakesScalar (old new : List ℕ) (scope : List Held) (own : Lanes) (s : ℕ) (may : World → List ℕ → Reads → Values → Type 0)
+pub record MakesScalar (old new : List ℕ) (scope : List Held) (own : VectorLanes) (s : ℕ) (may : World → List ℕ → Reads → Values → Type 0)
     (says : ℕ → Reads → Values → ℕ) : Type 0 where
   pub insns : List Insn
   pub emits : Emits old new insns
@@ -65,13 +65,13 @@ abbrev pub Nothing : World → List ℕ → Reads → Values → Type 0
 Nothing world memory reads values = Unit {0}
 
 -- an expression's value in the first iteration
-abbrev pub MakesSteady : List ℕ → List ℕ → Places → List Held → Lanes → ℕ → Expr → Type 0
+abbrev pub MakesSteady : List ℕ → List ℕ → Places → List Held → VectorLanes → ℕ → Expr → Type 0
 MakesSteady old new places scope own s e =
     MakesScalar old new scope own s (λ world memory reads values. AllByRecursion (Loads world places memory reads) (loads reads (with own.counter 0 values) e))
     (λ hart reads values. value reads (with own.counter 0 values) e)
 
 -- a pointer to the point at a column of the first iteration and a row, as far as words go
-abbrev pub MakesRowPointer : List ℕ → List ℕ → Places → List Held → Lanes → ℕ → Place → Linear → Expr → Type 0
+abbrev pub MakesRowPointer : List ℕ → List ℕ → Places → List Held → VectorLanes → ℕ → BufferLayout → Linear → Expr → Type 0
 MakesRowPointer old new places scope own s place x y =
     MakesScalar old new scope own s (λ world memory reads values. AllByRecursion (Loads world places memory reads) (loads reads (with own.counter 0 values) y))
     (λ hart reads values. address place hart (linear_value (with own.counter 0 values) x) (value reads (with own.counter 0 values) y) % 2 ^ 32)
@@ -79,7 +79,7 @@ MakesRowPointer old new places scope own s place x y =
 -- ---- lanes of any numbers
 
 -- Appended code leaves a number for each iteration in group k, as the lanes of an expression are left.
-pub record MakesEach (old new : List ℕ) (places : Places) (scope : List Held) (own : Lanes) (k : ℕ)
+pub record MakesEach (old new : List ℕ) (places : Places) (scope : List Held) (own : VectorLanes) (k : ℕ)
     (may : World → List ℕ → Reads → Values → ℕ → Type 0) (says : Reads → Values → ℕ → ℕ) : Type 0 where
   pub insns : List Insn
   pub emits : Emits old new insns
@@ -101,34 +101,34 @@ LoadsPoint places source counter x y world memory reads values i =
     LoadsAt world (place_of places source) memory (sum_at counter x values i) (sum_at counter y values i)
     (reads source (sum_at counter x values i) (sum_at counter y values i))
 
-abbrev pub MakesPoint : List ℕ → List ℕ → Places → List Held → Lanes → ℕ → Source → Linear → Linear → Type 0
+abbrev pub MakesPoint : List ℕ → List ℕ → Places → List Held → VectorLanes → ℕ → Source → Linear → Linear → Type 0
 MakesPoint old new places scope own k source x y =
     MakesEach old new places scope own k (LoadsPoint places source own.counter x y)
     (λ reads values i. reads source (sum_at own.counter x values i) (sum_at own.counter y values i))
 
--- Appended code loads pixels that lie one behind the other, from the address in register b on.
-pub record LoadsAlong (old new : List ℕ) (group : Group) (k b : ℕ) (pixels : Pixels) : Type 0 where
+-- Appended code loads pixels that lie one after the other, from the address in register b on.
+pub record LoadsAlong (old new : List ℕ) (group : LaneGroup) (k b : ℕ) (pixels : Pixels) : Type 0 where
   pub insns : List Insn
   pub emits : Emits old new insns
-  pub does : (world : World) (memory : List ℕ) (count : ℕ) (f x y pixel : ℕ → ℕ) (place : Place) → length memory ≡ world.size → HasLanes group count f
+  pub does : (world : World) (memory : List ℕ) (count : ℕ) (f x y pixel : ℕ → ℕ) (place : BufferLayout) → length memory ≡ world.size → HasLanes group count f
       → place.pixels ≡ pixels → ((i : ℕ) → i < count → LoadsAt world place memory (x i) (y i) (pixel i))
       → ((i : ℕ) → i < count → (f b + i * pixel_bytes pixels) % 2 ^ 32 ≡ address place world.hart (x i) (y i))
       → LeavesLanes world memory insns f group k count pixel
 
 -- And words that lie as many bytes apart as register s holds.
-pub record LoadsStrided (old new : List ℕ) (group : Group) (k b s : ℕ) : Type 0 where
+pub record LoadsStrided (old new : List ℕ) (group : LaneGroup) (k b s : ℕ) : Type 0 where
   pub insns : List Insn
   pub emits : Emits old new insns
-  pub does : (world : World) (memory : List ℕ) (count : ℕ) (f x y pixel : ℕ → ℕ) (place : Place) → length memory ≡ world.size → HasLanes group count f
+  pub does : (world : World) (memory : List ℕ) (count : ℕ) (f x y pixel : ℕ → ℕ) (place : BufferLayout) → length memory ≡ world.size → HasLanes group count f
       → place.pixels ≡ Words → ((i : ℕ) → i < count → LoadsAt world place memory (x i) (y i) (pixel i))
       → ((i : ℕ) → i < count → (f b + (i * f s) % 2 ^ 32) % 2 ^ 32 ≡ address place world.hart (x i) (y i))
       → LeavesLanes world memory insns f group k count pixel
 
 -- And at the distances from there that the lanes hold.
-pub record LoadsFrom (old new : List ℕ) (group : Group) (k b : ℕ) (pixels : Pixels) : Type 0 where
+pub record LoadsFrom (old new : List ℕ) (group : LaneGroup) (k b : ℕ) (pixels : Pixels) : Type 0 where
   pub insns : List Insn
   pub emits : Emits old new insns
-  pub does : (world : World) (memory : List ℕ) (count : ℕ) (f x y pixel offset : ℕ → ℕ) (place : Place) → length memory ≡ world.size → HasLanes group count f
+  pub does : (world : World) (memory : List ℕ) (count : ℕ) (f x y pixel offset : ℕ → ℕ) (place : BufferLayout) → length memory ≡ world.size → HasLanes group count f
       → f zero_register ≡ 0 → place.pixels ≡ pixels → ((i : ℕ) → i < count → LoadsAt world place memory (x i) (y i) (pixel i))
       → ((i : ℕ) → i < count → f (lane (slot group k) i) ≡ offset i)
       → ((i : ℕ) → i < count → (f b + offset i) % 2 ^ 32 ≡ address place world.hart (x i) (y i))
@@ -137,7 +137,7 @@ pub record LoadsFrom (old new : List ℕ) (group : Group) (k b : ℕ) (pixels : 
 -- ---- operations on lanes
 
 -- Appended code makes of each lane of group k what is made of it.
-pub record TurnsOne (old new : List ℕ) (group : Group) (k : ℕ) (says : ℕ → ℕ) : Type 0 where
+pub record ComputesOne (old new : List ℕ) (group : LaneGroup) (k : ℕ) (says : ℕ → ℕ) : Type 0 where
   pub insns : List Insn
   pub emits : Emits old new insns
   pub does : (world : World) (memory : List ℕ) (count : ℕ) (f x : ℕ → ℕ) → length memory ≡ world.size → HasLanes group count f
@@ -145,7 +145,7 @@ pub record TurnsOne (old new : List ℕ) (group : Group) (k : ℕ) (says : ℕ �
       → LeavesLanes world memory insns f group k count (λ i. says (x i))
 
 -- So it does of the lane and register s, which holds such a word.
-pub record TurnsBy (old new : List ℕ) (group : Group) (k s : ℕ) (fits : ℕ → Type 0) (says : ℕ → ℕ → ℕ) : Type 0 where
+pub record ComputesBy (old new : List ℕ) (group : LaneGroup) (k s : ℕ) (fits : ℕ → Type 0) (says : ℕ → ℕ → ℕ) : Type 0 where
   pub insns : List Insn
   pub emits : Emits old new insns
   pub does : (world : World) (memory : List ℕ) (count : ℕ) (f x : ℕ → ℕ) (c : ℕ) → length memory ≡ world.size → HasLanes group count f
@@ -164,11 +164,11 @@ abbrev pub IsComparedBy : Operation → CompareVxOp → Type 0
 IsComparedBy op own = (x c : ℕ) → x < 2 ^ 32 → c < 2 ^ 32 → one_if (compare_vx own 32 x c) ≡ word.applied op x c
 
 -- an instruction does an operation on lanes with a register as the first operand
-abbrev pub IsTurnedBy : Operation → ArithmeticVxOp → Type 0
-IsTurnedBy op own = (x c : ℕ) → x < 2 ^ 32 → c < 2 ^ 32 → arithmetic_vx own 32 x c ≡ word.applied op c x
+abbrev pub IsComputedBy : Operation → ArithmeticVxOp → Type 0
+IsComputedBy op own = (x c : ℕ) → x < 2 ^ 32 → c < 2 ^ 32 → arithmetic_vx own 32 x c ≡ word.applied op c x
 
 -- And of the lane and that of the next group.
-pub record TurnsTwo (old new : List ℕ) (group : Group) (k : ℕ) (says : ℕ → ℕ → ℕ) : Type 0 where
+pub record ComputesTwo (old new : List ℕ) (group : LaneGroup) (k : ℕ) (says : ℕ → ℕ → ℕ) : Type 0 where
   pub insns : List Insn
   pub emits : Emits old new insns
   pub does : (world : World) (memory : List ℕ) (count : ℕ) (f x y : ℕ → ℕ) → length memory ≡ world.size → HasLanes group count f
@@ -177,7 +177,7 @@ pub record TurnsTwo (old new : List ℕ) (group : Group) (k : ℕ) (says : ℕ �
       → LeavesLanes world memory insns f group k count (λ i. says (x i) (y i))
 
 -- And of the lane and those of the next two groups.
-pub record TurnsThree (old new : List ℕ) (group : Group) (k : ℕ) (says : ℕ → ℕ → ℕ → ℕ) : Type 0 where
+pub record ComputesThree (old new : List ℕ) (group : LaneGroup) (k : ℕ) (says : ℕ → ℕ → ℕ → ℕ) : Type 0 where
   pub insns : List Insn
   pub emits : Emits old new insns
   pub does : (world : World) (memory : List ℕ) (count : ℕ) (f x y z : ℕ → ℕ) → length memory ≡ world.size → HasLanes group count f
@@ -186,7 +186,7 @@ pub record TurnsThree (old new : List ℕ) (group : Group) (k : ℕ) (says : ℕ
       → ((i : ℕ) → i < count → z i < 2 ^ 32) → LeavesLanes world memory insns f group k count (λ i. says (x i) (y i) (z i))
 
 -- Group k gets a lane of group a where that of group c isn't 0, else one of group b.
-pub record Chooses (old new : List ℕ) (group : Group) (k c a b : ℕ) : Type 0 where
+pub record Chooses (old new : List ℕ) (group : LaneGroup) (k c a b : ℕ) : Type 0 where
   pub insns : List Insn
   pub emits : Emits old new insns
   pub does : (world : World) (memory : List ℕ) (count : ℕ) (f t x y : ℕ → ℕ) → length memory ≡ world.size → HasLanes group count f

@@ -11,9 +11,9 @@ use Rattle.halide_pipeline.specs.Points.{Point}
 use Rattle.loop_ir.specs.declared.expressions.Expr.{Expr}
 use Rattle.loop_ir.specs.Counters.{Values, with}
 use Rattle.loop_ir.specs.Expressions.{value, loads}
-use Rattle.multi_hart_logic.specs.Alone.{World}
-use Rattle.multi_hart_logic.specs.Paths.{Line, lane}
-use Rattle.task_code_scalar.specs.declared.places.Places.{Places}
+use Rattle.multi_hart_laws.specs.Alone.{World}
+use Rattle.multi_hart_laws.specs.Paths.{Line, lane}
+use Rattle.task_code_scalar.specs.declared.layouts.Places.{Places}
 use Rattle.task_code_scalar.specs.Evaluation.{ArePlaces, Loads}
 use Rattle.task_code_scalar.specs.Words.{Emits}
 use Rattle.task_code_registers.specs.declared.scopes.Held.{Held}
@@ -22,7 +22,7 @@ use Rattle.task_code_lanes.specs.Groups.{registers, slot}
 use Rattle.task_code_lanes.specs.Leaving.{HasLanes}
 use Rattle.task_code_lane_values.specs.declared.sharing.Sharing.{Sharing}
 use Rattle.task_code_lane_values.specs.declared.vectorized.LaneSite.{LaneSite}
-use Rattle.task_code_lane_values.specs.declared.vectorized.Lanes.{Lanes}
+use Rattle.task_code_lane_values.specs.declared.vectorized.VectorLanes.{VectorLanes}
 use Rattle.task_code_lane_values.specs.Leaving.{IsUnder, LeavesLanes}
 
 -- an instruction does an operation on two groups
@@ -48,7 +48,7 @@ pub record AreParts (site : LaneSite) (e : Expr) (own : Sharing) : Type 0 where
 -- ---- what groups hold
 
 -- an expression's value in each iteration
-pub record HoldsValue (own : Lanes) (reads : Reads) (values : Values) (count : ℕ) (f : ℕ → ℕ) (s : ℕ) (e : Expr) : Type 0 where
+pub record HoldsValue (own : VectorLanes) (reads : Reads) (values : Values) (count : ℕ) (f : ℕ → ℕ) (s : ℕ) (e : Expr) : Type 0 where
   pub value_is : (i : ℕ) → i < count → f (lane (slot own.group s) i) ≡ value reads (with own.counter i values) e
   pub small : (i : ℕ) → i < count → value reads (with own.counter i values) e < 2 ^ 32
 
@@ -77,7 +77,7 @@ abbrev pub MayLoad : Sharing → World → List ℕ → Reads → Values → ℕ
 MayLoad own world memory reads values count e =
     (i : ℕ) → i < count → AllByRecursion (Loads world own.site.places.now memory reads) (loads reads (with own.site.lanes.counter i values) e)
 
--- straight code behind which something is so of registers; those below a group stay
+-- straight code after which something is so of registers; those below a group stay
 pub record Leads (own : Sharing) (world : World) (memory : List ℕ) (insns : List Insn) (f : ℕ → ℕ) (k : ℕ) (is_so : (ℕ → ℕ) → Type 0) : Type 0 where
   pub after : ℕ → ℕ
   pub line : Line world insns f memory after memory

@@ -4,24 +4,24 @@ use Rattle.std.specs.Prelude.{◌≡◌, ℕ, ◌-◌, ◌<◌, ◌==◌, Bool, 
 use Rattle.turn_log.specs.TurnLog.{LogState, IsLog, count_of}
 use Rattle.turn_log.specs.LogSpelling.{begins_with, expanded}
 use Rattle.turn_log.specs.declared.runs.Run.{Run}
-use Rattle.turn_log.specs.inner.Stretches.{Stretch}
+use Rattle.turn_log.specs.inner.RunEnds.{RunEnd}
 
--- the runs of the stretches behind so many turns
-abbrev pub runs_from : ℕ → List Stretch → List Run
+-- the runs of the kept runs after so many turns
+abbrev pub runs_from : ℕ → List RunEnd → List Run
 runs_from start [] = []
-runs_from start (stretch ∷ stretches) = record { hart = stretch.hart; length = stretch.end - start } ∷ runs_from stretch.end stretches
+runs_from start (run_end ∷ run_ends) = record { hart = run_end.hart; length = run_end.end - start } ∷ runs_from run_end.end run_ends
 
--- the turns that the stretches stand for
-abbrev pub turns_of : List Stretch → List ℕ
-turns_of stretches = expanded (runs_from 0 stretches)
+-- the turns that the kept runs stand for
+abbrev pub turns_of : List RunEnd → List ℕ
+turns_of run_ends = expanded (runs_from 0 run_ends)
 
--- whether a stretch is there and is of the hart
-abbrev pub is_of : Option Stretch → ℕ → Bool
+-- whether a kept run is there and is of the hart
+abbrev pub is_of : Option RunEnd → ℕ → Bool
 is_of None hart = false
-is_of (Some stretch) hart = stretch.hart == hart
+is_of (Some run_end) hart = run_end.hart == hart
 
--- the stretches with one more at the end, which takes the place of the last one if that is of the same hart
-abbrev pub with_run : List Stretch → Stretch → List Stretch
+-- the kept runs with one more at the end, which takes the place of the last one if that is of the same hart
+abbrev pub with_run : List RunEnd → RunEnd → List RunEnd
 with_run [] run = run ∷ []
 with_run (last ∷ []) run = if last.hart == run.hart then run ∷ [] else last ∷ run ∷ []
 with_run (first ∷ (second ∷ others)) run = first ∷ with_run (second ∷ others) run
@@ -38,8 +38,8 @@ AreRuns harts [] = Unit {0}
 AreRuns harts (run ∷ runs) = IsRun harts run runs × AreRuns harts runs
 
 -- what is true of the fields of each log
-pub record IsKept (harts : ℕ) (totals : List ℕ) (stretches : List Stretch) : Type 0 where
-  pub log : IsLog (record { harts = harts; turns = turns_of stretches })
-  pub runs : AreRuns harts (runs_from 0 stretches)
+pub record IsKept (harts : ℕ) (totals : List ℕ) (run_ends : List RunEnd) : Type 0 where
+  pub log : IsLog (record { harts = harts; turns = turns_of run_ends })
+  pub runs : AreRuns harts (runs_from 0 run_ends)
   pub places : length totals ≡ 8
-  pub counted : (hart : ℕ) → hart < 8 → slice_index totals hart ≡ count_of (turns_of stretches) hart
+  pub counted : (hart : ℕ) → hart < 8 → slice_index totals hart ≡ count_of (turns_of run_ends) hart

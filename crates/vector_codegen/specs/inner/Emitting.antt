@@ -2,9 +2,9 @@
 use Rattle.std.specs.Prelude.{◌≡◌, ◌<◌, ◌≤◌, ◌++◌, ℕ, Bool, List, length}
 use Rattle.memory.specs.Access.{most_words}
 use Rattle.loop_ir.specs.declared.statements.Phase.{Phase}
-use Rattle.vector_codegen_sharing.specs.Turns.{ticket_word}
+use Rattle.work_sharing.specs.Turns.{ticket_word}
 use Rattle.task_code_scalar.specs.declared.CodeFault.{CodeFault}
-use Rattle.task_code_scalar.specs.declared.places.Places.{Places}
+use Rattle.task_code_scalar.specs.declared.layouts.Places.{Places}
 use Rattle.task_code_scalar.specs.Faults.{IsFault, LieLow}
 use Rattle.task_code_scalar.specs.Words.{Emits}
 use Rattle.vector_codegen.specs.PhaseCode.{Part, ends_from, phase_code, program}

@@ -7,8 +7,8 @@ use Rattle.rv_insn.specs.declared.vector_operations.CompareVxOp.{CompareVxOp}
 use Rattle.rv_insn.specs.declared.vector_operations.ReductionOp.{ReductionOp}
 use Rattle.vector_unit.specs.declared.elements.NewElements.{NewElements}
 use Rattle.vector_unit.specs.declared.elements.NewElements.TheVariants.{Arithmetic, Multiply, Merge, Copy, Numbers, Bytes}
-use Rattle.vector_unit.specs.declared.operands.Operand.{Operand}
-use Rattle.vector_unit.specs.declared.operands.Operand.TheVariants.{Register, Number, Immediate, Amount}
+use Rattle.vector_unit.specs.declared.operands.OtherOperand.{OtherOperand}
+use Rattle.vector_unit.specs.declared.operands.OtherOperand.TheVariants.{Register, Number, Immediate, Amount}
 use Rattle.vector_unit.specs.Vector.{Vectors, register, with_register, width, count, of_group, bytes_of_register, merged_by_mask}
 use Rattle.vector_unit.specs.Operands.{operand_elements}
 use Rattle.vector_unit.specs.Operations as op
@@ -39,7 +39,7 @@ own_count state = 128 / width state
 abbrev pub register_part : Vectors → ℕ → ℕ → List ℕ
 register_part state v part = elements (width state) (register state (v + part))
 
-abbrev pub operand_part : Vectors → Operand → ℕ → List ℕ
+abbrev pub operand_part : Vectors → OtherOperand → ℕ → List ℕ
 operand_part state (Register v) part = register_part state v part
 operand_part state (Number n) part = replicate (own_count state) (n % 2 ^ width state)
 operand_part state (Immediate imm) part = replicate (own_count state) (word.wrapped (width state) imm)
@@ -68,18 +68,18 @@ with_parts state vd vm new part zero = state
 with_parts state vd vm new part (suc others) =
     with_register (with_parts state vd vm new (part + 1) others) (vd + part) (merged_register state vd vm new part)
 
--- the bits of a part and of those behind it, written to a register
-abbrev pub with_part_bits : Vectors → CompareVxOp → ℕ → Operand → Bool → ℕ → List ℕ → List ℕ
+-- the bits of a part and of those after it, written to a register
+abbrev pub with_part_bits : Vectors → CompareVxOp → ℕ → OtherOperand → Bool → ℕ → List ℕ → List ℕ
 with_part_bits state o vs2 other vm part bytes =
     with_mask_bits_from (part * own_count state) (active_part state vm part)
     (zip_with (op.compare_vx o (width state)) (register_part state vs2 part) (operand_part state other part)) bytes
 
-abbrev pub with_parts_bits : Vectors → CompareVxOp → ℕ → Operand → Bool → ℕ → ℕ → List ℕ → List ℕ
+abbrev pub with_parts_bits : Vectors → CompareVxOp → ℕ → OtherOperand → Bool → ℕ → ℕ → List ℕ → List ℕ
 with_parts_bits state o vs2 other vm part zero bytes = bytes
 with_parts_bits state o vs2 other vm part (suc others) bytes =
     with_parts_bits state o vs2 other vm (part + 1) others (with_part_bits state o vs2 other vm part bytes)
 
--- a start joined with the active elements of a part and of those behind it
+-- a start joined with the active elements of a part and of those after it
 abbrev pub reduced_parts : Vectors → ReductionOp → ℕ → Bool → ℕ → ℕ → ℕ → ℕ
 reduced_parts state o vs2 vm part zero start = start
 reduced_parts state o vs2 vm part (suc others) start =

@@ -1,5 +1,5 @@
 use Rattle.std.proofs.Common.{◌≡◌, ◌∷◌, List, [], Option, option_map, sym, ap, ◌∙◌}
-use Rattle.assembler_syntax.specs.declared.tokens.Token.{Token}
+use Rattle.assembler_syntax.specs.declared.tokens.AssemblyToken.{AssemblyToken}
 use Rattle.assembler_syntax.specs.Statements.{later_pieces}
 use Rattle.assembler_syntax.proofs.Pieces.{no_operands, first_starts, goes_on, stops, fails}
 use Rattle.assembler_syntax.proofs.statements.operands_of.Goals as goal

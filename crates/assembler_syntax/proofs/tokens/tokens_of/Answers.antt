@@ -1,6 +1,6 @@
 use Rattle.std.proofs.Common.{◌≡◌, true, false, List, ℕ, arith, sym, ap, ◌∙◌}
 use Rattle.line_text.specs.Lines.{ends, skip_blanks}
-use Rattle.assembler_syntax.specs.declared.tokens.Token.{Token}
+use Rattle.assembler_syntax.specs.declared.tokens.AssemblyToken.{AssemblyToken}
 use Rattle.assembler_syntax.specs.Tokens.{front_token}
 use Rattle.assembler_syntax.proofs.TokenLoop.{Taken, starts, goes_on, stops, some_left}
 use Rattle.assembler_syntax.proofs.tokens.tokens_of.Goals as goal

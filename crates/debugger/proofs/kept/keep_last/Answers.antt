@@ -1,4 +1,4 @@
-use Rattle.debugger.specs.inner.Kept.{last_kept}
+use Rattle.debugger.specs.inner.KeptPlaces.{last_kept}
 use Rattle.debugger.proofs.Keeping.{still-kept}
 use Rattle.debugger.proofs.kept.keep_last.Goals as goal
 

@@ -1,5 +1,5 @@
 use Rattle.std.proofs.Common.{◌≡◌, ℕ, length, None}
-use Rattle.debugger_pages.specs.Pages.{slot_at}
+use Rattle.debugger_writes.specs.Pages.{slot_at}
 use Rattle.debugger.proofs.kept.keep_none.Given as goal
 
 abbrev pub invariant-loop-page : goal.invariant-loop-page

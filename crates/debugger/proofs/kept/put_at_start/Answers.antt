@@ -2,11 +2,11 @@ use Rattle.std.proofs.Common.{◌≡◌, ◌∙◌, ◌/◌, ℕ, false, Bool, L
 use Rattle.std.proofs.lemmas.List.{with_items_is}
 use Rattle.std.specs.Vec.{with_items}
 use Rattle.multi_hart.specs.Run.{State}
-use Rattle.debugger_pages.specs.declared.pages.PageCopy.{PageCopy}
-use Rattle.debugger_pages.specs.Pages.{Marked, is_written, lowest}
-use Rattle.debugger.specs.declared.kept.Kept.{Kept}
+use Rattle.debugger_writes.specs.declared.pages.PageCopy.{PageCopy}
+use Rattle.debugger_writes.specs.Pages.{Marked, is_written, lowest}
+use Rattle.debugger.specs.declared.kept.KeptPlaces.{KeptPlaces}
 use Rattle.debugger.specs.declared.kept.KeptPlace.{KeptPlace}
-use Rattle.debugger.specs.inner.Kept.{KeptFits, last_of}
+use Rattle.debugger.specs.inner.KeptPlaces.{KeptFits, last_of}
 use Rattle.debugger.proofs.Keeping.{fits-start}
 use Rattle.debugger.proofs.kept.put_at_start.Goals as goal
 
@@ -17,7 +17,7 @@ returns-clause-fits c = λ log memory fits.
     let filled = c.fill.new.self in
     let once = with_items filled c.mark_below.new.written in
     let twice = with_items once c.mark_behind.new.written in
-    let new : Kept = record { below = kept.below; places = kept.places; written = twice } in
+    let new : KeptPlaces = record { below = kept.below; places = kept.places; written = twice } in
     let first-long : length c.mark_below.new.written ≡ length filled.items = c.mark_below.ensures.marked.flags
     ∙ ap (λ (xs : List Bool). length xs) c.deref_mut.ensures.value in
     let first : once.items ≡ c.mark_below.new.written = with_items_is filled c.mark_below.new.written (first-long ∙ sym filled.ok.0) in

@@ -3,10 +3,10 @@ use Rattle.std.specs.Prelude.{slice_get}
 use Rattle.std.proofs.lemmas.List.{with_items_is}
 use Rattle.std.specs.Vec.{with_items}
 use Rattle.multi_hart.specs.Parts.{with_harts}
-use Rattle.debugger_pages.specs.Pages.{Holds, is_written}
-use Rattle.debugger.specs.declared.kept.Kept.{Kept}
+use Rattle.debugger_writes.specs.Pages.{Holds, is_written}
+use Rattle.debugger.specs.declared.kept.KeptPlaces.{KeptPlaces}
 use Rattle.debugger.specs.declared.kept.KeptPlace.{KeptPlace}
-use Rattle.debugger.specs.inner.Kept.{first_of, last_of}
+use Rattle.debugger.specs.inner.KeptPlaces.{first_of, last_of}
 use Rattle.debugger.proofs.Keeping.{fits-back, put-held, put-memory, put-state}
 use Rattle.debugger.proofs.kept.put_back.Goals as goal
 
@@ -41,7 +41,7 @@ returns-clause-fits c = λ log memory fits.
     subst (λ (m : List ℕ). Holds m (last_of (first_of image kept) (take (c.args.at + 1) kept.places.items))) (sym here) holds in
     let filled = c.fill.new.self in
     let marked = with_items filled c.mark_behind.new.written in
-    let new : Kept = record { below = kept.below; places = kept.places; written = marked } in
+    let new : KeptPlaces = record { below = kept.below; places = kept.places; written = marked } in
     let long : length c.mark_behind.new.written ≡ length filled.items = c.mark_behind.ensures.marked.flags
     ∙ ap (λ (xs : List Bool). length xs) c.deref_mut.ensures.value in
     let put : marked.items ≡ c.mark_behind.new.written = with_items_is filled c.mark_behind.new.written (long ∙ sym filled.ok.0) in

@@ -4,7 +4,7 @@ use Rattle.hart_core.specs.declared.harts.Status.TheVariants.{Running}
 use Rattle.multi_hart.specs.Run.{State, hart_at}
 use Rattle.turn_log.specs.TurnLog.{LogState}
 use Rattle.turn_log.specs.RunAt.{Stand}
-use Rattle.debugger_pages.proofs.Marking.{marks_none}
+use Rattle.debugger_writes.proofs.Marking.{marks_none}
 use Rattle.debugger.specs.Places.{state_at}
 use Rattle.debugger.specs.inner.Steps.{steps_of}
 use Rattle.debugger.proofs.Counting.{rest-steps, same_hart, steps-standing}

@@ -4,8 +4,8 @@ use Rattle.hart_core.specs.declared.harts.Status.TheVariants.{Running}
 use Rattle.multi_hart.specs.Run.{State, turn, hart_at, KeepsShape}
 use Rattle.multi_hart.proofs.TurnByTurn.{shape-then, shape-turn}
 use Rattle.multi_hart.proofs.Resting.{turn-resting, run-stayed, run-same-more}
-use Rattle.debugger_stores.specs.Stored.{store_in}
-use Rattle.debugger_pages.proofs.Marking.{marks_then}
+use Rattle.debugger_writes.specs.Stored.{store_in}
+use Rattle.debugger_writes.proofs.Marking.{marks_then}
 use Rattle.debugger.proofs.Counting.{running-makes-one, steps-more, steps-stayed}
 use Rattle.debugger.proofs.turns.make_counted.Goals as goal
 

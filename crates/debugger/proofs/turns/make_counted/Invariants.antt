@@ -1,6 +1,6 @@
 use Rattle.std.proofs.Common.{◌≡◌, replicate}
 use Rattle.multi_hart.specs.Run.{KeepsShape, run}
-use Rattle.debugger_pages.specs.Pages.{Marks}
+use Rattle.debugger_writes.specs.Pages.{Marks}
 use Rattle.debugger.specs.inner.Steps.{steps_of}
 use Rattle.debugger.proofs.turns.make_counted.Given as goal
 

@@ -6,7 +6,7 @@ use Rattle.multi_hart.specs.Run.{KeepsShape, State, hart_at, outcome, run, turn}
 use Rattle.multi_hart.proofs.Resting.{run-same-more}
 use Rattle.multi_hart.proofs.Stepping.{runs-after}
 use Rattle.multi_hart.proofs.TurnByTurn.{shape-run, shape-then, shape-turn}
-use Rattle.debugger_pages.proofs.Marking.{marks_then}
+use Rattle.debugger_writes.proofs.Marking.{marks_then}
 use Rattle.debugger.specs.Stops.{differs}
 use Rattle.debugger.proofs.Counting.{running-makes-one, steps-more}
 use Rattle.debugger.proofs.Passes.{quiet-more}

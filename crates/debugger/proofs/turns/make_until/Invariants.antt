@@ -2,7 +2,7 @@ use Rattle.std.proofs.Common.{◌≡◌, ◌-◌, ◌≤◌, replicate}
 use Rattle.std.specs.List.{list_any}
 use Rattle.hart_core.specs.declared.harts.Status.TheVariants.{Running}
 use Rattle.multi_hart.specs.Run.{KeepsShape, hart_at, outcome, run}
-use Rattle.debugger_pages.specs.Pages.{Marks}
+use Rattle.debugger_writes.specs.Pages.{Marks}
 use Rattle.debugger.specs.Stops.{differs}
 use Rattle.debugger.specs.inner.Steps.{IsQuietUntil, steps_of}
 use Rattle.debugger.proofs.turns.make_until.Given as goal

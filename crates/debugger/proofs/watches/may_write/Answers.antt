@@ -6,8 +6,8 @@ use Rattle.hart_core.specs.HartState.{HartState}
 use Rattle.hart_core.specs.Scalar.{illegal_fault}
 use Rattle.multi_hart.specs.Run.{hart_at, turn}
 use Rattle.multi_hart.proofs.TurnByTurn.{shape-turn}
-use Rattle.debugger_stores.specs.Stored.{places_stored, store_in}
-use Rattle.debugger_pages.proofs.Marking.{quiet_memory}
+use Rattle.debugger_writes.specs.Stored.{places_stored, store_in}
+use Rattle.debugger_writes.proofs.Marking.{quiet_memory}
 use Rattle.debugger.specs.inner.Watching.{LeavesWord}
 use Rattle.debugger.proofs.Stopping.{differs-none}
 use Rattle.debugger.proofs.Watching.{store_leaves}

@@ -8,7 +8,7 @@ use Rattle.multi_hart.proofs.TurnByTurn.{shape-run, shape-then}
 use Rattle.turn_log.proofs.RunAtLaws.{run_at-below, run_at-none, run_at-stands}
 use Rattle.turn_log.proofs.RunLaws.{few_turns_all}
 use Rattle.debugger_blame.specs.Marks.{AreMarks}
-use Rattle.debugger_blame.proofs.Passing.{stretch_taken}
+use Rattle.debugger_blame.proofs.Passing.{hart_turns_taken}
 use Rattle.debugger_blame.proofs.marks.mark_all.Goals as goal
 
 pub mark_run-requires-clause-there : goal.mark_run-requires-clause-there
@@ -47,7 +47,7 @@ runs-preserved c =
     let now = c.runs.machine in
     let inv = c.runs.invariant in
     let stand = run_at-stands turns place hart count (sym c.in-Some.ensures) in
-    let taken = stretch_taken turns place hart count stand in
+    let taken = hart_turns_taken turns place hart count stand in
     let state = c.mark_run.ensures.state in
     record {
       within = stand.within;

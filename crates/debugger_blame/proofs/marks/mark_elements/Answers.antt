@@ -4,9 +4,9 @@ use Rattle.rv_insn.specs.declared.outcomes.Outcome.TheVariants.{Stepped}
 use Rattle.hart_core.specs.Scalar.{illegal_fault}
 use Rattle.memory.specs.Access.{fetched}
 use Rattle.multi_hart.specs.Run.{hart_at, outcome}
-use Rattle.vector_codegen_sharing.specs.Turns.{is_word_in}
-use Rattle.debugger_stores.specs.Stored.{places_in, places_stored}
-use Rattle.debugger_stores.proofs.Outcomes.{store_is}
+use Rattle.work_sharing.specs.Turns.{is_word_in}
+use Rattle.debugger_writes.specs.Stored.{places_in, places_stored}
+use Rattle.debugger_writes.proofs.Outcomes.{store_is}
 use Rattle.debugger_blame.proofs.Outcomes.{not_stepped, stepped}
 use Rattle.debugger_blame.proofs.Passing.{hart_there}
 use Rattle.debugger_blame.proofs.WordsTouched.{marked_so, none_marked}

@@ -12,8 +12,8 @@ pub returns-in_default : goal.returns-in_default
 returns-in_default c =
     let start = c.args.machine.now in
     let now = c.turns.machine in
-    let hart = c.args.stretch.hart in
-    let count = c.args.stretch.count in
+    let hart = c.args.hart_turns.hart in
+    let count = c.args.hart_turns.count in
     let made = c.turns.made in
     let inv = c.turns.invariant in
     let marking = c.args.range.marking in
@@ -32,8 +32,8 @@ returns-in_default c =
 
 pub turns-preserved : goal.turns-preserved
 turns-preserved c =
-    more_made c.args.machine.now c.turns.machine c.mark_some-made.new.machine c.args.stretch.hart c.args.stretch.place c.turns.made c.mark_some-made.result
-    c.args.stretch.count
+    more_made c.args.machine.now c.turns.machine c.mark_some-made.new.machine c.args.hart_turns.hart c.args.hart_turns.place c.turns.made c.mark_some-made.result
+    c.args.hart_turns.count
     c.args.range.marking c.args.range.first c.args.marks.now c.turns.marks c.mark_some-made.new.marks c.turns.invariant
     (omega (arith, c.mark_some-made.ensures.within, c.turns.invariant.few))
     c.mark_some-made.ensures.state c.mark_some-made.ensures.shape c.mark_some-made.ensures.marks

@@ -4,7 +4,7 @@ use Rattle.std.specs.Prelude.{option_and_then}
 use Rattle.memory.specs.Access.{fetched}
 use Rattle.multi_hart.specs.Run.{hart_at}
 use Rattle.debugger_blame.specs.Marks.{mark_of}
-use Rattle.debugger_stores.specs.Stored.{store_in}
+use Rattle.debugger_writes.specs.Stored.{store_in}
 use Rattle.debugger_blame.proofs.MarksMade.{mark_made, quiet_marked, turn_marked}
 use Rattle.debugger_blame.proofs.Outcomes.{quiet_without_store}
 use Rattle.debugger_blame.proofs.Passing.{hart_there}

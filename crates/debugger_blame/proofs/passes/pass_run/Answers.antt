@@ -20,8 +20,8 @@ pub returns-in_default : goal.returns-in_default
 returns-in_default c =
     let start = c.args.machine.now in
     let now = c.turns.machine in
-    let hart = c.args.stretch.hart in
-    let count = c.args.stretch.count in
+    let hart = c.args.hart_turns.hart in
+    let count = c.args.hart_turns.count in
     let made = c.turns.made in
     let inv = c.turns.invariant in
     let below : hart < length now.harts = omega (arith, c.requires.there, inv.shape.harts) in
@@ -39,7 +39,7 @@ pub turns-preserved : goal.turns-preserved
 turns-preserved c =
     let start = c.args.machine.now in
     let now = c.turns.machine in
-    let hart = c.args.stretch.hart in
+    let hart = c.args.hart_turns.hart in
     let inv = c.turns.invariant in
     record {
       few = omega arith;
@@ -47,5 +47,5 @@ turns-preserved c =
       state = c.step-last.ensures.state ∙ ap (λ (s : State). turn s hart) inv.state ∙ sym (run-same-more start hart c.turns.made);
       blames = λ begin done from place blames. turn_added begin done c.turns.made hart c.args.address c.step-last.result
           (c.step-last.ensures.blames begin (done ++ replicate c.turns.made hart) (run_added start begin now done c.turns.made hart inv.state from)
-          (length_added done c.turns.made hart c.args.stretch.place place) (inv.blames begin done from place blames));
+          (length_added done c.turns.made hart c.args.hart_turns.place place) (inv.blames begin done from place blames));
     }

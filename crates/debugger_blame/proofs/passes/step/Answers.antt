@@ -2,7 +2,7 @@ use Rattle.std.proofs.Common.{◌≡◌, ◌∙◌, sym, true}
 use Rattle.std.specs.Prelude.{◌≢◌}
 use Rattle.rv_insn.specs.declared.outcomes.Outcome.TheVariants.{Stepped}
 use Rattle.multi_hart.specs.Run.{outcome}
-use Rattle.vector_codegen_sharing.specs.Turns.{is_word_in, written_next}
+use Rattle.work_sharing.specs.Turns.{is_word_in, written_next}
 use Rattle.debugger_blame.proofs.LastTurns.{is_blamed, not_blamed}
 use Rattle.debugger_blame.proofs.Outcomes.{stored_by, unstepped, unstored}
 use Rattle.debugger_blame.proofs.Passing.{hart_there}

@@ -4,9 +4,9 @@ use Rattle.std.specs.Prelude.{option_and_then}
 use Rattle.memory.specs.Access.{fetched}
 use Rattle.hart_core.specs.Scalar.{illegal_fault}
 use Rattle.multi_hart.specs.Run.{hart_at}
-use Rattle.vector_codegen_sharing.specs.Turns.{is_word_in}
-use Rattle.debugger_stores.specs.Stored.{places_stored, store_in}
-use Rattle.debugger_stores.proofs.Outcomes.{store_is}
+use Rattle.work_sharing.specs.Turns.{is_word_in}
+use Rattle.debugger_writes.specs.Stored.{places_stored, store_in}
+use Rattle.debugger_writes.proofs.Outcomes.{store_is}
 use Rattle.debugger_blame.proofs.passes.would_write.Goals as goal
 
 pub returns-in-Some : goal.returns-in-Some

@@ -8,7 +8,7 @@ use Rattle.lowering.specs.Registers.{TakeFew}
 use Rattle.lowering.specs.Sizes as sizes
 use Rattle.std.specs.List.{AllByRecursion}
 use Rattle.loop_ir.specs.declared.statements.Phase.{Phase}
-use Rattle.task_code_scalar.specs.declared.places.Places.{Places}
+use Rattle.task_code_scalar.specs.declared.layouts.Places.{Places}
 use Rattle.task_code_scalar.specs.Faults.{LieLow}
 use Rattle.memory.specs.Access.{most_words}
 use Rattle.vector_codegen.specs.Programs.{HasFewTasks, HasRegisters, IsProgramTo, words_asked}

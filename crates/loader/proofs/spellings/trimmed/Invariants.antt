@@ -2,7 +2,7 @@ use Rattle.std.proofs.Common.{◌≡◌, ◌≤◌, length}
 use Rattle.loader.specs.Spelling.{trimmed}
 use Rattle.loader.proofs.spellings.trimmed.Given as goal
 
--- behind the first ones there are zeros
+-- after the first ones there are zeros
 abbrev pub invariant-loop-front : goal.invariant-loop-front
 invariant-loop-front l = record {
   within : length l.kept ≤ length l.bytes;

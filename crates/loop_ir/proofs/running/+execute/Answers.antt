@@ -3,17 +3,17 @@ use Rattle.loop_ir.specs.Buffers.{planes, points_of}
 use Rattle.loop_ir.specs.Counters.{values_of}
 use Rattle.loop_ir.specs.Running.{run}
 use Rattle.loop_ir.proofs.Bound.{one_bound}
-use Rattle.loop_ir.proofs.Turns.{turns_none, turn_made, both_made, loop_left, test_passed}
+use Rattle.loop_ir.proofs.Iterations.{iterations_none, iteration_made, both_made, loop_left, test_passed}
 use Rattle.loop_ir.proofs.running.+execute.Goals as goal
 
-pub loop-turn-init : goal.loop-turn-init
-loop-turn-init t c = record { points = refl; after = turns_none _ _ }
+pub loop-iteration-init : goal.loop-iteration-init
+loop-iteration-init t c = record { points = refl; after = iterations_none _ _ }
 
-pub loop-turn-preserved : goal.loop-turn-preserved
-loop-turn-preserved t c = record {
-  points = c.execute-in-loop-turn.ensures.points ∙ c.loop-turn.invariant.points;
-  after = turn_made _ _ _ c.in-For.body _ _ c.loop-turn.turn _ _ _ (planes c.loop-turn.funcs) _
-      c.loop-turn.invariant.points c.get-in-loop-turn.ensures (one_bound _ _ _) c.loop-turn.invariant.after c.execute-in-loop-turn.ensures.after;
+pub loop-iteration-preserved : goal.loop-iteration-preserved
+loop-iteration-preserved t c = record {
+  points = c.execute-in-loop-iteration.ensures.points ∙ c.loop-iteration.invariant.points;
+  after = iteration_made _ _ _ c.in-For.body _ _ c.loop-iteration.iteration _ _ _ (planes c.loop-iteration.funcs) _
+      c.loop-iteration.invariant.points c.get-in-loop-iteration.ensures (one_bound _ _ _) c.loop-iteration.invariant.after c.execute-in-loop-iteration.ensures.after;
 }
 
 pub returns-in-Sequence-clause-after : goal.returns-in-Sequence-clause-after
@@ -26,13 +26,13 @@ returns-in-Sequence-clause-after t c =
     ∙ ap (λ own. run (points_of c.execute.new.funcs) (planes c.args.inputs.now) own (values_of c.args.bindings.now) (planes c.execute.new.funcs))
     c.get-in-Sequence.ensures)
 
-pub returns-after-loop-turn-clause-points : goal.returns-after-loop-turn-clause-points
-returns-after-loop-turn-clause-points t c = c.loop-turn.invariant.points
+pub returns-after-loop-iteration-clause-points : goal.returns-after-loop-iteration-clause-points
+returns-after-loop-iteration-clause-points t c = c.loop-iteration.invariant.points
 
-pub returns-after-loop-turn-clause-after : goal.returns-after-loop-turn-clause-after
-returns-after-loop-turn-clause-after t c =
-    let all : c.loop-turn.turn ≡ c.in-For.count = omega arith in
-    loop_left c.args.stmt.now _ _ _ _ _ _ _ c.loop-turn.turn _ _ c.in-For.is all c.loop-turn.invariant.after
+pub returns-after-loop-iteration-clause-after : goal.returns-after-loop-iteration-clause-after
+returns-after-loop-iteration-clause-after t c =
+    let all : c.loop-iteration.iteration ≡ c.in-For.count = omega arith in
+    loop_left c.args.stmt.now _ _ _ _ _ _ _ c.loop-iteration.iteration _ _ c.in-For.is all c.loop-iteration.invariant.after
 
 pub returns-then-value-extent-clause-after : goal.returns-then-value-extent-clause-after
 returns-then-value-extent-clause-after t c =

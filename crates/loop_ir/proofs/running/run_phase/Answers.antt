@@ -1,10 +1,10 @@
 use Rattle.std.proofs.Common.{refl, ◌∙◌}
 use Rattle.loop_ir.specs.Buffers.{planes}
-use Rattle.loop_ir.proofs.Turns.{turns_none, task_made}
+use Rattle.loop_ir.proofs.Iterations.{iterations_none, task_made}
 use Rattle.loop_ir.proofs.running.run_phase.Goals as goal
 
 pub loop-task-init : goal.loop-task-init
-loop-task-init c = record { points = refl; after = turns_none _ _ }
+loop-task-init c = record { points = refl; after = iterations_none _ _ }
 
 pub loop-task-preserved : goal.loop-task-preserved
 loop-task-preserved c = record {

@@ -3,7 +3,7 @@ use Rattle.loop_ir.specs.Buffers.{planes, points_of}
 use Rattle.loop_ir.specs.Counters.{with}
 use Rattle.loop_ir.specs.Running.{task_values}
 use Rattle.loop_ir.proofs.Bound.{none_bound, one_bound}
-use Rattle.loop_ir.proofs.Turns.{task_done}
+use Rattle.loop_ir.proofs.Iterations.{task_done}
 use Rattle.loop_ir.proofs.running.run_task.Goals as goal
 
 pub returns-in-Some-clause-after : goal.returns-in-Some-clause-after

@@ -36,5 +36,5 @@ returns-in_ok-made-in-len1-up t c =
       need_is =
           c.in_ok-made-in-len1-up.ensures.needs;
       size_is = c.in_ok-made-in-len1-up.ensures.sizes;
-    }) c.in_ok-made-in-len1-up.ensures.rounds
+    }) c.in_ok-made-in-len1-up.ensures.loop_lanes
     c.in_ok-made-in-len1-up.ensures.in_runs)

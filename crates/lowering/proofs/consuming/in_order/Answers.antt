@@ -3,9 +3,9 @@ use Rattle.std.specs.Prelude.{◌&&◌, max}
 use Rattle.loop_ir.specs.declared.statements.Stmt.{Stmt}
 use Rattle.loop_ir.specs.Depths.{depth}
 use Rattle.loop_ir.specs.Needs.{greatest_need}
-use Rattle.loop_ir.specs.Rounds.{Rounds, may_be_at_once}
-use Rattle.loop_ir.proofs.Rounds.{rounds_sequence}
-use Rattle.lowering.specs.Rounds.{at_once_first}
+use Rattle.loop_ir.specs.LoopLanes.{LoopLanes, may_be_at_once}
+use Rattle.loop_ir.proofs.LoopLanes.{lanes_sequence}
+use Rattle.lowering.specs.LoopLanes.{at_once_first}
 use Rattle.loop_ir.specs.Running.{run}
 use Rattle.loop_ir.specs.Runs.{Runs, is_about, stores_in_runs}
 use Rattle.loop_ir.proofs.Runs.{about_sequence, runs_sequence}
@@ -81,7 +81,7 @@ returns-in_ok-rest-in-Some c = record {
       ∙ ap (λ (s : Stmt). whole_size s + whole_size c.args.rest) c.in_ok-first-in-Some.ensures
       ∙ ap (λ (o : Option Stmt). size_first o + whole_size c.args.rest) (sym c.in-Some.is);
   at_once = λ reads values.
-      ap (λ (own : Rounds). own.may_be_at_once values) (rounds_sequence reads c.in_ok-first-in-Some.first c.in_ok-rest-in-Some.rest)
+      ap (λ (own : LoopLanes). own.may_be_at_once values) (lanes_sequence reads c.in_ok-first-in-Some.first c.in_ok-rest-in-Some.rest)
       ∙ ap (λ (s : Stmt). may_be_at_once reads c.in_ok-first-in-Some.first values && may_be_at_once reads s values) c.in_ok-rest-in-Some.ensures
       ∙ ap (λ (s : Stmt). may_be_at_once reads s values && may_be_at_once reads c.args.rest values) c.in_ok-first-in-Some.ensures
       ∙ ap (λ (o : Option Stmt). at_once_first reads o values && may_be_at_once reads c.args.rest values) (sym c.in-Some.is);

@@ -7,7 +7,7 @@ use Rattle.lowering.specs.Updates.{DoesUpdate, AreSoundLoops}
 use Rattle.lowering.proofs.Alone.{both_alone}
 use Rattle.lowering.proofs.UpdateFilling.{computed_in, corner_there, one_more_stage, one_more_sound, same_corners, nothing_there}
 use Rattle.std.proofs.lemmas.Bool.{and_from}
-use Rattle.loop_ir.specs.Rounds.{may_be_at_once}
+use Rattle.loop_ir.specs.LoopLanes.{may_be_at_once}
 use Rattle.loop_ir.specs.Runs.{is_about}
 use Rattle.halide_pipeline.specs.declared.definitions.Update.{Update}
 use Rattle.schedule_lines.specs.declared.stages.Stage.{Stage}

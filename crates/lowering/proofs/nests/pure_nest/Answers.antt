@@ -3,7 +3,7 @@ use Rattle.schedule_lines.specs.declared.stages.Loop.{Loop}
 use Rattle.schedule_lines.specs.declared.stages.Split.{Split}
 use Rattle.schedule_loops.specs.Visits.{AreSplits}
 use Rattle.bounds.specs.Extents.{extents_of}
-use Rattle.schedule.specs.declared.standings.Place.TheVariants as places
+use Rattle.schedule.specs.declared.placements.ComputeLevel.TheVariants as places
 use Rattle.schedule_loops.specs.declared.extents.Extents.{Extents}
 use Rattle.schedule_loops.specs.Reach.{wholes}
 use Rattle.lowering_nests.specs.Nests.{AreFew, Repeats}
@@ -11,10 +11,10 @@ use Rattle.lowering.proofs.Alone.{pure_alone, nest_alone}
 use Rattle.lowering.proofs.Facts.{is_box, splits, few, few_loops, produced_before, staged}
 use Rattle.lowering.proofs.Filling.{fills, touches}
 use Rattle.bounds_laws.specs.Laws.{IsComputed}
-use Rattle.schedule.specs.declared.standings.Place.{Place}
+use Rattle.schedule.specs.declared.placements.ComputeLevel.{ComputeLevel}
 use Rattle.lowering.proofs.Registers.{pure-most}
-use Rattle.lowering_nests.specs.Rounds.{MayBeUnder}
-use Rattle.lowering.proofs.PureRounds.{pure_under}
+use Rattle.lowering_nests.specs.LoopLanes.{MayBeUnder}
+use Rattle.lowering.proofs.PureLanes.{pure_under}
 use Rattle.bounds_weights.specs.Weight.{flags_of, nodes_in}
 use Rattle.loop_ir.specs.Sizes.{whole_size}
 use Rattle.lowering.proofs.Copies.{nest-light, same-nest}
@@ -102,7 +102,7 @@ pub returns-clause-needs : goal.returns-clause-needs
 returns-clause-needs c =
     let produced = produced_before c.args.plan.now.pipeline c.args.plan.now.schedule c.schedule-schedule.ensures.plan.accepted c.args.computed.now.place
     c.requires.parts.standing c.requires.parts.there c.args.at c.requires.parts.placed_is in
-    let computed = subst (λ (p : Place). IsComputed c.args.computed.now.place p) (sym c.requires.parts.placed_is) produced in
+    let computed = subst (λ (p : ComputeLevel). IsComputed c.args.computed.now.place p) (sym c.requires.parts.placed_is) produced in
     let same = c.in_ok-made.ensures.needs in
     let few = c.in_ok-store.ensures.needs in
     pure-most c.args.plan.now.pipeline c.args.plan.now.schedule c.store_of.ensures.rules c.args.computed.now.place c.args.computed.now.func.now
@@ -117,7 +117,7 @@ returns-clause-at_once c = λ reads values small.
     c.args.computed.now.plan.now c.args.computed.now.own.now c.schedule-schedule.ensures.plan.accepted c.schedule-schedule.ensures.plan.boxes
     (places.At c.args.at) produced c.requires.parts in
     let store = c.in_ok-store.ensures.stores in
-    c.in_ok-made.ensures.rounds [] c.in_ok-store.ensures.leaf
+    c.in_ok-made.ensures.loop_lanes [] c.in_ok-store.ensures.leaf
     (subst (λ (ls : List Loop). MayBeUnder c.args.computed.now.place c.extents_of-extents.result c.as_slice.result.now ls [] c.in_ok-store.store)
     (sym c.as_slice-2.ensures)
     (subst (λ (l : List Split). MayBeUnder c.args.computed.now.place c.extents_of-extents.result l c.args.computed.now.plan.now.pure.loops []

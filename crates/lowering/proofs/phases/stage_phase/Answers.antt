@@ -10,7 +10,7 @@ returns-in_default c =
     c.args.computed.now.plan.now c.args.computed.now.own.now c.args.number c.in_ok-phase.phase (omega (arith, c.in_default.ensures))
     (Pure c.in_ok-phase.phase c.in_ok-phase.ensures.tasks c.in_ok-phase.ensures.private c.in_ok-phase.ensures.bytes c.in_ok-phase.ensures.stage
     c.in_ok-phase.ensures.touches ((c.in_ok-phase.ensures.few, (c.in_ok-phase.ensures.needs, c.in_ok-phase.ensures.few_tasks)), c.in_ok-phase.ensures.light)
-    c.in_ok-phase.ensures.stores c.in_ok-phase.ensures.rounds c.in_ok-phase.ensures.in_runs)
+    c.in_ok-phase.ensures.stores c.in_ok-phase.ensures.loop_lanes c.in_ok-phase.ensures.in_runs)
 
 pub returns-in_default-get : goal.returns-in_default-get
 returns-in_default-get c = let past = past_end c.args.computed.now.func.now.updates c.in-Some.at (sym c.in_default-get.ensures.value) in
@@ -34,4 +34,4 @@ returns c =
       update-light c.args.plan.now.pipeline c.args.plan.now.schedule c.args.plan.now.boxes c.args.computed.now.place c.args.computed.now.func.now
           c.args.computed.now.plan.now c.in-Some.at c.in-Some-get.update.now c.in-Some-get-2.stage.now c.in_ok-phase-2.phase (sym c.in-Some-get.ensures.value)
           (sym c.in-Some-get-2.ensures.value) c.in_ok-phase-2.ensures.sizes,
-    ) c.in_ok-phase-2.ensures.stores c.in_ok-phase-2.ensures.rounds)
+    ) c.in_ok-phase-2.ensures.stores c.in_ok-phase-2.ensures.loop_lanes)

@@ -2,8 +2,8 @@ use Rattle.std.proofs.Common.{◌≤◌, ◌+◌, None, Option, length, sym, ap,
 use Rattle.schedule.specs.declared.schedules.Schedule.{Schedule}
 use Rattle.halide_pipeline.specs.Pipelines.{Pipeline}
 use Rattle.halide_pipeline.specs.WellFormed.{IsWellFormed}
-use Rattle.schedule.specs.declared.standings.Place.{Place}
-use Rattle.schedule.specs.declared.standings.Place.TheVariants as places
+use Rattle.schedule.specs.declared.placements.ComputeLevel.{ComputeLevel}
+use Rattle.schedule.specs.declared.placements.ComputeLevel.TheVariants as places
 use Rattle.schedule_loops.specs.declared.extents.Extents.{Extents}
 use Rattle.schedule_loops.specs.Visits as iterations
 use Rattle.bounds_laws.specs.Laws.{IsComputed}
@@ -20,10 +20,10 @@ use Rattle.lowering.proofs.SoundTasks.{touches}
 use Rattle.lowering.proofs.StoredTasks.{stores_its_own, stores_in_its_runs}
 use Rattle.lowering.proofs.Tasks.{does_phase}
 use Rattle.lowering.proofs.Registers.{pure-most}
-use Rattle.lowering_nests.proofs.Few.{few_turns}
-use Rattle.lowering.proofs.ConsumerRounds.{body_at_once}
-use Rattle.lowering.proofs.PureRounds.{pure_under}
-use Rattle.lowering.proofs.TaskRounds.{outside_of, loops_by, tasks_at_once}
+use Rattle.lowering_nests.proofs.Few.{iterations_few}
+use Rattle.lowering.proofs.ConsumerLanes.{body_at_once}
+use Rattle.lowering.proofs.PureLanes.{pure_under}
+use Rattle.lowering.proofs.TaskLanes.{outside_of, loops_by, tasks_at_once}
 use Rattle.lowering.proofs.Facts.{staged}
 use Rattle.schedule_loops.proofs.FirstLoops.{plain, sound_made}
 use Rattle.bounds_weights.specs.Weight.{flags_of, nodes_in, all_copies}
@@ -165,15 +165,15 @@ returns-clause-few c =
 
 pub returns-clause-needs : goal.returns-clause-needs
 returns-clause-needs c =
-    let computed = subst (λ (p : Place). IsComputed c.args.computed.now.place p) (sym c.requires.at.placed_is) tt in
+    let computed = subst (λ (p : ComputeLevel). IsComputed c.args.computed.now.place p) (sym c.requires.at.placed_is) tt in
     body_need c.args.plan.now.pipeline c.args.plan.now.schedule c.args.plan.now.boxes c.args.computed.now.place c.args.computed.now.plan.now.pure
     c.extents_of-extents.result c.in_ok-store.store c.in_ok-body.body c.in_ok-body.ensures
     (pure-most c.args.plan.now.pipeline c.args.plan.now.schedule (subst IsWellFormed c.pipeline.ensures.value c.inputs.ensures.rules) c.args.computed.now.place
     c.args.computed.now.func.now c.args.computed.now.plan.now c.requires.at.standing c.requires.at.func_is c.requires.at.plan_is c.requires.at.there
     computed _ c.in_ok-store.ensures.needs)
 
-pub returns-clause-rounds : goal.returns-clause-rounds
-returns-clause-rounds c =
+pub returns-clause-loop_lanes : goal.returns-clause-loop_lanes
+returns-clause-loop_lanes c =
     let facts = staged c.args.plan.now.pipeline c.args.plan.now.schedule c.args.plan.now.boxes c.args.computed.now.place c.args.computed.now.func.now
     c.args.computed.now.plan.now c.args.computed.now.own.now c.schedule-schedule.ensures.plan.accepted c.schedule-schedule.ensures.plan.boxes places.Root tt
     c.requires.at in
@@ -184,12 +184,12 @@ returns-clause-rounds c =
     c.args.computed.now.plan.now c.args.computed.now.own.now c.schedule-schedule.ensures.plan.accepted c.schedule-schedule.ensures.plan.boxes places.Root tt
     c.requires.at in
     let extents = c.extents_of-extents.result in
-    let turns = few_turns extents c.args.computed.now.plan.now.pure.splits (subst AreFew (sym c.extents_of-extents.ensures) small) some in
+    let small = iterations_few extents c.args.computed.now.plan.now.pure.splits (subst AreFew (sym c.extents_of-extents.ensures) small) some in
     let store = c.in_ok-store.ensures.stores in
     let body = c.in_ok-body.ensures in
     let stage = c.args.computed.now.plan.now.pure in
     let outside = outside_of c.args.computed.now.place extents stage facts.1 (iterations.parallel stage) in
-    tasks_at_once c.args.computed.now.place extents stage facts.1 turns
+    tasks_at_once c.args.computed.now.place extents stage facts.1 small
     (record {
       tasks = c.in_ok-tasks.tasks;
       counter = c.task_counter-counter.result;
@@ -200,7 +200,7 @@ returns-clause-rounds c =
     })
     c.in_ok-tasks.ensures.is c.task_counter-counter.ensures
     (body_at_once c.args.plan.now.pipeline c.args.plan.now.schedule c.args.plan.now.boxes c.schedule-schedule.ensures.plan.accepted c.args.computed.now.place
-    c.args.computed.now.func.now c.args.computed.now.plan.now c.requires.at.plan_is extents facts.0 facts.1 turns
+    c.args.computed.now.func.now c.args.computed.now.plan.now c.requires.at.plan_is extents facts.0 facts.1 small
     body.leaf c.in_ok-store.store body.bound c.in_ok-store.ensures.leaf (body.leaf_is c.in_ok-store.ensures.leaf)
     (λ inside around loops_are. pure_under c.args.plan.now.pipeline c.args.plan.now.schedule (subst IsWellFormed c.pipeline.ensures.value
     c.inputs.ensures.rules) c.args.computed.now.place c.args.computed.now.func.now c.requires.at.func_is store.corners store.corner c.in_ok-store.store

@@ -2,7 +2,7 @@ use Rattle.bounds_inlining.specs.Inlining.{flagged}
 use Rattle.loop_ir.proofs.Depths.{depth_store}
 use Rattle.lowering.proofs.Registers.{pure-store}
 use Rattle.lowering.proofs.Storing.{stores_pure, hits_pure, misses_pure, sound_pure}
-use Rattle.lowering.proofs.PureRounds.{store_leaf}
+use Rattle.lowering.proofs.PureLanes.{store_leaf}
 use Rattle.std.proofs.Common.{refl, ◌∙◌}
 use Rattle.std.proofs.lemmas.Bool.{eq-eqb}
 use Rattle.loop_ir.proofs.Runs.{about_store}

@@ -3,7 +3,7 @@ use Rattle.bounds_inlining.specs.Inlining.{flagged}
 use Rattle.loop_ir.proofs.Depths.{depth_store}
 use Rattle.lowering.proofs.Registers.{store-need}
 use Rattle.lowering.proofs.UpdateStoring.{stores_update, hits_update, sound_update}
-use Rattle.lowering.proofs.PureRounds.{store_leaf}
+use Rattle.lowering.proofs.PureLanes.{store_leaf}
 use Rattle.std.proofs.lemmas.Bool.{eq-eqb}
 use Rattle.loop_ir.proofs.Runs.{about_store}
 use Rattle.lowering.proofs.Sizes.{update-size}

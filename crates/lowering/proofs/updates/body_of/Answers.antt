@@ -6,21 +6,21 @@ use Rattle.schedule_loops.specs.Visits as iterations
 use Rattle.lowering_nests.specs.Nests.{Repeats}
 use Rattle.schedule_loops.specs.Reach.{wholes}
 use Rattle.loop_ir.specs.Depths.{depth}
-use Rattle.lowering_nests.specs.Rounds.{IsLeaf, MayBeAtOnce, MayBeUnder}
+use Rattle.lowering_nests.specs.LoopLanes.{IsLeaf, MayBeAtOnce, MayBeUnder}
 use Rattle.loop_ir.specs.Sizes.{whole_size}
 use Rattle.lowering.specs.PurePhases as pure
 use Rattle.lowering.proofs.Copies.{same-nest}
 use Rattle.lowering.proofs.updates.body_of.Goals as goal
 
-pub returns-clause-rounds : goal.returns-clause-rounds
-returns-clause-rounds c =
+pub returns-clause-loop_lanes : goal.returns-clause-loop_lanes
+returns-clause-loop_lanes c =
     subst (λ (l : List Split). (outside : List Loop) → IsLeaf c.args.store
     → MayBeUnder c.args.place c.args.extents l (pure.inside_of (iterations.parallel c.args.stage.now) c.args.stage.now.loops) outside c.args.store
     → MayBeAtOnce c.args.place (counts c.args.extents l) outside c.in_ok-made.made) c.as_slice-splits.ensures
     (subst (λ (ls : List Loop). (outside : List Loop) → IsLeaf c.args.store → MayBeUnder c.args.place c.args.extents c.as_slice-splits.result.now ls outside
     c.args.store
     → MayBeAtOnce c.args.place (counts c.args.extents c.as_slice-splits.result.now) outside c.in_ok-made.made) c.inside_parallel.ensures
-    c.in_ok-made.ensures.rounds)
+    c.in_ok-made.ensures.loop_lanes)
 
 pub returns-clause-sizes : goal.returns-clause-sizes
 returns-clause-sizes c =

@@ -2,7 +2,7 @@ use Rattle.std.proofs.Common.{List, subst, sym, ap, ◌∙◌}
 use Rattle.bounds.specs.declared.verdict.Boxes.{Boxes}
 use Rattle.schedule.specs.declared.schedules.Schedule.{Schedule}
 use Rattle.schedule.specs.declared.plans.FuncPlan.{FuncPlan}
-use Rattle.schedule.specs.declared.standings.Place.TheVariants as places
+use Rattle.schedule.specs.declared.placements.ComputeLevel.TheVariants as places
 use Rattle.bounds_inlining.specs.Inlining.{flagged}
 use Rattle.bounds_weights.specs.Weight.{flags_of}
 use Rattle.lowering_expressions.specs.declared.calls.Corner.{Corner}

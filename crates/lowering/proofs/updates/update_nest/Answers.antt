@@ -10,8 +10,8 @@ use Rattle.lowering.proofs.UpdateNests.{does_nest, sound_nest}
 use Rattle.lowering.proofs.UpdateStages.{splits, few, few_loops, is_box, place_small}
 use Rattle.lowering.proofs.Registers.{update-most}
 use Rattle.schedule_loops.specs.declared.extents.Extents.{Extents}
-use Rattle.lowering_nests.specs.Rounds.{MayBeUnder}
-use Rattle.lowering.proofs.RoundsApart.{update_under}
+use Rattle.lowering_nests.specs.LoopLanes.{MayBeUnder}
+use Rattle.lowering.proofs.LanesApart.{update_under}
 use Rattle.lowering.proofs.UpdateStages.{staged}
 use Rattle.halide_pipeline.specs.declared.expressions.Source.TheVariants as sources
 use Rattle.lowering_expressions.proofs.Sizing.{short_of}
@@ -101,7 +101,7 @@ returns-clause-at_once c = λ reads values small.
     let facts = staged c.args.plan.now.pipeline c.args.plan.now.schedule c.pipeline.ensures.plan.accepted c.args.of.now.computed.place
     c.args.of.now.computed.func.now c.args.of.now.computed.plan.now c.requires.computed.standing c.requires.computed.func_is c.requires.computed.there
     c.args.of.now.at c.args.of.now.update.now c.args.of.now.stage.now c.requires.at in
-    c.in_ok-made.ensures.rounds [] c.in_ok-store.ensures.leaf
+    c.in_ok-made.ensures.loop_lanes [] c.in_ok-store.ensures.leaf
     (subst (λ (e : Extents). MayBeUnder c.args.of.now.computed.place e c.args.of.now.stage.now.splits c.args.of.now.stage.now.loops [] c.in_ok-store.store)
     (sym c.update_extents-extents.ensures)
     (update_under c.args.plan.now.pipeline c.args.plan.now.schedule (subst IsWellFormed c.pipeline.ensures.value c.funcs-funcs.ensures.rules)

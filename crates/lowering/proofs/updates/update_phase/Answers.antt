@@ -1,6 +1,6 @@
 use Rattle.std.proofs.Common.{length, ◌≤◌, ◌+◌, Option, Some, sym, ap, subst, ◌∙◌, arith, refl}
 use Rattle.halide_pipeline.specs.WellFormed.{IsWellFormed}
-use Rattle.schedule.specs.declared.standings.Place.{Place}
+use Rattle.schedule.specs.declared.placements.ComputeLevel.{ComputeLevel}
 use Rattle.schedule_loops.specs.declared.extents.Extents.{Extents}
 use Rattle.schedule_loops.specs.Visits as iterations
 use Rattle.schedule_loops.specs.Reach.{wholes}
@@ -15,10 +15,10 @@ use Rattle.lowering.proofs.UpdateStages.{splits, few, few_loops, place_small}
 use Rattle.lowering.proofs.SoundConsumers.{dark, dark_words}
 use Rattle.lowering.proofs.UpdateTasks.{does_update, touches, names_owned, task_stores}
 use Rattle.lowering.proofs.Registers.{update-most}
-use Rattle.lowering_nests.specs.Rounds.{MayBeUnder}
-use Rattle.lowering_nests.proofs.Few.{few_turns}
-use Rattle.lowering.proofs.RoundsApart.{update_under, counted_at_root}
-use Rattle.lowering.proofs.TaskRounds.{outside_of, loops_by, tasks_at_once}
+use Rattle.lowering_nests.specs.LoopLanes.{MayBeUnder}
+use Rattle.lowering_nests.proofs.Few.{iterations_few}
+use Rattle.lowering.proofs.LanesApart.{update_under, counted_at_root}
+use Rattle.lowering.proofs.TaskLanes.{outside_of, loops_by, tasks_at_once}
 use Rattle.lowering.proofs.UpdateStages.{staged}
 use Rattle.bounds_weights.specs.Weight.{flags_of, update_nodes}
 use Rattle.loop_ir.specs.Sizes.{whole_size}
@@ -53,7 +53,7 @@ body_of-requires-clause-few c =
     c.pipeline.ensures.plan.accepted c.pipeline.ensures.plan.boxes c.args.of.now.computed.place c.args.of.now.computed.func.now
     c.args.of.now.computed.own.now c.requires.root.func_is c.requires.root.box_is
     c.args.of.now.at c.args.of.now.update.now c.requires.at.update_is c.requires.root.standing c.requires.root.there
-    (subst (λ (p : Place). IsComputed c.args.of.now.computed.place p) (sym c.requires.root.placed_is) tt))
+    (subst (λ (p : ComputeLevel). IsComputed c.args.of.now.computed.place p) (sym c.requires.root.placed_is) tt))
 
 -- src/updates.rt:123:17
 pub task_count-requires-clause-few : goal.task_count-requires-clause-few
@@ -63,7 +63,7 @@ task_count-requires-clause-few c =
     c.pipeline.ensures.plan.accepted c.pipeline.ensures.plan.boxes c.args.of.now.computed.place c.args.of.now.computed.func.now
     c.args.of.now.computed.own.now c.requires.root.func_is c.requires.root.box_is
     c.args.of.now.at c.args.of.now.update.now c.requires.at.update_is c.requires.root.standing c.requires.root.there
-    (subst (λ (p : Place). IsComputed c.args.of.now.computed.place p) (sym c.requires.root.placed_is) tt))
+    (subst (λ (p : ComputeLevel). IsComputed c.args.of.now.computed.place p) (sym c.requires.root.placed_is) tt))
 
 pub task_count-requires-clause-splits : goal.task_count-requires-clause-splits
 task_count-requires-clause-splits c =
@@ -174,7 +174,7 @@ returns-clause-few c =
 
 pub returns-clause-needs : goal.returns-clause-needs
 returns-clause-needs c =
-    let computed = subst (λ (p : Place). IsComputed c.args.of.now.computed.place p) (sym c.requires.root.placed_is) tt in
+    let computed = subst (λ (p : ComputeLevel). IsComputed c.args.of.now.computed.place p) (sym c.requires.root.placed_is) tt in
     let same = c.in_ok-body.ensures.needs in
     let few = c.in_ok-store.ensures.needs in
     update-most c.args.plan.now.pipeline c.args.plan.now.schedule (subst IsWellFormed c.pipeline.ensures.value c.inputs.ensures.rules)
@@ -182,8 +182,8 @@ returns-clause-needs c =
     c.requires.root.plan_is c.requires.root.there computed
     c.args.of.now.at c.args.of.now.update.now c.args.of.now.stage.now c.requires.at _ (omega (arith, same, few))
 
-pub returns-clause-rounds : goal.returns-clause-rounds
-returns-clause-rounds c =
+pub returns-clause-loop_lanes : goal.returns-clause-loop_lanes
+returns-clause-loop_lanes c =
     let facts = staged c.args.plan.now.pipeline c.args.plan.now.schedule c.pipeline.ensures.plan.accepted c.args.of.now.computed.place
     c.args.of.now.computed.func.now c.args.of.now.computed.plan.now c.requires.root.standing c.requires.root.func_is c.requires.root.there c.args.of.now.at
     c.args.of.now.update.now c.args.of.now.stage.now c.requires.at in
@@ -194,13 +194,13 @@ returns-clause-rounds c =
     c.pipeline.ensures.plan.accepted c.pipeline.ensures.plan.boxes c.args.of.now.computed.place c.args.of.now.computed.func.now
     c.args.of.now.computed.own.now c.requires.root.func_is c.requires.root.box_is
     c.args.of.now.at c.args.of.now.update.now c.requires.at.update_is c.requires.root.standing c.requires.root.there
-    (subst (λ (p : Place). IsComputed c.args.of.now.computed.place p) (sym c.requires.root.placed_is) tt) in
+    (subst (λ (p : ComputeLevel). IsComputed c.args.of.now.computed.place p) (sym c.requires.root.placed_is) tt) in
     let store = c.in_ok-store.ensures.stores in
     let is = c.update_extents-extents.ensures in
     let extents = c.update_extents-extents.result in
     let stage = c.args.of.now.stage.now in
     let outside = outside_of c.args.of.now.computed.place extents stage facts.1 (iterations.parallel stage) in
-    tasks_at_once c.args.of.now.computed.place extents stage facts.1 (few_turns extents stage.splits (subst AreFew (sym is) small) some)
+    tasks_at_once c.args.of.now.computed.place extents stage facts.1 (iterations_few extents stage.splits (subst AreFew (sym is) small) some)
     (record {
       tasks = c.in_ok-tasks.tasks;
       counter = c.task_counter-counter.result;
@@ -210,7 +210,7 @@ returns-clause-rounds c =
           c.in_ok-bytes.bytes;
     })
     c.in_ok-tasks.ensures.is c.task_counter-counter.ensures
-    (c.in_ok-body.ensures.rounds outside c.in_ok-store.ensures.leaf
+    (c.in_ok-body.ensures.loop_lanes outside c.in_ok-store.ensures.leaf
     (subst (λ (e : Extents). MayBeUnder c.args.of.now.computed.place e stage.splits (pure.inside_of (iterations.parallel stage) stage.loops) outside
     c.in_ok-store.store) (sym is)
     (update_under c.args.plan.now.pipeline c.args.plan.now.schedule (subst IsWellFormed c.pipeline.ensures.value c.inputs.ensures.rules)

@@ -1,7 +1,7 @@
 use Rattle.lowering_nests.proofs.Nesting.{nested_repeats}
 use Rattle.schedule_loops.specs.Visits as loops
 use Rattle.loop_ir.specs.Sizes.{whole_size}
-use Rattle.lowering_nests.proofs.Rounds.{goes_around_more}
+use Rattle.lowering_nests.proofs.LoopLanes.{goes_around_more}
 use Rattle.lowering_nests.proofs.Sizing.{nested_size}
 use Rattle.lowering_nests.proofs.loops.+with_loops.Goals as goal
 
@@ -11,11 +11,11 @@ returns-in_ok-made-in-len1-up-clause-repeats t c =
     c.in_ok-inner-in-len1-up.inner c.args.body
     c.in-len1-up.len_at_least c.own-item.is c.in_ok-inner-in-len1-up.ensures.repeats c.in_ok-made-in-len1-up.ensures.repeats
 
-pub returns-in_ok-made-in-len1-up-clause-rounds : goal.returns-in_ok-made-in-len1-up-clause-rounds
-returns-in_ok-made-in-len1-up-clause-rounds t c =
+pub returns-in_ok-made-in-len1-up-clause-loop_lanes : goal.returns-in_ok-made-in-len1-up-clause-loop_lanes
+returns-in_ok-made-in-len1-up-clause-loop_lanes t c =
     goes_around_more c.args.func (loops.counts c.args.sizes.now.extents c.args.sizes.now.splits) c.args.loops.now c.own-item.result c.in_ok-made-in-len1-up.made
     c.in_ok-inner-in-len1-up.inner c.args.body
-    c.in-len1-up.len_at_least c.own-item.is c.in_ok-inner-in-len1-up.ensures.rounds c.in_ok-made-in-len1-up.ensures.rounds
+    c.in-len1-up.len_at_least c.own-item.is c.in_ok-inner-in-len1-up.ensures.loop_lanes c.in_ok-made-in-len1-up.ensures.loop_lanes
 
 pub returns-in_ok-made-in-len1-up-clause-sizes : goal.returns-in_ok-made-in-len1-up-clause-sizes
 returns-in_ok-made-in-len1-up-clause-sizes t c =

@@ -4,20 +4,20 @@ use Rattle.schedule_loops.specs.Visits.{upto}
 use Rattle.loop_ir.specs.Sizes.{whole_size}
 use Rattle.lowering_nests.specs.Nests.{Repeats}
 use Rattle.lowering_nests.proofs.Repeating.{loop_repeats}
-use Rattle.lowering_nests.proofs.Rounds.{goes_around}
+use Rattle.lowering_nests.proofs.LoopLanes.{goes_around}
 use Rattle.lowering_nests.proofs.Runs.{loop_about, loop_runs}
 use Rattle.lowering_nests.proofs.Sizing.{once_size}
 use Rattle.lowering_nests.proofs.loops.loop_once.Goals as goal
 
 pub returns-clause-repeats : goal.returns-clause-repeats
 returns-clause-repeats c = λ leaf list repeats.
-    subst (λ (n : ℕ). Repeats c.args.func c.in_ok-made.made leaf (λ (outer : loops.Values). upto n (λ (turn : ℕ). list (loops.with c.args.own.now.id turn
+    subst (λ (n : ℕ). Repeats c.args.func c.in_ok-made.made leaf (λ (outer : loops.Values). upto n (λ (iteration : ℕ). list (loops.with c.args.own.now.id iteration
     outer)))) c.extent_of-count.ensures.is
     (loop_repeats c.args.func c.in_ok-made.made c.args.body c.args.own.now.id c.extent_of-count.result c.extent_of-count.ensures.few c.in_ok-made.ensures.runs
     c.in_ok-made.ensures.traces c.in_ok-made.ensures.sound leaf list repeats)
 
-pub returns-clause-rounds : goal.returns-clause-rounds
-returns-clause-rounds c =
+pub returns-clause-loop_lanes : goal.returns-clause-loop_lanes
+returns-clause-loop_lanes c =
     goes_around c.args.func (loops.counts c.args.sizes.now.extents c.args.sizes.now.splits) c.args.own.now c.args.body c.in_ok-made.made c.kind_of-kind.result
     c.kind_of-kind.ensures.vectorized
     c.extent_of-count.result c.extent_of-count.ensures.is c.extent_of-count.ensures.few c.in_ok-made.ensures.at_once

@@ -5,7 +5,7 @@ use Rattle.loop_ir.specs.declared.statements.Stmt.TheOpen as layer
 use Rattle.loop_ir.specs.Counters.{with}
 use Rattle.loop_ir.specs.Depths.{depth}
 use Rattle.loop_ir.specs.Needs.{greatest_need}
-use Rattle.loop_ir.specs.Rounds.{rounds, rounds_at}
+use Rattle.loop_ir.specs.LoopLanes.{loop_lanes, lanes_at}
 use Rattle.loop_ir.specs.Running.{run, whole_value}
 use Rattle.loop_ir.specs.Runs.{is_about}
 use Rattle.loop_ir.specs.Sizes.{whole_size}
@@ -13,7 +13,7 @@ use Rattle.loop_ir.specs.Soundness.{is_sound}
 use Rattle.loop_ir.specs.Stores.{trace}
 use Rattle.loop_ir.proofs.Depths.{depth_bind}
 use Rattle.loop_ir.proofs.Needs.{greatest_bind}
-use Rattle.loop_ir.proofs.Rounds.{rounds_bind}
+use Rattle.loop_ir.proofs.LoopLanes.{lanes_bind}
 use Rattle.loop_ir.proofs.Runs.{about_bind}
 use Rattle.loop_ir.proofs.Sizes.{whole_bind}
 use Rattle.loop_ir.proofs.Sound.{sound_bind}
@@ -45,10 +45,10 @@ returns-clause-depth c = depth_bind c.args.counter c.args.whole c.args.extent c.
 pub returns-clause-needs : goal.returns-clause-needs
 returns-clause-needs c = greatest_bind c.args.counter c.args.whole c.args.extent c.in_ok-body.body ∙ ap greatest_need c.in_ok-body.ensures
 
-pub returns-clause-rounds : goal.returns-clause-rounds
-returns-clause-rounds c = λ reads.
-    rounds_bind reads c.args.counter c.args.whole c.args.extent c.in_ok-body.body
-    ∙ ap (λ (own : Stmt). rounds_at reads (layer.Bind c.args.counter c.args.whole c.args.extent (rounds reads own))) c.in_ok-body.ensures
+pub returns-clause-loop_lanes : goal.returns-clause-loop_lanes
+returns-clause-loop_lanes c = λ reads.
+    lanes_bind reads c.args.counter c.args.whole c.args.extent c.in_ok-body.body
+    ∙ ap (λ (own : Stmt). lanes_at reads (layer.Bind c.args.counter c.args.whole c.args.extent (loop_lanes reads own))) c.in_ok-body.ensures
 
 pub returns-clause-about : goal.returns-clause-about
 returns-clause-about c = λ of. about_bind of c.args.counter c.args.whole c.args.extent c.in_ok-body.body ∙ ap (is_about of) c.in_ok-body.ensures

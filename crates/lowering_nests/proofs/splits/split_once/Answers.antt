@@ -1,6 +1,6 @@
 use Rattle.lowering_nests.proofs.Repeating.{split_repeats}
-use Rattle.loop_ir.specs.Rounds.{everywhere, all_points}
-use Rattle.lowering_nests.proofs.Rounds.{leaf_bound, whole_rises}
+use Rattle.loop_ir.specs.LoopLanes.{everywhere, all_points}
+use Rattle.lowering_nests.proofs.LoopLanes.{leaf_bound, whole_rises}
 use Rattle.lowering_nests.proofs.splits.split_once.Goals as goal
 
 pub returns-clause-repeats : goal.returns-clause-repeats
@@ -10,6 +10,6 @@ returns-clause-repeats c =
 
 pub returns-clause-leaf : goal.returns-clause-leaf
 returns-clause-leaf c =
-    leaf_bound _ c.whole_of-whole.result c.args.extent c.args.body c.in_ok-made.made c.in_ok-made.ensures.rounds c.requires.few
+    leaf_bound _ c.whole_of-whole.result c.args.extent c.args.body c.in_ok-made.made c.in_ok-made.ensures.loop_lanes c.requires.few
     (whole_rises c.args.func c.args.place c.args.split c.args.extent c.whole_of-whole.result c.whole_of-whole.ensures)
     (λ reads values. c.in_ok-made.ensures.sound reads everywhere all_points values)

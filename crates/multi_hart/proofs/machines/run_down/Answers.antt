@@ -4,7 +4,7 @@ use native.Mathlib.Decide.{ℕ_discrete}
 use Rattle.hart_core.specs.declared.harts.Status.TheVariants.{Running}
 use Rattle.rv_insn.specs.declared.outcomes.Outcome.TheVariants.{Stepped}
 use Rattle.multi_hart.specs.Run.{State, turn, outcome, run, hart_at}
-use Rattle.multi_hart.specs.Stretches.{StepsOn, IsStretch}
+use Rattle.multi_hart.specs.TurnsInARow.{StepsOn, AreTurnsMade}
 use Rattle.multi_hart.specs.inner.Alone.{alone}
 use Rattle.multi_hart.proofs.Resting.{run-same-more}
 use Rattle.multi_hart.proofs.Stepping.{runs-after}
@@ -52,7 +52,7 @@ returns-then-left-eq0 c =
     let some : 1 ≤ most - 0 = omega (arith, i.some, i.few) in
     let few : most - 0 ≤ most = omega arith in
     let whole : most - 0 ≡ most = omega arith in
-    let stretch : IsStretch start 0 most (most - 0) Stepped = record {
+    let stretch : AreTurnsMade start 0 most (most - 0) Stepped = record {
       some = some;
       few = few;
       steps = subst (StepsOn start 0) back i.steps;

@@ -1,7 +1,7 @@
 use Rattle.std.proofs.Common.{◌≡◌, ◌≤◌, ◌-◌, replicate}
 use Rattle.hart_core.specs.declared.harts.Status.TheVariants.{Running}
 use Rattle.multi_hart.specs.Run.{run}
-use Rattle.multi_hart.specs.Stretches.{StepsOn}
+use Rattle.multi_hart.specs.TurnsInARow.{StepsOn}
 use Rattle.multi_hart.specs.inner.Alone.{alone}
 use Rattle.multi_hart.proofs.machines.run_down.Given as goal
 

@@ -1,6 +1,6 @@
 use Rattle.std.proofs.Common.{refl}
 use Rattle.halide_pipeline.specs.Pixel.{value}
-use Rattle.picture.specs.declared.scenes.State.TheVariants as states
+use Rattle.picture.specs.declared.scenes.FuncState.TheVariants as states
 use Rattle.picture.specs.inner.Evaluation.{reads_in}
 use Rattle.picture.proofs.AlongLines.{found-same, value-binary, value-divide, value-remainder, value-call1, value-call2}
 use Rattle.picture.proofs.asking.+attempt.Goals as goal

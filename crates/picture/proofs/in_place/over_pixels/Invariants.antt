@@ -4,7 +4,7 @@ use Rattle.picture.specs.inner.Evaluation.{inputs_of, earlier_of}
 use Rattle.picture.specs.inner.PixelRows.{IsRowOf}
 use Rattle.picture.proofs.in_place.over_pixels.Given as goal
 
--- the pixels are those behind so many points
+-- the pixels are those after so many points
 abbrev pub invariant-loop-number : goal.invariant-loop-number
 invariant-loop-number l = record {
   long : length l.pixels.items ≡ l.fn.stretch.width;

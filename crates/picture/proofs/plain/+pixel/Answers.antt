@@ -3,7 +3,7 @@ use Rattle.std.specs.Prelude.{slice_get}
 use Rattle.halide_pipeline.specs.Expressions.{nodes}
 use Rattle.halide_pipeline.specs.Pixel.{value, points, index_value, at_reduction, is_hit, reads_of, with_plane, after, stage}
 use Rattle.picture.specs.inner.Evaluation.{inputs_of, earlier_of, all_updates, all_nodes, index_nodes, reads_in, stage_in, Holds, IsForward, IsState}
-use Rattle.picture.specs.declared.scenes.State.TheVariants as states
+use Rattle.picture.specs.declared.scenes.FuncState.TheVariants as states
 use Rattle.picture.proofs.Measures.{measure, state_measure, less_in_state, less_size, less_number, less_updates, less_own, pure_nodes, in_updates}
 use Rattle.picture.proofs.Measures.{length-updates, nodes-Binary, nodes-Divide, nodes-Remainder, nodes-Select, nodes-Call1, nodes-Call2}
 use Rattle.picture.proofs.Forward.{forward_none, forward_seeded, forward_more, slice_from_run, stage_in-known}

@@ -1,7 +1,7 @@
 use Rattle.std.proofs.Common.{ℕ, Vec, Option, IfSome, refl, subst}
 use Rattle.std.specs.declared.alloc.Global.{Global}
 use Rattle.picture.specs.inner.Evaluation.{reads_in}
-use Rattle.picture.specs.declared.scenes.State.TheVariants as states
+use Rattle.picture.specs.declared.scenes.FuncState.TheVariants as states
 use Rattle.picture_rows.specs.Rows.{AreValues, clamped}
 use Rattle.picture.proofs.Along.{written-row}
 use Rattle.picture.proofs.row_reads.read_clamped.Goals as goal

@@ -1,7 +1,7 @@
 use Rattle.std.proofs.Common.{ℕ, length, ap, arith}
 use Rattle.std.specs.Vec.{with_items}
 use Rattle.picture.specs.inner.Evaluation.{reads_in}
-use Rattle.picture.specs.declared.scenes.State.TheVariants as states
+use Rattle.picture.specs.declared.scenes.FuncState.TheVariants as states
 use Rattle.picture.proofs.Along.{refilled, fetched-row}
 use Rattle.picture.proofs.row_reads.read_each.Goals as goal
 

@@ -1,5 +1,5 @@
 use Rattle.picture.specs.inner.Evaluation.{reads_in}
-use Rattle.picture.specs.declared.scenes.State.TheVariants as states
+use Rattle.picture.specs.declared.scenes.FuncState.TheVariants as states
 use Rattle.picture_rows.specs.Rows.{value_at}
 use Rattle.picture_rows.proofs.InPlace.{Changed}
 use Rattle.picture.proofs.row_reads.read_points.Given as goal

@@ -1,5 +1,5 @@
 use Rattle.picture.specs.inner.Evaluation.{reads_in}
-use Rattle.picture.specs.declared.scenes.State.TheVariants as states
+use Rattle.picture.specs.declared.scenes.FuncState.TheVariants as states
 use Rattle.picture.proofs.Along.{written-row}
 use Rattle.picture.proofs.row_reads.read_stretch.Goals as goal
 

@@ -1,4 +1,4 @@
-use Rattle.task_code_lane_values.proofs.Turning.{second-by, second-times}
+use Rattle.task_code_lane_values.proofs.Computing.{second-by, second-times}
 use Rattle.task_code_lane_values.proofs.operations.emit_by.Goals as goal
 
 pub returns-in_ok-multiplication_by-in-Multiply : goal.returns-in_ok-multiplication_by-in-Multiply

@@ -1,6 +1,6 @@
 use Rattle.std.proofs.Common.{◌<◌, arith}
 use Rattle.task_code_lanes.specs.Groups.{slots}
-use Rattle.task_code_lane_values.proofs.Turning.{two-as}
+use Rattle.task_code_lane_values.proofs.Computing.{two-as}
 use Rattle.task_code_lane_values.proofs.operations.emit_two.Goals as goal
 
 pub returns : goal.returns

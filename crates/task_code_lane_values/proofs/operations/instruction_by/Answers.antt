@@ -1,5 +1,5 @@
 use Rattle.rv_insn.specs.declared.vector_operations.ArithmeticVxOp.TheVariants as vxs
-use Rattle.task_code_lane_values.proofs.Turning.{by-add, by-subtract, by-minimum, by-maximum, by-as-is}
+use Rattle.task_code_lane_values.proofs.Computing.{by-add, by-subtract, by-minimum, by-maximum, by-as-is}
 use Rattle.task_code_lane_values.proofs.operations.instruction_by.Goals as goal
 
 pub returns-in-Add : goal.returns-in-Add

@@ -2,7 +2,7 @@ use Rattle.std.proofs.Common.{subst}
 use Rattle.std.specs.Prelude.{IfSome}
 use Rattle.task_code_values.specs.Operands.{IsSum}
 use Rattle.task_code_lane_values.proofs.Arms.{steady-as, two-next, second-arm, first-arm, divide-arm, shift-arm, point-arm, remainder-arm}
-use Rattle.task_code_lane_values.proofs.Arms.{turned-next, condition-next, one-next, other-next}
+use Rattle.task_code_lane_values.proofs.Arms.{swapped-next, condition-next, one-next, other-next}
 use Rattle.task_code_lane_values.proofs.values.+values.Goals as goal
 
 pub emit_at-returns-then-known_steady : goal.emit_at-returns-then-known_steady
@@ -25,16 +25,16 @@ emit_results-returns-then-first_stays t c =
     c.in-Binary.operation
     c.in_ok-s-2.s _ _ _ _
     c.in-Binary.is c.get-first.ensures c.get-second.ensures (c.known_steady-first_stays.ensures c.if-first_stays.true) c.in_ok-emit_at-2.ensures
-    c.in_ok-s-2.ensures c.in_ok-emit_turned.ensures
+    c.in_ok-s-2.ensures c.in_ok-emit_swapped.ensures
 
-pub emit_both-returns-then-is_turned : goal.emit_both-returns-then-is_turned
-emit_both-returns-then-is_turned t c =
-    turned-next c.args.site.now.places.now c.args.site.now.scope.now c.args.site.now.lanes c.args.spot.k c.requires c.args.e.now c.in-Binary.a c.in-Binary.b _ _
+pub emit_both-returns-then-is_swapped : goal.emit_both-returns-then-is_swapped
+emit_both-returns-then-is_swapped t c =
+    swapped-next c.args.site.now.places.now c.args.site.now.scope.now c.args.site.now.lanes c.args.spot.k c.requires c.args.e.now c.in-Binary.a c.in-Binary.b _ _
     c.in-Binary.operation
     c.in_ok-next.next.k _ _ _ _
     c.in-Binary.is c.get-first.ensures c.get-second.ensures c.in_ok-next.ensures.0 c.in_ok-emit_at.ensures
     c.in_ok-emit_at-2.ensures
-    c.in_ok-emit_two_turned.ensures
+    c.in_ok-emit_two_swapped.ensures
 
 pub emit_both-returns : goal.emit_both-returns
 emit_both-returns t c =

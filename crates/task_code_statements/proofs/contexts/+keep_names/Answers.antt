@@ -1,5 +1,5 @@
 use Rattle.std.proofs.Common.{sym, ◌∙◌}
-use Rattle.task_code_runs.proofs.Fronts.{cons-of}
+use Rattle.task_code_vector_loops.proofs.Fronts.{cons-of}
 use Rattle.task_code_statements.proofs.Meeting.{one-kept}
 use Rattle.task_code_statements.proofs.contexts.+keep_names.Goals as goal
 

@@ -1,4 +1,4 @@
-use Rattle.task_code_runs.proofs.Fronts.{cons-of}
+use Rattle.task_code_vector_loops.proofs.Fronts.{cons-of}
 use Rattle.task_code_statements.proofs.Guarding.{first-more}
 use Rattle.task_code_statements.proofs.guards.+add_tests_at_start.Goals as goal
 

@@ -1,7 +1,7 @@
 use Rattle.std.proofs.Common.{◌∙◌, ap, sym, refl}
 use Rattle.task_code_registers.specs.Strides.{has_counter}
 use Rattle.task_code_statements.specs.declared.guards.Guard.{Guard}
-use Rattle.task_code_runs.proofs.Fronts.{cons-of}
+use Rattle.task_code_vector_loops.proofs.Fronts.{cons-of}
 use Rattle.task_code_statements.proofs.Guarding.{fixed-parted}
 use Rattle.task_code_statements.proofs.guards.+by_lanes.Goals as goal
 

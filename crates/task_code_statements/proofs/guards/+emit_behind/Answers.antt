@@ -1,4 +1,4 @@
-use Rattle.task_code_runs.proofs.Fronts.{none-there}
+use Rattle.task_code_vector_loops.proofs.Fronts.{none-there}
 use Rattle.task_code_statements.proofs.Guarding.{behind-more, behind-none}
 use Rattle.task_code_statements.proofs.guards.+emit_behind.Goals as goal
 

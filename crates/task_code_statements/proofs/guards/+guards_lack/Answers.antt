@@ -1,6 +1,6 @@
 use Rattle.std.proofs.Common.{◌∙◌, ap, sym}
 use Rattle.task_code_registers.specs.Strides.{has_counter}
-use Rattle.task_code_runs.proofs.Fronts.{cons-of, none-there}
+use Rattle.task_code_vector_loops.proofs.Fronts.{cons-of, none-there}
 use Rattle.task_code_statements.proofs.Guarding.{first-lacks, none-lack}
 use Rattle.task_code_statements.proofs.guards.+guards_lack.Goals as goal
 

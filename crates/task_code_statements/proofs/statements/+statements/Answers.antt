@@ -36,11 +36,11 @@ emit_statement-returns-in_ok-emit_laid_out-in-LaidOut t c =
     c.in-For.body c.get-in-LaidOut.result.now _ _ c.in-For.is c.get-in-LaidOut.ensures (c.way_of.ensures.laid_out c.in-LaidOut.is)
     c.in_ok-emit_laid_out-in-LaidOut.ensures
 
-pub emit_statement-returns-in_ok-emit_serial-in-InTurn : goal.emit_statement-returns-in_ok-emit_serial-in-InTurn
-emit_statement-returns-in_ok-emit_serial-in-InTurn t c =
+pub emit_statement-returns-in_ok-emit_serial-in-InOrder : goal.emit_statement-returns-in_ok-emit_serial-in-InOrder
+emit_statement-returns-in_ok-emit_serial-in-InOrder t c =
     for-arm c.args.site.now.places.now c.args.site.now.scope.now (Meets c.args.context.now) c.args.statement.now c.in-For.counter c.in-For.count c.in-For.kind
-    c.in-For.body c.get-in-InTurn.result.now _ _ c.in-For.is c.get-in-InTurn.ensures (c.way_of.ensures.in_turn c.in-InTurn.is)
-    c.in_ok-emit_serial-in-InTurn.ensures
+    c.in-For.body c.get-in-InOrder.result.now _ _ c.in-For.is c.get-in-InOrder.ensures (c.way_of.ensures.in_order c.in-InOrder.is)
+    c.in_ok-emit_serial-in-InOrder.ensures
 
 pub emit_statement-returns-in_ok-emit_split-in-Bind : goal.emit_statement-returns-in_ok-emit_split-in-Bind
 emit_statement-returns-in_ok-emit_split-in-Bind t c =

@@ -1,5 +1,5 @@
 use Rattle.std.proofs.Common.{refl, subst, sym}
-use Rattle.task_code_registers.specs.declared.scopes.Form.{Form}
+use Rattle.task_code_registers.specs.declared.scopes.AffineForm.{AffineForm}
 use Rattle.std.specs.Prelude.{IfSome}
 use Rattle.task_code_statements.specs.Splits.{IsSplitValue}
 use Rattle.task_code_statements.specs.Vectorizing.{IsStoreOf, TestToo}
@@ -19,7 +19,7 @@ returns-in_ok-add_test-in-Bind t c =
     entered.form.sum c.in_ok-made-in-Bind-2.made c.in-Bind.is c.get-in-Bind.ensures enters.value_is enters.meets c.in_ok-made-in-Bind-2.ensures lacks.store
     lacks.guards _
     refl
-    (subst (λ (f : Form). TestToo c.args.context.now.bounds.items c.in_ok-made-in-Bind-2.made.guards.items (record { sum = f.sum; extent = c.in-Bind.extent })
+    (subst (λ (f : AffineForm). TestToo c.args.context.now.bounds.items c.in_ok-made-in-Bind-2.made.guards.items (record { sum = f.sum; extent = c.in-Bind.extent })
     c.add_test.new.guards.items) c.into_form-form.ensures
     (subst (λ b. TestToo b c.in_ok-made-in-Bind-2.made.guards.items (record { sum = c.into_form-form.result.sum; extent = c.in-Bind.extent })
     c.add_test.new.guards.items) c.as_slice.ensures.value c.in_ok-add_test-in-Bind.ensures))

@@ -1,5 +1,5 @@
 use Rattle.std.proofs.Common.{refl}
-use Rattle.task_code_values.specs.declared.points.Index.TheVariants as indexes
+use Rattle.task_code_values.specs.declared.points.PointIndex.TheVariants as indexes
 use Rattle.task_code_values.proofs.Operating.{ok-map, err-map}
 use Rattle.task_code_values.proofs.Pointing.{pixel-both, zero-sum, zero-held, rows-requires, add-requires}
 use Rattle.task_code_values.proofs.points.emit_at_registers.Goals as goal

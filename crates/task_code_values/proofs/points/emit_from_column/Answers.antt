@@ -1,5 +1,5 @@
 use Rattle.std.proofs.Common.{refl}
-use Rattle.task_code_values.specs.declared.points.Index.TheVariants as indexes
+use Rattle.task_code_values.specs.declared.points.PointIndex.TheVariants as indexes
 use Rattle.task_code_values.proofs.Operating.{ok-map, err-map}
 use Rattle.task_code_values.proofs.Pointing.{pixel-as, pixel-column, zero-sum, zero-held, have-sum, stands-register}
 use Rattle.task_code_values.proofs.points.emit_from_column.Goals as goal

@@ -1,4 +1,4 @@
-use Rattle.task_code_scalar.specs.declared.places.Pixels.TheVariants as pixels
+use Rattle.task_code_scalar.specs.declared.layouts.Pixels.TheVariants as pixels
 use Rattle.task_code_values.proofs.Pointing.{scaled-words, scaled-bytes, scaled-as}
 use Rattle.task_code_values.proofs.points.emit_scaled.Goals as goal
 

@@ -2,7 +2,7 @@ use Rattle.std.proofs.Common.{sym, ap, ◌∙◌, refl, arith, length}
 use Rattle.loop_ir.specs.declared.statements.Stmt.TheVariants as s
 use Rattle.task_code_registers.specs.Holding.{mentions}
 use Rattle.task_code_variables.proofs.Arms.{loop-appended, loop-holds, loop-late, split-appended, split-holds, split-late}
-use Rattle.task_code_variables.proofs.Choosing.{collected, collected-one, in-turn, is-collected}
+use Rattle.task_code_variables.proofs.Choosing.{collected, collected-one, in-iteration, is-collected}
 use Rattle.task_code_variables.proofs.Fitting.{any-faulty, collected-faulty, fault-as, first-faulty, for-faulty, loop-faulty, loop-full, passed-on}
 use Rattle.task_code_variables.proofs.Fitting.{bind-faulty, second-faulty, split-faulty, split-full}
 use Rattle.task_code_variables.proofs.Nesting.{bind-arm, for-arm, none-appends, sequence-arm, store-arm}
@@ -67,7 +67,7 @@ emit_statement-returns-in_err-emit_split-in-Bind-clause-err t c =
 
 pub emit_loop-returns-in_ok-emit_iterations-in-None-clause-ok : goal.emit_loop-returns-in_ok-emit_iterations-in-None-clause-ok
 emit_loop-returns-in_ok-emit_iterations-in-None-clause-ok t c =
-    in-turn c.args.site.now.places.now c.args.site.now.scope.now c.args.around.now c.args.own.counter c.args.own.count c.args.own.kind c.args.body.now _ _
+    in-iteration c.args.site.now.places.now c.args.site.now.scope.now c.args.around.now c.args.own.counter c.args.own.count c.args.own.kind c.args.body.now _ _
     (sym c.group_collected.ensures ∙ c.in-None.is) c.in_ok-emit_iterations-in-None.ensures.ok
 
 pub emit_loop-returns-in_err-emit_iterations-in-None-clause-err : goal.emit_loop-returns-in_err-emit_iterations-in-None-clause-err

@@ -1,6 +1,6 @@
 use Rattle.std.proofs.Common.{◌≡◌, ℕ, ◌-◌, true, slice_get, Some, None, ap, sym, ◌∙◌, get_or, ltb-false, ltb-true, arith}
 use Rattle.std.proofs.lemmas.Option.{slice_get_past, slice_get-get_or}
-use Rattle.turn_log.specs.inner.Stretches.{Stretch}
+use Rattle.turn_log.specs.inner.RunEnds.{RunEnd}
 use Rattle.turn_log.proofs.KeptLaws.{ends_rise, run_at-found, from}
 use Rattle.turn_log.proofs.finding.find_run.Goals as goal
 
@@ -19,7 +19,7 @@ overflow_sub-result c =
     let lookup = c.in_ok-run.ensures.lookup in
     let run = c.in_ok-run.run'.now in
     let behind = c.place_of-place.ensures.1 c.place_of-place.result run (omega arith) (ltb-true _ _ (sym lookup.0)) in
-    let end = ap (λ (r : Stretch). r.end) lookup.1 in
+    let end = ap (λ (r : RunEnd). r.end) lookup.1 in
     omega (arith, behind, end)
 
 pub returns : goal.returns
@@ -28,6 +28,6 @@ returns c =
     let lookup = c.in_ok-run.ensures.lookup in
     let within = ltb-true _ _ (sym lookup.0) in
     let is : slice_get c.args.runs.now c.place_of-place.result ≡ Some c.in_ok-run.run'.now = slice_get-get_or c.args.runs.now c.place_of-place.result
-    c.in_ok-run.run'.now within ∙ ap (λ (r : Stretch). Some r) (sym lookup.1) in
+    c.in_ok-run.run'.now within ∙ ap (λ (r : RunEnd). Some r) (sym lookup.1) in
     ap (λ (hart : ℕ). Some (hart, c.end.result - c.args.k)) c.hart.ensures ∙ ap (λ (end : ℕ). Some (c.in_ok-run.run'.now.hart, end - c.args.k)) c.end.ensures
     ∙ sym (found ∙ ap (from c.args.k) is)

@@ -1,7 +1,7 @@
 use Rattle.std.proofs.Common.{◌≡◌, ◌∙◌, ◌%◌, arith, ℕ, Bool, List, length, sym, ap, subst}
 use Rattle.multi_hart.specs.Run.{State}
 use Rattle.debugger.specs.Places.{SessionState, state_at}
-use Rattle.debugger.specs.inner.Kept.{IsCopy}
+use Rattle.debugger.specs.inner.KeptPlaces.{IsCopy}
 use Rattle.debugger.proofs.Holding.{flags-held, held-kept}
 use Rattle.debugger.proofs.Keeping.{copy-kept}
 use Rattle.debugger.proofs.sessions.Session.keep.Goals as goal

@@ -1,9 +1,9 @@
 use Rattle.std.proofs.Common.{◌≡◌, ◌∙◌, ℕ, List, [], length, map, sym, ap, subst}
 use Rattle.loader.specs.Loading.{machine_of}
-use Rattle.debugger_pages.specs.Pages.{pages_of}
-use Rattle.debugger_stores.specs.Stored.{store_in}
+use Rattle.debugger_writes.specs.Pages.{pages_of}
+use Rattle.debugger_writes.specs.Stored.{store_in}
 use Rattle.debugger.specs.inner.Held.{Held}
-use Rattle.debugger.specs.inner.Kept.{AreFree}
+use Rattle.debugger.specs.inner.KeptPlaces.{AreFree}
 use Rattle.debugger.proofs.Holding.{held-at-start}
 use Rattle.debugger.proofs.sessions.Session.open.Goals as goal
 

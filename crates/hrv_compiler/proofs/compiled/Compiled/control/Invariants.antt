@@ -1,5 +1,5 @@
 use Rattle.std.proofs.Common.{◌≡◌}
-use Rattle.vector_codegen_sharing.specs.Turns.{control_words}
+use Rattle.work_sharing.specs.Turns.{control_words}
 use Rattle.hrv_compiler.proofs.compiled.Compiled.control.Given as goal
 
 abbrev pub invariant-loop-phase : goal.invariant-loop-phase

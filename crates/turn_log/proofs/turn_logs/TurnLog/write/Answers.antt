@@ -4,7 +4,7 @@ use Rattle.std.proofs.lemmas.Result.{err_from_is_err_and}
 use Rattle.turn_log.specs.TurnLog.{LogState}
 use Rattle.turn_log.specs.inner.Kept.{turns_of, runs_from}
 use Rattle.turn_log.specs.LogSpelling.{runs_of, spelled, run_bytes, header}
-use Rattle.turn_log.specs.inner.Stretches.{Stretch}
+use Rattle.turn_log.specs.inner.RunEnds.{RunEnd}
 use Rattle.turn_log.proofs.RunLaws.{few_runs}
 use Rattle.turn_log.proofs.KeptLaws.{length-runs_from, runs_of-kept, spelled-kept}
 use Rattle.turn_log.proofs.LogLaws.{length-spelled}
@@ -49,7 +49,7 @@ returns-clause-ok c =
     pushed ∙ ap (λ (o : List ℕ). o ++ c.header_bytes.result) c.in_ok-reserve.ensures.items ∙ ap (λ (b : List ℕ). out ++ b) (c.header_bytes.ensures
     ∙ ap (header c.self.inside.harts) count) in
     let ended : c.push_runs.new.out.items ≡ (out ++ head) ++ all =
-    c.push_runs.ensures ∙ ap (λ (rs : List Stretch). c.extend_from_slice.new.self.items ++ flat_map run_bytes (runs_from 0 rs)) c.deref.ensures.value
+    c.push_runs.ensures ∙ ap (λ (rs : List RunEnd). c.extend_from_slice.new.self.items ++ flat_map run_bytes (runs_from 0 rs)) c.deref.ensures.value
     ∙ ap (λ (o : List ℕ). o ++ all) begun in
     ended ∙ append_assoc out head all ∙ ap (λ (b : List ℕ). out ++ b) (sym (spelled-kept c.self.inside.harts c.self.inside.totals runs c.self.invariant))
     ∙ ap (λ (l : LogState). out ++ spelled l) c.self.view_is

@@ -1,5 +1,0 @@
-use Rattle.std.proofs.Common.{length}
-use Rattle.debugger_pages.proofs.marks.+mark_pages.Given as goal
-
-abbrev pub decreases-mark_pages : goal.decreases-mark_pages
-decreases-mark_pages l = length l.pages.now

@@ -1,5 +1,0 @@
-use Rattle.debugger_pages.proofs.Laying.{CopiedUpTo}
-use Rattle.debugger_pages.proofs.pages.changed_pages.Given as goal
-
-abbrev pub invariant-loop-number : goal.invariant-loop-number
-invariant-loop-number l = CopiedUpTo l.memory l.written l.pages.items l.number

@@ -1,0 +1,4 @@
+pub mod Laying
+pub mod Marking
+pub mod Outcomes
+pub mod Untouched

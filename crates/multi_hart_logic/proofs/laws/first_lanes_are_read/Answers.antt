@@ -1,5 +1,0 @@
-use Rattle.multi_hart_logic.proofs.FirstLanes.{first-read}
-use Rattle.multi_hart_logic.proofs.laws.first_lanes_are_read.Goals as goal
-
-pub returns : goal.returns
-returns c = first-read

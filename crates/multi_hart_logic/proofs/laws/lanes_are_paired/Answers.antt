@@ -1,8 +1,0 @@
-use Rattle.multi_hart_logic.proofs.VectorRows.{arithmetic-vv, multiply-vv}
-use Rattle.multi_hart_logic.proofs.laws.lanes_are_paired.Goals as goal
-
-pub returns-clause-arithmetic : goal.returns-clause-arithmetic
-returns-clause-arithmetic c = arithmetic-vv
-
-pub returns-clause-multiplication : goal.returns-clause-multiplication
-returns-clause-multiplication c = multiply-vv

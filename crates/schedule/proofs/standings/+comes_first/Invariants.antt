@@ -1,5 +1,0 @@
-use Rattle.std.proofs.Common.{length}
-use Rattle.schedule.proofs.standings.+comes_first.Given as goal
-
-abbrev pub decreases-comes_first : goal.decreases-comes_first
-decreases-comes_first l = length l.loops.now

@@ -1,5 +1,0 @@
-use Rattle.std.proofs.Common.{length}
-use Rattle.schedule.proofs.standings.+outside.Given as goal
-
-abbrev pub decreases-outside : goal.decreases-outside
-decreases-outside l = length l.behind.now

@@ -1,5 +1,0 @@
-use Rattle.std.proofs.Common.{length}
-use Rattle.task_code_runs.proofs.configuring.+emit_least.Given as goal
-
-abbrev pub decreases-emit_least : goal.decreases-emit_least
-decreases-emit_least l = length l.others.now

@@ -1,5 +1,0 @@
-use Rattle.task_code_runs.proofs.Aiming.{product-is}
-use Rattle.task_code_runs.proofs.distances.product.Goals as goal
-
-pub returns : goal.returns
-returns c = product-is c.args.e _ _ c.args.number c.in_ok-first.ensures c.in_ok-second.ensures

@@ -1,7 +1,0 @@
-use Rattle.task_code_runs.proofs.Parting.{part-made}
-use Rattle.task_code_runs.proofs.parts.emit_part.Goals as goal
-
-pub returns : goal.returns
-returns c =
-    part-made c.args.own.now c.requires.ready c.args.part.from c.requires.inside c.args.part.slot _ _ _ c.requires.stack c.in_ok-emit_part_lanes.ensures
-    c.in_ok-emit_lanes.ensures

@@ -1,5 +1,0 @@
-use Rattle.vector_codegen_sharing.proofs.Stuck.{no-count}
-use Rattle.vector_codegen_sharing.proofs.example.waits_for_ever.Goals as goal
-
-pub returns : goal.returns
-returns c = no-count

@@ -1,5 +1,0 @@
-use Rattle.vector_codegen_sharing.proofs.Undisturbed.{done-among-others}
-use Rattle.vector_codegen_sharing.proofs.laws.done_among_others.Goals as goal
-
-pub returns : goal.returns
-returns c = done-among-others

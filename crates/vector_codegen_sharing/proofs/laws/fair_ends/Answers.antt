@@ -1,5 +1,0 @@
-use Rattle.vector_codegen_sharing.proofs.Fair.{fair-ends}
-use Rattle.vector_codegen_sharing.proofs.laws.fair_ends.Goals as goal
-
-pub returns : goal.returns
-returns c = fair-ends

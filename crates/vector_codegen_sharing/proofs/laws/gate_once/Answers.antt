@@ -1,5 +1,0 @@
-use Rattle.vector_codegen_sharing.proofs.Gates.{gate-once}
-use Rattle.vector_codegen_sharing.proofs.laws.gate_once.Goals as goal
-
-pub returns : goal.returns
-returns c = gate-once

@@ -1,5 +1,0 @@
-use Rattle.vector_codegen_sharing.proofs.Results.{never-traps}
-use Rattle.vector_codegen_sharing.proofs.laws.never_traps.Goals as goal
-
-pub returns : goal.returns
-returns c = never-traps

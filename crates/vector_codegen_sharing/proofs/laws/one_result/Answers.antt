@@ -1,5 +1,0 @@
-use Rattle.vector_codegen_sharing.proofs.Results.{one-result}
-use Rattle.vector_codegen_sharing.proofs.laws.one_result.Goals as goal
-
-pub returns : goal.returns
-returns c = one-result

@@ -1,5 +1,0 @@
-use Rattle.vector_codegen_sharing.proofs.Greedy.{first-does-all}
-use Rattle.vector_codegen_sharing.proofs.refutations.first_does_all.Goals as goal
-
-pub returns : goal.returns
-returns c = first-does-all

@@ -1,5 +1,0 @@
-use Rattle.vector_codegen_sharing.proofs.Refuted.{hasty-harts-race}
-use Rattle.vector_codegen_sharing.proofs.refutations.hasty_harts_race.Goals as goal
-
-pub returns : goal.returns
-returns c = hasty-harts-race

@@ -1,5 +1,0 @@
-use Rattle.vector_codegen_sharing.proofs.Refuted.{jumps-never-end}
-use Rattle.vector_codegen_sharing.proofs.refutations.jumps_never_end.Goals as goal
-
-pub returns : goal.returns
-returns c = jumps-never-end
