@@ -12,7 +12,7 @@ use Rattle.shared_machine.specs.declared.refusals.TurnRefusal.TheVariants.{OutOf
 use Rattle.shared_machine.specs.declared.seats.Ended.{Ended}
 use Rattle.shared_machine.specs.declared.seats.Ended.TheVariants.{Halted, Limit, Shut, Refused}
 use Rattle.shared_machine.specs.declared.seats.Seat.{Seat}
-use Rattle.shared_machine.specs.Driving.{AreDriven, HasEndedSo, refused_by, has_refused}
+use Rattle.shared_machine.specs.Driving.{AreRunOn, HasEndedSo, refused_by, has_refused}
 use Rattle.shared_machine.specs.Endings.{IsToldIn}
 use Rattle.shared_machine.specs.Log.{BeginsWith, tally}
 use Rattle.shared_machine.specs.Running.{IsRunOf}
@@ -72,7 +72,7 @@ refused-not {O} {F} {G} which all k d below none is =
 
 module _ {O F : Type 0} {G : Ghosts O} (name : BoardId) (image : ImageContents) (harts : ℕ) (first : List ℕ) (limit : ℕ)
     (olds news : List (Seat O F G)) (all : length olds ≡ harts) (kept : length news ≡ length olds)
-    (at : AreSeatsAt name (count_of first) (tally image harts first) 0 olds) (driven : AreDriven name true limit olds news) where
+    (at : AreSeatsAt name (count_of first) (tally image harts first) 0 olds) (driven : AreRunOn name limit olds news) where
   in-order : InOrder news
   in-order k d below =
       let there : k < length olds = omega (arith, below, kept) in

@@ -60,6 +60,20 @@ abbrev pub AreDriven : {O F : Type 0} {G : Ghosts O} → BoardId → Bool → �
 AreDriven {O} {F} {G} name always limit olds news = (k : ℕ) (d : Seat O F G) → k < length olds
     → IsDriven name always limit (slice_index_or olds k d) (slice_index_or news k d)
 
+-- a seat before and after a drive of a machine that is to run to its end, in which a seat that is refused memory asks for a stop
+pub record IsRunOn {O F : Type 0} {G : Ghosts O} (name : BoardId) (limit : ℕ) (old new : Seat O F G) : Type 0 where
+  pub of : IsSeatOf name new
+  pub same : hart new ≡ hart old
+  pub some : number old ≤ number new
+  pub few : number new ≤ number old + limit
+  pub ended : HasEndedSo true limit (number old) new new.ended
+  pub asked : refused_by new.ended ≡ 1 → has_asked new.glance ≡ true
+
+-- each of the seats
+abbrev pub AreRunOn : {O F : Type 0} {G : Ghosts O} → BoardId → ℕ → List (Seat O F G) → List (Seat O F G) → Type 0
+AreRunOn {O} {F} {G} name limit olds news = (k : ℕ) (d : Seat O F G) → k < length olds
+    → IsRunOn name limit (slice_index_or olds k d) (slice_index_or news k d)
+
 -- a seat before and after a drive that was not made: it has asked for a stop, and no thread has run it
 pub record IsStopped {O F : Type 0} {G : Ghosts O} (name : BoardId) (old new : Seat O F G) : Type 0 where
   pub of : IsSeatOf name new

@@ -3,18 +3,18 @@
 ghost use Rattle.std.specs.Prelude.{◌≡◌, ◌+◌, ◌<◌, ◌≤◌, true, All, length, IfErr, OnOk, OnErr};
 ghost use Rattle.turn_log.specs.TurnLog.{most_turns};
 ghost use Rattle.board.specs.Tokens.{name_of, has_asked};
-ghost use Rattle.shared_machine.specs.Driving.{IsDriven, AreDriven, IsStopped, AreStopped, EndedSo};
+ghost use Rattle.shared_machine.specs.Driving.{IsDriven, AreDriven, IsRunOn, AreRunOn, IsStopped, AreStopped, EndedSo};
 ghost use Rattle.shared_machine.specs.Log.{most_batch};
 ghost use Rattle.shared_machine.specs.Seats.{IsSeatOf, hart, number};
 ghost use Rattle.shared_machine.specs.declared.refusals.DriveFault.TheVariants.{NoThread};
 ghost use Rattle.shared_machine.specs.declared.refusals.TurnRefusal.TheVariants.{StopAsked};
 ghost use Rattle.shared_machine.specs.declared.seats.Ended.TheVariants.{Refused};
 
-use crate::gates::Gate;
+use crate::gates::{AlwaysOpen, Gate};
 use crate::ledgers::Ledgers;
 use crate::meetings::{Work, for_each_met};
 use crate::origins::Origin;
-use crate::refusals::DriveFault;
+use crate::refusals::{DriveFault, TurnRefusal};
 use crate::seats::{Ended, Seat};
 use crate::shared::Shared;
 use rv_insn::Outcome;
@@ -88,6 +88,42 @@ pub fn drive_batched<
     }
 }
 
+/// Makes turns of each seat in a thread of its own, as [`drive_batched`] does, of a machine that is to run to its end.
+/// Where a turn is refused memory no answer can come: its seat asks for a stop, so that no other waits for a hart that
+/// makes no turn.
+pub(crate) fn drive_to_end<
+    O: Origin + Send + Sync,
+    F: Ledgers + Send + Sync,
+    R: Threads + Wait + Sync,
+>(
+    rt: &R,
+    shared: &Shared<O, F>,
+    seats: &mut [Seat<O, F>],
+    limit: u64,
+    most: u64,
+) -> Result<(), DriveFault>
+    requires of { All (IsSeatOf (name_of shared.now.board)) seats.old }
+    requires some { 1 ≤ most }
+    requires few { most ≤ most_batch }
+    ensures of { All (IsSeatOf (name_of shared.now.board)) seats.new }
+    ensures driven { OnOk result (AreRunOn (name_of shared.now.board) limit seats.old seats.new) }
+    ensures stopped { OnErr result (AreStopped (name_of shared.now.board) seats.old seats.new) }
+    ensures several { OnErr result (2 ≤ length seats.old) }
+    ensures fault { IfErr result (λ fault. fault ≡ NoThread) }
+{
+    let turns = Turns {
+        rt,
+        shared,
+        gate: &AlwaysOpen,
+        limit,
+        most,
+    };
+    if !for_each_met(rt, seats, &ToEnd { turns }) {
+        return Err(DriveFault::NoThread);
+    }
+    Ok(())
+}
+
 /// Turns that are to be made of each seat.
 #[derive(Drop)]
 struct Turns<'s, O: Origin, F: Ledgers, G: Gate, R: Wait> {
@@ -113,6 +149,31 @@ impl<'s, O: Origin, F: Ledgers, G: Gate, R: Wait> Work<Seat<O, F>> for Turns<'s,
 
     fn leave(&self, it: &mut Seat<O, F>) {
         ask_stop_by(self.shared, it);
+    }
+}
+
+/// Turns that are to be made of each seat of a machine that runs to its end.
+#[derive(Drop)]
+struct ToEnd<'s, O: Origin, F: Ledgers, R: Wait> {
+    turns: Turns<'s, O, F, AlwaysOpen, R>,
+}
+
+impl<'s, O: Origin, F: Ledgers, R: Wait> Work<Seat<O, F>> for ToEnd<'s, O, F, R> {
+    ghost fits = { λ all seat. IsSeatOf (name_of all.turns.shared.now.board) seat };
+
+    ghost done = { λ all old new. IsRunOn (name_of all.turns.shared.now.board) all.turns.limit old new };
+
+    ghost left = { λ all old new. IsStopped (name_of all.turns.shared.now.board) old new };
+
+    fn work(&self, it: &mut Seat<O, F>) {
+        self.turns.work(it);
+        if let Some(Ended::Refused(TurnRefusal::OutOfMemory)) = it.ended() {
+            ask_stop_by(self.turns.shared, it);
+        }
+    }
+
+    fn leave(&self, it: &mut Seat<O, F>) {
+        ask_stop_by(self.turns.shared, it);
     }
 }
 

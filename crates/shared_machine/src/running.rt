@@ -3,7 +3,7 @@
 ghost use Rattle.std.specs.Prelude.{◌≡◌, ◌≤◌, All, length, true, false, Err, OnOk, IfOk};
 ghost use Rattle.board.specs.Tokens.{name_of};
 ghost use Rattle.turn_log.specs.TurnLog.{count_of};
-ghost use Rattle.shared_machine.specs.Driving.{AreDriven, has_refused, refused_by};
+ghost use Rattle.shared_machine.specs.Driving.{AreRunOn, has_refused, refused_by};
 ghost use Rattle.shared_machine.specs.Log.{state_after, tally};
 ghost use Rattle.shared_machine.specs.Running.{IsRunOf};
 ghost use Rattle.shared_machine.specs.Seats.{IsSeatOf, AreSeatsAt};
@@ -11,8 +11,7 @@ ghost use Rattle.shared_machine.specs.Tallies.{AreNamed};
 ghost use Rattle.shared_machine.specs.declared.refusals.DriveFault.TheVariants.{NoThread};
 
 use crate::books::Blanks;
-use crate::driving::drive_batched;
-use crate::gates::AlwaysOpen;
+use crate::driving::drive_to_end;
 use crate::ledgers::Ledgers;
 use crate::locked::Locked;
 use crate::origins::Origin;
@@ -38,8 +37,8 @@ const FIRST: usize = 0;
 /// stopped or has made so many turns more. The machine at the end, and the log of all turns, which begins with the one
 /// given.
 ///
-/// Where a turn is refused memory, none comes out; nor where threads can't be had. One hart needs none beside the
-/// caller's.
+/// Where a turn is refused memory, none comes out, and the other harts make no more than the turns that they are at.
+/// None comes out where threads can't be had. One hart needs none beside the caller's.
 pub fn run<R: Threads + Wait + Sync>(
     rt: &R,
     alloc: Global,
@@ -146,9 +145,9 @@ fn drive_all<O: Origin + Send + Sync, F: Ledgers + Send + Sync, R: Threads + Wai
     requires { All (IsSeatOf (name_of shared.now.board)) seats.old.items }
     ensures all { length seats.new.items ≡ length seats.old.items }
     ensures of { All (IsSeatOf (name_of shared.now.board)) seats.new.items }
-    ensures driven { OnOk result (AreDriven (name_of shared.now.board) true limit seats.old.items seats.new.items) }
+    ensures driven { OnOk result (AreRunOn (name_of shared.now.board) limit seats.old.items seats.new.items) }
 {
-    drive_batched(rt, shared, seats.as_mut_slice(), limit, BATCH, &AlwaysOpen)
+    drive_to_end(rt, shared, seats.as_mut_slice(), limit, BATCH)
 }
 
 /// Why a thread ended that should have gone on: a turn was refused memory, or a stop was asked, which is asked where
