@@ -1,6 +1,9 @@
 -- Words that are made either way do each task, and are no more than the task asks for.
-use Rattle.std.proofs.Common.{◌≡◌, ℕ, ◌+◌, ◌≤◌, List, [], ◌++◌, length, refl, ap, ◌∙◌, subst, arith}
+use Rattle.std.proofs.Common.{◌≡◌, ℕ, ◌+◌, ◌≤◌, List, [], ◌++◌, length, take, refl, ap, ◌∙◌, subst, arith}
 use Rattle.std.specs.Prelude.{Option, Some, None}
+use Rattle.std.proofs.Math.Seq.{take-length}
+use Rattle.std.proofs.lemmas.List.{take-append-le}
+use Rattle.rv_insn.specs.declared.instructions.Insn.{Insn}
 use Rattle.loop_ir.specs.declared.expressions.Counter.{Counter}
 use Rattle.loop_ir.specs.declared.statements.Phase.{Phase}
 use Rattle.loop_ir.specs.Depths.{count_of}
@@ -58,3 +61,7 @@ pub task-faulty : (phase : Phase) (places : Places) (fault : CodeFault) → IsSt
 task-faulty phase places (faults.OutOfMemory error) is = tt
 task-faulty phase places faults.TooLong is = omega (arith, is)
 task-faulty phase places faults.TooDeep is = λ fits. is (fits-first phase places fits)
+
+-- words that were appended are cut off again
+pub cut_back : (old new : List ℕ) (insns : List Insn) → Emits old new insns → take (length old) new ≡ old
+cut_back old new insns x = ap (take (length old)) x.appended ∙ (take-append-le (length old) old x.words (omega arith) ∙ take-length old)

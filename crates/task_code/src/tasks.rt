@@ -46,20 +46,9 @@ fn emit_by_forms(
     }
 }
 
-/// Appends the code of one task of a phase.
-///
-/// It finds the task's number in x12 and the hart's in x10, and ends after its last word, with the addresses of the
-/// ticket word and of the gate word after it in x13 and x14, 1 in x15 and the number of tasks in x16; x10 and x11
-/// stay. Wherever it stands it does each task of the phase to the buffers in memory, in turns that depend on the task
-/// alone (`DoesTask` of `task_code_statements/specs/Tasks.antt`), and it has no more words than the phase asks for. It
-/// also adds which of the words it takes for the code of stages inside the phase; no clause speaks of that.
-///
-/// # Errors
-///
-/// Where memory runs out, the phase asks for 2^18 words or more, or an expression or a nest of loops has no registers
-/// left: what stands then is in `specs/Faults.antt`, and no code was appended. What the list of stages then has is
-/// open.
-pub fn emit(
+/// Appends the code of one task: by forms where they suffice, else by loop variables alone. The list of stages grows
+/// even where no code is appended.
+fn emit_words(
     alloc: Global,
     phase: &Phase,
     places: &Places,
@@ -76,5 +65,42 @@ pub fn emit(
         return Ok(());
     }
     variables::emit_task(alloc, phase, places, ticket, code, stages)?;
+    Ok(())
+}
+
+/// Appends the code of one task of a phase.
+///
+/// It finds the task's number in x12 and the hart's in x10, and ends after its last word, with the addresses of the
+/// ticket word and of the gate word after it in x13 and x14, 1 in x15 and the number of tasks in x16; x10 and x11
+/// stay. Wherever it stands it does each task of the phase to the buffers in memory, in turns that depend on the task
+/// alone (`DoesTask` of `task_code_statements/specs/Tasks.antt`), and it has no more words than the phase asks for. It
+/// also adds which of the words it takes for the code of stages inside the phase; no clause speaks of that.
+///
+/// # Errors
+///
+/// Where memory runs out, the phase asks for 2^18 words or more, or an expression or a nest of loops has no registers
+/// left: what is so then is in `specs/Faults.antt`. Code and stages are as they were.
+#[tactic(auto, using(crate::proofs::Promising::cut_back))]
+pub fn emit(
+    alloc: Global,
+    phase: &Phase,
+    places: &Places,
+    ticket: u32,
+    code: &mut Vec<u32>,
+    stages: &mut Vec<CodeStage>,
+) -> Result<(), CodeFault>
+    requires { ticket + 4 < 2 ^ 32 }
+    ensures ok { OnOk result (EmitsTask code.old.items code.new.items phase.now places.now ticket) }
+    ensures err { OnErr result (code.new.items ≡ code.old.items) }
+    ensures stages { OnErr result (stages.new.items ≡ stages.old.items) }
+    ensures fault { IfErr result (IsTaskFault phase.now places.now) }
+{
+    let before = code.len();
+    let mut inside = Vec::new(alloc);
+    emit_words(alloc, phase, places, ticket, code, &mut inside)?;
+    if let Err(error) = stages.extend_from_slice(inside.as_slice()) {
+        code.truncate(before);
+        return Err(CodeFault::OutOfMemory(error));
+    }
     Ok(())
 }

@@ -3,7 +3,7 @@ use Rattle.std.specs.Prelude.{Bool}
 use Rattle.task_code_variables.proofs.Fitting.{passed-on}
 use Rattle.task_code.specs.inner.Emitting.{EmitsTaskIf}
 use Rattle.task_code.proofs.Promising.{alone-promised, task-faulty}
-use Rattle.task_code.proofs.tasks.emit.Goals as goal
+use Rattle.task_code.proofs.tasks.emit_words.Goals as goal
 
 pub returns-clause-ok : goal.returns-clause-ok
 returns-clause-ok c =
