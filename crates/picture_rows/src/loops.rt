@@ -8,8 +8,8 @@ use crate::clamps::Clamp;
 use halide_pipeline::{Operation, words};
 use std::alloc::{AllocError, Global};
 
-/// What this operation makes of both words at each place, in place of the first. Where it is put in place with a literal
-/// operation it is a loop over vectors.
+/// What this operation makes of both words at each place, in place of the first. Where it is put in place with a
+/// literal operation it is a loop over vectors.
 #[inline(always)]
 fn combine_as(operation: Operation, values: &mut [u32], others: &[u32])
     requires { length values.old ≡ length others.now }
@@ -21,8 +21,8 @@ fn combine_as(operation: Operation, values: &mut [u32], others: &[u32])
     }
 }
 
-/// What an operation makes of both words at each place, in place of the first: a loop for each operation, so that none is
-/// told apart inside of it.
+/// What an operation makes of both words at each place, in place of the first: a loop for each operation, so that none
+/// is told apart inside of it.
 pub fn combine(operation: Operation, values: &mut [u32], others: &[u32])
     requires { length values.old ≡ length others.now }
     ensures { AreValues (length values.old) (λ at. word.applied operation (slice_index values.old at)

@@ -2,8 +2,8 @@
 //!
 //! The program reads the files that its arguments name (`test_cases`), answers each case, and prints those whose answer
 //! is another than the rules' own, which stands after the case; none of these was copied from this program.
-//! What algorithms under schedules come to stands beside it (`test_trials`). `generate/make` makes the files that say so
-//! in their first line; the others were worked out by hand, or come from another reading of the rules.
+//! What algorithms under schedules come to stands beside it (`test_trials`). `generate/make` makes the files that say
+//! so in their first line; the others were worked out by hand, or come from another reading of the rules.
 //!
 //! To add a case, write it with its answer into a file of `data/`, and count it in `stdout`. To run one file without
 //! proofs: `rt try -- data/talks.txt`.
