@@ -6,3 +6,4 @@ pub mod LoopLanes
 pub mod Runs
 pub mod Sizing
 pub mod Tests
+pub mod Swapping

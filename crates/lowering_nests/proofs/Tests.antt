@@ -68,7 +68,7 @@ same_counter-self : (a : Counter) → same_counter a a ≡ true
 same_counter-self a = ap (λ (t : Bool). t && same_id a.id a.id) (eq-eqb a.func a.func refl) ∙ same_id-self a.id
 
 -- two counters that differ may be given their values in either order
-with_swaps : (counter own : Counter) (n v : ℕ) (values : Values) → same_counter own counter ≡ false
+pub with_swaps : (counter own : Counter) (n v : ℕ) (values : Values) → same_counter own counter ≡ false
     → with counter n (with own v values) ≡ with own v (with counter n values)
 with_swaps counter own n v values other = fun_ext (λ (at : Counter). by_tests at (same_counter at counter) refl (same_counter at own) refl)
   where
@@ -104,10 +104,15 @@ unfolding every
 every_true zero = refl
 every_true (suc n) = ap (λ (b : Bool). b && true) (every_true n)
 
+pub runs_are : (one other : Runs) → one.misses ≡ other.misses → one.are_runs ≡ other.are_runs → one ≡ other
+runs_are one other misses are =
+    ap (λ (test : Values → Bool). record { misses = test; are_runs = one.are_runs }) misses
+    ∙ ap (λ (test : Values → Bool). record { misses = other.misses; are_runs = test }) are
+
 -- ---- a test in front of iterations
 
 module _ (counter own : Counter) (whole : Whole) (extent : ℕ) (steady : is_steady counter own whole ≡ true) where
-  parts : (same_counter whole.outer counter ≡ false) × ((same_counter whole.inner counter ≡ false) × (same_counter own counter ≡ false))
+  pub parts : (same_counter whole.outer counter ≡ false) × ((same_counter whole.inner counter ≡ false) × (same_counter own counter ≡ false))
   parts =
       let a = and_parts (not (same_counter whole.outer counter)) (not (same_counter whole.inner counter) && not (same_counter own counter)) steady in
       let b = and_parts (not (same_counter whole.inner counter)) (not (same_counter own counter)) a.1 in
@@ -129,7 +134,7 @@ module _ (counter own : Counter) (whole : Whole) (extent : ℕ) (steady : is_ste
         ∙ sym (with_swaps counter own n (whole_value whole values) values parts.1.1)
 
     -- under the test, by what does one iteration
-    each : {A : Type 0} (does : Values → A) (none : A)
+    pub each : {A : Type 0} (does : Values → A) (none : A)
         → cond (passes (with counter n values)) (does (inside (with counter n values))) none ≡ cond (passes values) (does (with counter n (inside values))) none
     each does none =
         ap (λ (b : Bool). cond b (does (inside (with counter n values))) none) passes_stays
@@ -205,14 +210,6 @@ module _ (counter own : Counter) (whole : Whole) (extent : ℕ) (steady : is_ste
         ∙ every_tested (may_be_at_once reads body) count values
         ∙ ap (λ (test : ℕ → Bool). every count test)
         (fun_ext (λ (iteration : ℕ). sym (ap (λ (r : LoopLanes). r.may_be_at_once (with counter iteration values)) (lanes_bind reads own whole extent body))))
-
-    runs_are : (one other : Runs) → one.misses ≡ other.misses → one.are_runs ≡ other.are_runs → one ≡ other
-    runs_are one other misses are =
-        ap (λ (test : Values → Bool). record { misses = test; are_runs = one.are_runs }) misses
-        ∙ ap (λ (test : Values → Bool). record { misses = other.misses; are_runs = test }) are
-
-    abbrev under : Runs → Runs → Type 0
-    under a b = a ≡ b
 
     in_runs_in_front : (reads : Reads) (place x y : ℕ) (expected : Values → Bool) → runs reads place x y expected front
         ≡ runs_at reads place x y expected (layer.For counter count kinds.Serial (runs reads place x y expected tested))

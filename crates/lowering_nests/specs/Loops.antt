@@ -40,3 +40,18 @@ pub record Loops (counter : Counter) (count : ℕ) (kind : LoopKind) (body made 
   pub about : (place : ℕ) → is_about place made ≡ is_about_at place (layer.For counter count kind (is_about place body))
   pub in_runs : (reads : Reads) (place x y : ℕ) (expected : Values → Bool) → stored.runs reads place x y expected made
       ≡ stored.runs_at reads place x y expected (layer.For counter count kind (stored.runs reads place x y expected body))
+
+-- It does what the body does, stores where that does, and asks for as much.
+pub record AreAlike (body made : Stmt) : Type 0 where
+  pub runs : (points : Points) (inputs : Planes) (values : Values) (funcs : Planes) → run points inputs made values funcs ≡ run points inputs body values funcs
+  pub traces : (points : Points) (inputs : Planes) (place x y : ℕ) (values : Values) (so_far : Trace)
+      → trace points inputs place x y made values so_far ≡ trace points inputs place x y body values so_far
+  pub sound : (reads : Reads) (written : Points) (loaded : Point → Bool) (values : Values)
+      → is_sound reads written loaded made values ≡ is_sound reads written loaded body values
+  pub depth : depth made ≡ depth body
+  pub needs : greatest_need made ≡ greatest_need body
+  pub sizes : whole_size made ≡ whole_size body
+  pub at_once : (reads : Reads) (values : Values) → may_be_at_once reads made values ≡ may_be_at_once reads body values
+  pub about : (place : ℕ) → is_about place made ≡ is_about place body
+  pub in_runs : (reads : Reads) (place x y : ℕ) (expected : Values → Bool) → stored.runs reads place x y expected made
+      ≡ stored.runs reads place x y expected body

@@ -6,9 +6,11 @@
 //!   the lanes of a vectorized loop may be done at once: `specs/LoopLanes.antt`.
 //! - [`splits`]: the values of loops that are split.
 //! - [`loops`]: loops around a body.
+//! - `fronts`: the tests at a body's front, those that a loop doesn't change first.
 //! - [`laws`]: a statement repeats itself.
 #![tactic(auto)]
 
+mod fronts;
 pub mod laws;
 pub mod loops;
 pub mod nests;

@@ -15,7 +15,7 @@ ghost use Rattle.loop_ir.specs.Soundness.{every, is_sound};
 ghost use Rattle.loop_ir.specs.Stores.{Trace, trace};
 ghost use Rattle.loop_ir.specs.declared.statements.LoopKind.TheVariants as kinds;
 ghost use Rattle.loop_ir.specs.declared.statements.Stmt.{Stmt};
-ghost use Rattle.lowering_nests.specs.Loops.{Loops, is_steady};
+ghost use Rattle.lowering_nests.specs.Loops.{Loops};
 ghost use Rattle.lowering_nests.specs.Nests.{AreFew, Repeats};
 ghost use Rattle.lowering_nests.specs.LoopLanes.{GoesAround, MayBeAround, MayBeAtOnce};
 ghost use Rattle.schedule_loops.specs.Runs.{is_vectorized_loop};
@@ -27,10 +27,11 @@ ghost use Rattle.schedule_lines.specs.declared.stages.Mark.TheVariants as marks;
 ghost use Rattle.schedule_loops.specs.Visits as counts;
 ghost use Rattle.schedule_loops.specs.Visits.{nest, upto};
 
+use crate::fronts::{is_steady, joined, steady_first};
 use crate::splits::extent_of;
-use loop_ir::expressions::{Counter, same_counter};
+use loop_ir::expressions::Counter;
 use loop_ir::parts::StmtParts;
-use loop_ir::statements::{LoopKind, Stmt, Whole};
+use loop_ir::statements::{LoopKind, Stmt};
 use schedule_lines::{Loop, Mark};
 use schedule_loops::LoopSizes;
 use sqlite_items::Boxed;
@@ -52,14 +53,6 @@ fn kind_of(own: &Loop) -> LoopKind
     }
 }
 
-/// Whether a split loop's value, and what it is made of, stay the same in all iterations of a loop.
-fn is_steady(counter: Counter, own: Counter, whole: Whole) -> bool
-    ensures { result ≡ is_steady counter own whole }
-{
-    !same_counter(whole.outer, counter)
-        && (!same_counter(whole.inner, counter) && !same_counter(own, counter))
-}
-
 /// A loop around a body.
 fn around(
     alloc: Global,
@@ -79,30 +72,21 @@ fn around(
 fn in_order(alloc: Global, counter: Counter, count: u32, body: Stmt) -> Result<Stmt, AllocError>
     ensures { IfOk result (Loops counter count kinds.Serial body) }
 {
-    match body.into_parts() {
+    let first = steady_first(alloc, &[counter], body)?;
+    match first.into_parts() {
         StmtParts::Bind(own, whole, extent, inside) => {
             if is_steady(counter, own, whole) {
                 let made = in_order(alloc, counter, count, inside.into_inner())?;
                 let made = Boxed::new(alloc, made)?;
                 return Ok(Stmt::Bind(own, whole, extent, made));
             }
-            let body = Stmt::Bind(own, whole, extent, inside);
-            let made = around(alloc, counter, count, LoopKind::Serial, body)?;
+            let same = Stmt::Bind(own, whole, extent, inside);
+            let made = around(alloc, counter, count, LoopKind::Serial, same)?;
             Ok(made)
         }
-        StmtParts::Store(store) => {
-            let body = Stmt::Store(store);
-            let made = around(alloc, counter, count, LoopKind::Serial, body)?;
-            Ok(made)
-        }
-        StmtParts::Sequence(first, second) => {
-            let body = Stmt::Sequence(first, second);
-            let made = around(alloc, counter, count, LoopKind::Serial, body)?;
-            Ok(made)
-        }
-        StmtParts::For(own, times, kind, inside) => {
-            let body = Stmt::For(own, times, kind, inside);
-            let made = around(alloc, counter, count, LoopKind::Serial, body)?;
+        parts => {
+            let same = joined(parts);
+            let made = around(alloc, counter, count, LoopKind::Serial, same)?;
             Ok(made)
         }
     }
