@@ -30,9 +30,10 @@ fn emit_by_forms(
 {
     let mut words = Vec::new(alloc);
     let mut inside = Vec::new(alloc);
-    match forms::emit_task(alloc, phase, places, ticket, &mut words, &mut inside) {
+    let most = task_size(phase) as usize;
+    match forms::emit_task(alloc, phase, places, ticket, &mut words, &mut inside, most) {
         Ok(()) => {
-            if words.len() > task_size(phase) as usize {
+            if words.len() > most {
                 return Ok(false);
             }
             let found = inside.as_slice();

@@ -1,4 +1,4 @@
--- Forms that stay below an extent.
+-- Forms that stay below an extent, or past it.
 use Rattle.std.proofs.Common.{◌≡◌, ℕ, ◌+◌, ◌-◌, ◌*◌, ◌%◌, ◌^◌, ◌<◌, ◌≤◌, List, [], ◌∷◌, length, get_or, take, drop, true, ap, ◌∙◌, sym, subst, arith}
 use Rattle.std.proofs.Math.Nat.{mul-add, mul_comm}
 use Rattle.loop_ir.specs.declared.expressions.Counter.{Counter}
@@ -10,7 +10,7 @@ use Rattle.task_code_registers.specs.Scopes.{form_value}
 use Rattle.task_code_registers.proofs.Knowing.{others-are}
 use Rattle.task_code_registers.proofs.Variables.{same_counter-true}
 use Rattle.task_code_loops.specs.declared.bounds.Bound.{Bound}
-use Rattle.task_code_loops.specs.Bounds.{AreBelow, IsMost, IsBelow}
+use Rattle.task_code_loops.specs.Bounds.{AreBelow, IsMost, IsBelow, IsPast}
 
 pub bound-first : (bounds : List Bound) (other : Bound) (counter : Counter) (values : Values) → 1 ≤ length bounds
     → same_counter (get_or bounds 0 other).counter counter ≡ true → AreBelow bounds values → values counter < (get_or bounds 0 other).count
@@ -49,3 +49,12 @@ stays-below bounds form terms most extent none et x less small hart values below
     let l : s ≤ most = subst (λ ts. sum_of values ts ≤ most) et (x values below) in
     let g : ((form.sum.number + s) % 2 ^ 32 + hart * 0) % 2 ^ 32 < extent = omega (arith, l, less, small) in
     subst (λ k. ((form.sum.number + s) % 2 ^ 32 + hart * k) % 2 ^ 32 < extent) (sym none) g
+
+pub stays-past : (bounds : List Bound) (form : AffineForm) (terms : List Term) (most extent : ℕ) → form.per_hart ≡ 0 → terms ≡ form.sum.terms
+    → IsMost bounds terms most → form.sum.number + most < 2 ^ 32 → extent ≤ form.sum.number → IsPast bounds form extent
+unfolding form_value linear_value
+stays-past bounds form terms most extent none et x small past hart values below =
+    let s = sum_of values form.sum.terms in
+    let l : s ≤ most = subst (λ ts. sum_of values ts ≤ most) et (x values below) in
+    let g : extent ≤ ((form.sum.number + s) % 2 ^ 32 + hart * 0) % 2 ^ 32 = omega (arith, l, small, past) in
+    subst (λ k. extent ≤ ((form.sum.number + s) % 2 ^ 32 + hart * k) % 2 ^ 32) (sym none) g

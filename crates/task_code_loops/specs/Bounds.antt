@@ -1,4 +1,4 @@
--- Forms that stay below an extent. This project's own.
+-- Forms that stay below an extent, or past it. This project's own.
 use Rattle.std.specs.Prelude.{◌≤◌, ◌<◌, ℕ, List, [], ◌∷◌}
 use Rattle.loop_ir.specs.declared.expressions.Counter.{Counter}
 use Rattle.loop_ir.specs.declared.expressions.Term.{Term}
@@ -24,3 +24,7 @@ IsMost bounds terms most = (values : Values) → AreBelow bounds values → sum_
 -- a form stays below an extent
 abbrev pub IsBelow : List Bound → AffineForm → ℕ → Type 0
 IsBelow bounds form extent = (hart : ℕ) (values : Values) → AreBelow bounds values → form_value hart values form < extent
+
+-- a form is an extent or more
+abbrev pub IsPast : List Bound → AffineForm → ℕ → Type 0
+IsPast bounds form extent = (hart : ℕ) (values : Values) → AreBelow bounds values → extent ≤ form_value hart values form

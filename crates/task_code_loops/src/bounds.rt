@@ -1,7 +1,7 @@
-//! Forms that stay below an extent, so that they need no test.
+//! Forms that stay below an extent, so that they need no test, or past it, so that what they test is left out.
 
 ghost use Rattle.std.specs.Prelude.{◌≡◌, IfSome, true};
-ghost use Rattle.task_code_loops.specs.Bounds.{IsBelow, IsBound, IsMost};
+ghost use Rattle.task_code_loops.specs.Bounds.{IsBelow, IsBound, IsMost, IsPast};
 
 use loop_ir::expressions::{Counter, Term, same_counter};
 use task_code_registers::scopes::AffineForm;
@@ -62,6 +62,24 @@ pub fn is_below(form: &AffineForm, bounds: &[Bound], extent: u32) -> bool
                 return false;
             }
             u64::from(form.sum.number) + most < u64::from(extent)
+        }
+        None => false,
+    }
+}
+
+/// Whether a form is known to be an extent or more.
+pub fn is_past(form: &AffineForm, bounds: &[Bound], extent: u32) -> bool
+    ensures { result ≡ true → IsPast bounds.now form.now extent }
+{
+    if form.per_hart != 0 || form.sum.number < extent {
+        return false;
+    }
+    match most_of(form.sum.terms.as_slice(), bounds) {
+        Some(most) => {
+            if most >= 1 << 32 {
+                return false;
+            }
+            u64::from(form.sum.number) + most < 1 << 32
         }
         None => false,
     }

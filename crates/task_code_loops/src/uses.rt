@@ -3,10 +3,13 @@
 use crate::known::{KnownSum, by_others};
 use loop_ir::expressions::{Counter, same_counter};
 use std::alloc::{AllocError, Global};
-use task_code_registers::holding::at_value;
+use task_code_registers::holding::{at_value, stride_of};
 use task_code_registers::numbers::fits;
 use task_code_registers::scopes::AffineForm;
 use task_code_registers::sums::small_distance;
+
+/// So far an immediate reaches.
+const MOST_NEAR: u64 = 2048;
 
 /// A form, and how often one near it is used.
 #[derive(Debug, Drop)]
@@ -55,23 +58,70 @@ fn has_counter(form: &AffineForm, counter: Counter) -> bool {
         .any(|term| same_counter(term.counter, counter))
 }
 
-/// Counts forms as they are in a loop's first iteration.
-pub(crate) fn count_at_zero(
+/// Counts a form as it is in one iteration of a loop. What it serves counts for the first iteration's too: that one is
+/// wanted first.
+fn count_at(
+    alloc: Global,
+    form: &AffineForm,
+    times: u32,
+    counter: Counter,
+    iteration: u32,
+    found: &mut Vec<Use>,
+) -> Result<(), AllocError> {
+    let start = at_value(alloc, form, counter, 0)?;
+    if iteration == 0 {
+        return count(found, start, times);
+    }
+    let here = at_value(alloc, form, counter, iteration)?;
+    count(found, here, times)?;
+    count(found, start, times)
+}
+
+/// Whether a form in a loop's first iteration is near it in so many.
+fn is_near_in_all(form: &AffineForm, counter: Counter, count: u32) -> bool {
+    let stride = stride_of(form.sum.terms.as_slice(), counter);
+    let steps = count.saturating_sub(1);
+    let up = u64::from(stride).saturating_mul(u64::from(steps));
+    let down = u64::from(0_u32.wrapping_sub(stride)).saturating_mul(u64::from(steps));
+    up < MOST_NEAR || down < MOST_NEAR
+}
+
+/// Counts a form as it is in a loop's first iteration, or in each one where so many are laid out.
+fn count_in_each(
+    alloc: Global,
+    form: AffineForm,
+    times: u32,
+    counter: Counter,
+    laid_out: u32,
+    found: &mut Vec<Use>,
+) -> Result<(), AllocError> {
+    if !has_counter(&form, counter) {
+        return count(found, form, times);
+    }
+    let start = at_value(alloc, &form, counter, 0)?;
+    if is_small(&start) {
+        return Ok(());
+    }
+    if is_near_in_all(&form, counter, laid_out) {
+        return count(found, start, times);
+    }
+    for iteration in 0..laid_out {
+        count_at(alloc, &form, times, counter, iteration, found)?;
+    }
+    Ok(())
+}
+
+/// Counts forms as they are in a loop's first iteration, or in each one where so many are laid out.
+pub(crate) fn count_inside(
     alloc: Global,
     inner: Vec<Use>,
     counter: Counter,
+    laid_out: u32,
     found: &mut Vec<Use>,
 ) -> Result<(), AllocError> {
     for own in inner {
         let Use { form, times } = own;
-        if !has_counter(&form, counter) {
-            count(found, form, times)?;
-        } else {
-            let start = at_value(alloc, &form, counter, 0)?;
-            if !is_small(&start) {
-                count(found, start, times)?;
-            }
-        }
+        count_in_each(alloc, form, times, counter, laid_out, found)?;
     }
     Ok(())
 }

@@ -5,7 +5,7 @@ use crate::bounds::{Bound, is_below};
 use crate::known::KnownSum;
 use crate::sums::combined;
 use crate::tests::number;
-use crate::uses::{Use, count, count_at_zero, count_by_others, most_used_first};
+use crate::uses::{Use, count, count_by_others, count_inside, most_used_first};
 use halide_pipeline::{Operation, Source, words};
 use loop_ir::expressions::{Counter, Expr, Linear, Term, same_counter};
 use loop_ir::statements::{LoopKind, Stmt, Store, Whole};
@@ -20,6 +20,9 @@ use task_code_scalar::layouts::{Places, place_of};
 /// As many uses a sum counts for whose value is wanted and not only an address: there may be no code for it where no
 /// register holds it.
 const VALUE_USES: u32 = 64;
+
+/// So many iterations of a loop that is laid out are looked at.
+const MOST_LAID_OUT: u32 = 16;
 
 /// An expression as a sum, if it is one.
 fn sum_of(alloc: Global, e: &Expr) -> Result<Option<Linear>, AllocError> {
@@ -334,6 +337,15 @@ fn count_tested(
     Ok(())
 }
 
+/// How many iterations of a loop are looked at on their own: those of one that is laid out, unless they are many.
+fn laid_out(count: u32, kind: LoopKind) -> u32 {
+    match kind {
+        LoopKind::Unrolled => count.min(MOST_LAID_OUT),
+        LoopKind::Serial => 1,
+        LoopKind::Vectorized => 1,
+    }
+}
+
 /// The variable of a loop whose iterations are lanes.
 fn lanes_of(counter: Counter, kind: LoopKind) -> Option<LaneStep> {
     match kind {
@@ -384,7 +396,7 @@ fn gather(
             let all = within.as_slice();
             let lanes = lanes_of(*counter, *kind);
             gather(alloc, places, all, lanes, body.get(), &mut inner)?;
-            count_at_zero(alloc, inner, *counter, found)
+            count_inside(alloc, inner, *counter, laid_out(*count, *kind), found)
         }
         Stmt::Bind(counter, whole, extent, body) => {
             let mut inner = Vec::new(alloc);

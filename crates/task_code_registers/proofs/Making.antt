@@ -9,6 +9,7 @@ use Rattle.rv_insn.specs.declared.instructions.Insn.TheVariants.{Lui, AluImm, Sh
 use Rattle.rv_insn.specs.declared.operations.AluImmOp.TheVariants as alu_imms
 use Rattle.rv_insn.specs.declared.operations.ShiftOp.TheVariants as shifts
 use Rattle.rv_insn.specs.declared.operations.AluOp.TheVariants as alus
+use Rattle.halide_pipeline.specs.Words as words
 use Rattle.hart_core.specs.Scalar.{extended}
 use Rattle.lanes.specs.Words as lanes
 use Rattle.multi_hart_laws.specs.Alone.{World}
@@ -143,6 +144,23 @@ plus-small r s n most c0 c1 low high ls fit small some x = record {
   short = some;
   does = λ w m f l zero word.
       puts-set w m l (ap (lanes.add 32 (f s)) (small-lower n fit small)) (imm-sets w m l alu_imms.Addi f r s (lower n) (f s) low high ls refl);
+}
+
+-- two of them
+pub plus-twice : (r s n a b : ℕ) (c0 c1 c2 : List ℕ) → 1 ≤ r → r < 32 → s < 32 → n < 2 ^ 32 → Fits a → a < 2 ^ 32 → Fits b → b < 2 ^ 32
+    → b ≡ words.subtract n a → Emits c0 c1 (AluImm alu_imms.Addi r s (lower a) ∷ []) → Emits c1 c2 (AluImm alu_imms.Addi r r (lower b) ∷ [])
+    → MakesOf c0 c2 3 r s (λ v. (v + n) % 2 ^ 32)
+unfolding words.subtract
+plus-twice r s n a b c0 c1 c2 low high ls small fa sa fb sb e x y = record {
+  insns = (AluImm alu_imms.Addi r s (lower a) ∷ []) ++ (AluImm alu_imms.Addi r r (lower b) ∷ []);
+  emits = emits_then x y;
+  short = omega arith;
+  does = λ w m f l zero word.
+      let one = puts-set w m l (ap (lanes.add 32 (f s)) (small-lower a fa sa)) (imm-sets w m l alu_imms.Addi f r s (lower a) (f s) low high ls refl) in
+      let two = puts-set w m l (ap (lanes.add 32 ((f s + a) % 2 ^ 32)) (small-lower b fb sb))
+      (imm-sets w m l alu_imms.Addi one.after r r (lower b) ((f s + a) % 2 ^ 32) low high high one.value) in
+      let g : ((f s + a) % 2 ^ 32 + b) % 2 ^ 32 ≡ (f s + n) % 2 ^ 32 = omega (arith, e, small, sa) in
+      puts-then w m l one (inr (inr refl)) (puts-is w m l g two);
 }
 
 -- a literal in the scratch register, and an operation on it

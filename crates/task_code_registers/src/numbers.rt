@@ -9,6 +9,7 @@ ghost use Rattle.task_code_registers.specs.Emitting.{Fits, Makes, MakesOf};
 ghost use Rattle.task_code_registers.specs.Registers.{IsSource, IsTarget};
 
 use crate::registers::{SCRATCH, ZERO};
+use halide_pipeline::words;
 use rv_insn::{AluImmOp, AluOp, Imm12, Imm20, Insn, ShiftOp};
 use std::alloc::AllocError;
 use task_code_scalar::instructions::{alu, emit_literal, put, register, shift};
@@ -91,7 +92,13 @@ pub fn emit_number(code: &mut Vec<u32>, r: u8, number: u32) -> Result<(), AllocE
     Ok(())
 }
 
-/// Appends what leaves the sum of a register and a number; nothing where it stands there already.
+/// The immediate nearest to a number that none holds.
+fn first_half(number: u32) -> u32 {
+    if number < 1 << 31 { 2047 } else { 0xffff_f800 }
+}
+
+/// Appends what leaves the sum of a register and a number: nothing where it stands there already, and two immediates
+/// where these reach as far, which take no scratch register and one instruction less.
 ///
 /// # Errors
 ///
@@ -107,6 +114,13 @@ pub fn emit_plus(code: &mut Vec<u32>, r: u8, s: u8, number: u32) -> Result<(), A
     }
     if fits(number) {
         add_small(code, r, s, number)?;
+        return Ok(());
+    }
+    let first = first_half(number);
+    let second = words::subtract(number, first);
+    if fits(first) && fits(second) {
+        add_small(code, r, s, first)?;
+        add_small(code, r, r, second)?;
         return Ok(());
     }
     emit_number(code, SCRATCH, number)?;

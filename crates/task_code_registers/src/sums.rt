@@ -364,19 +364,38 @@ pub struct At {
     pub offset: u32,
 }
 
-/// The part of a number that an instruction's offset can hold.
+/// The part of a number that an instruction's offset can hold: such that another immediate holds the rest, where that
+/// goes, or else such that the rest has no low bits.
 fn offset_of(number: u32) -> u32
     ensures { Fits result }
 {
+    if 2048 <= number && number < 4092 {
+        return 2044;
+    }
+    if 0xffff_f000 <= number && number < 0xffff_f800 {
+        return 0xffff_f800;
+    }
     let low = number % 4096;
     if low < 2048 { low } else { 0xffff_f000 + low }
 }
 
-/// The form without that part of its number, and the part.
-fn without_offset(alloc: Global, form: &AffineForm) -> Result<(AffineForm, u32), AllocError>
+/// By how much a form is more than the nearest one that is held, or than its terms where there is none.
+fn far_from(scope: &[Held], form: &AffineForm) -> u32 {
+    match nearest(scope, form) {
+        Some(found) => found.number,
+        None => form.sum.number,
+    }
+}
+
+/// The form without the part of a number that an offset can hold, and that part.
+fn without_offset(
+    alloc: Global,
+    form: &AffineForm,
+    number: u32,
+) -> Result<(AffineForm, u32), AllocError>
     ensures { IfOk result (λ made. IsRest form.now made.0 made.1) }
 {
-    let offset = offset_of(form.sum.number);
+    let offset = offset_of(number);
     let mut rest = form.copy(alloc)?;
     rest.sum.number = words::subtract(form.sum.number, offset);
     Ok((rest, offset))
@@ -408,7 +427,8 @@ pub fn emit_address(
         }
         None => {}
     }
-    let (rest, offset) = without_offset(alloc, form)?;
+    let far = far_from(scope, form);
+    let (rest, offset) = without_offset(alloc, form, far)?;
     emit_form(code, scope, &rest, r)?;
     Ok(At {
         register: r,

@@ -1,6 +1,5 @@
 -- Iterations that are laid out, each with code of its own.
 use Rattle.std.proofs.Common.{◌≡◌, ℕ, suc, ◌+◌, ◌-◌, ◌%◌, ◌^◌, ◌<◌, ◌≤◌, List, [], ◌++◌, false, refl, ap, ◌∙◌, sym, subst, arith}
-use Rattle.task_code_loops.specs.declared.bounds.Bound.{Bound}
 use Rattle.loop_ir.specs.declared.expressions.Counter.{Counter}
 use Rattle.loop_ir.specs.declared.expressions.Linear.{Linear}
 use Rattle.loop_ir.specs.declared.statements.LoopKind.{LoopKind}
@@ -98,16 +97,11 @@ pub number-enters : (context within : Context) (counter : Counter) (k : ℕ) (nu
 number-enters context within counter k number small is meets-sum values meets =
     meets-sum.meets values k (let e : k % 2 ^ 32 ≡ k = omega (arith, small) in e ∙ sym (is values)) meets
 
--- as the emitter calls it
-pub parted-arm : (places : Places) (scope : List Held) (context within : Context) (counter : Counter) (count : ℕ) (body : Stmt) (others : Bound)
-    (number : Linear) (c0 c1 c2 : List ℕ) → 1 ≤ count → count < 2 ^ 32 → others ≡ record { counter = counter; count = count - 1 }
-    → mentions counter scope ≡ false → ((values : Values) → linear_value values number ≡ others.count) → MeetsSum context counter number within
-    → EmitsLoop c0 c1 places scope (Meets context) others.counter others.count body → EmitsStatement c1 c2 places scope (Meets within) body
-    → EmitsLoop c0 c2 places scope (Meets context) counter count body
-parted-arm places scope context within counter count body others number c0 c1 c2 some small eo none is sum x y kind plain =
-    let more : suc (count - 1) ≡ count = omega (arith, some) in
-    let few : count - 1 < 2 ^ 32 = omega (arith, small) in
-    subst (λ n. EmitsStatement c0 c2 places scope (Meets context) (s.For counter n kind body)) more
-    (parted-emits places scope (Meets context) counter body (count - 1) kind (Meets within) c0 c1 c2 plain none
-    (number-enters context within counter (count - 1) number few (λ values. is values ∙ ap (λ (o : Bound). o.count) eo) sum)
-    (subst (λ (o : Bound). EmitsStatement c0 c1 places scope (Meets context) (s.For o.counter o.count kind body)) eo (x kind plain)) y)
+-- as the emitter calls it, with each iteration after the first ones
+pub parted-arm : (places : Places) (scope : List Held) (context within : Context) (counter : Counter) (k : ℕ) (body : Stmt) (number : Linear)
+    (c0 c1 c2 : List ℕ) → k < 2 ^ 32 → mentions counter scope ≡ false → ((values : Values) → linear_value values number ≡ k)
+    → MeetsSum context counter number within → EmitsLoop c0 c1 places scope (Meets context) counter k body
+    → EmitsStatement c1 c2 places scope (Meets within) body → EmitsLoop c0 c2 places scope (Meets context) counter (suc k) body
+parted-arm places scope context within counter k body number c0 c1 c2 small none is sum x y kind plain =
+    parted-emits places scope (Meets context) counter body k kind (Meets within) c0 c1 c2 plain none
+    (number-enters context within counter k number small is sum) (x kind plain) y

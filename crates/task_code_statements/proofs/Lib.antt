@@ -1,5 +1,6 @@
 pub mod Following
 pub mod Guarding
+pub mod Idling
 pub mod Meeting
 pub mod Giving
 pub mod Naming

@@ -1,5 +1,6 @@
 pub mod Contexts
 pub mod Drawing
+pub mod Idling
 pub mod Lacking
 pub mod Laying
 pub mod Lessers

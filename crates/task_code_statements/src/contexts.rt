@@ -22,6 +22,8 @@ pub enum Holding {
     Pointers,
     /// Loops around others their variables first, so that pointers of those inside can be made of them.
     OuterVariables,
+    /// Loops around others their variables alone, so that all else is left to the innermost ones.
+    OuterVariablesAlone,
     /// Each its variable first, so that any address can be made of variables.
     Variables,
     /// Each its variable first, and no values that stay the same.
@@ -33,7 +35,7 @@ impl Holding {
     pub fn has_variable(self, inside: usize) -> bool {
         match self {
             Holding::Pointers => false,
-            Holding::OuterVariables => inside > 0,
+            Holding::OuterVariables | Holding::OuterVariablesAlone => inside > 0,
             Holding::Variables | Holding::VariablesWithoutNames => true,
         }
     }
@@ -44,24 +46,42 @@ impl Holding {
     }
 }
 
+/// How the loops of a task are made.
+#[derive(Clone, Copy, Debug, PartialEq, Eq)]
+pub struct Manner {
+    pub holding: Holding,
+    /// Whether they are made in parts, so that tests of split loops fall away in first iterations.
+    pub is_parted: bool,
+}
+
+impl Holding {
+    /// The same in loops that are made in parts, or not.
+    pub fn made(self, is_parted: bool) -> Manner {
+        Manner {
+            holding: self,
+            is_parted,
+        }
+    }
+}
+
 /// Loop variables that are sums of others, numbers below which loop variables stay, and names.
 #[derive(Debug, Drop)]
 pub struct Context {
     pub known: Vec<KnownSum>,
     pub bounds: Vec<Bound>,
     pub names: Vec<Named>,
-    pub holding: Holding,
+    pub manner: Manner,
 }
 
 /// Nothing is known.
-pub fn nothing_known(alloc: Global, holding: Holding) -> Context
+pub fn nothing_known(alloc: Global, manner: Manner) -> Context
     ensures { IsEmpty result }
 {
     Context {
         known: Vec::new(alloc),
         bounds: Vec::new(alloc),
         names: Vec::new(alloc),
-        holding,
+        manner,
     }
 }
 
@@ -197,7 +217,7 @@ pub fn in_loop(alloc: Global, context: &Context, own: Bound) -> Result<Context, 
         known,
         bounds,
         names,
-        holding: context.holding,
+        manner: context.manner,
     })
 }
 
@@ -225,7 +245,7 @@ pub fn with_sum(
         known,
         bounds,
         names,
-        holding: context.holding,
+        manner: context.manner,
     })
 }
 
@@ -243,7 +263,7 @@ pub fn with_zero(alloc: Global, context: Context, counter: Counter) -> Result<Co
         known,
         bounds: context.bounds,
         names: context.names,
-        holding: context.holding,
+        manner: context.manner,
     })
 }
 
@@ -270,7 +290,7 @@ fn with_name(
         known,
         bounds,
         names,
-        holding: context.holding,
+        manner: context.manner,
     }))
 }
 
@@ -299,6 +319,6 @@ pub fn with_value(
         known: made.known,
         bounds,
         names: made.names,
-        holding: made.holding,
+        manner: made.manner,
     }))
 }

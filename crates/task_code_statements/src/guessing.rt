@@ -2,9 +2,11 @@
 
 use crate::contexts::{Context, in_loop, with_value};
 use crate::names::free_name;
+use crate::parting::loop_part;
 use crate::plain::{is_name, name};
 use crate::rewriting::store_by_others;
-use crate::splits::{Entered, enter_split, is_cut, unnamed_start, without_last};
+use crate::room::is_in_order;
+use crate::splits::{Entered, enter_split, unnamed_start};
 use crate::statements::{is_laid_out, made_store};
 use crate::staying::{add, is_among, is_same_in_all, may_stay_in, staying};
 use crate::vectorizing::is_at_once;
@@ -50,7 +52,7 @@ fn ready_loop(
     made: Boxed<Stmt>,
     named: &mut Vec<Expr>,
 ) -> Result<Stmt, CodeFault> {
-    if is_at_once(kind) || is_laid_out(kind, own.count) || !context.holding.has_names() {
+    if is_at_once(kind) || is_laid_out(kind, own.count) || !context.manner.holding.has_names() {
         return Ok(Stmt::For(own.counter, own.count, kind, made));
     }
     let all = staying(alloc, context.bounds.as_slice(), made.get())?;
@@ -62,13 +64,19 @@ fn ready_loop(
     Ok(Stmt::For(own.counter, own.count, kind, body))
 }
 
-/// A loop, without its last iteration where that is another one.
-fn without_cut(body: &Stmt, own: Bound) -> Bound {
-    if is_cut(body, own) {
-        without_last(own)
-    } else {
-        own
-    }
+/// A loop, without last iterations that are other ones.
+fn without_cut(
+    alloc: Global,
+    context: &Context,
+    body: &Stmt,
+    own: Bound,
+) -> Result<Bound, CodeFault> {
+    let first = loop_part(alloc, context, own, body)?;
+    let count = if first == 0 { own.count } else { first };
+    Ok(Bound {
+        counter: own.counter,
+        count,
+    })
 }
 
 /// Adds an expression to others.
@@ -140,7 +148,11 @@ fn ready(
                 counter: *counter,
                 count: *count,
             };
-            let own = without_cut(body.get(), own);
+            let own = if is_in_order(*kind, *count) {
+                without_cut(alloc, context, body.get(), own)?
+            } else {
+                own
+            };
             let within = with_cuts && !is_at_once(*kind);
             let inner = in_loop(alloc, context, own)?;
             let made = ready_part(alloc, places, &inner, within, body.get(), named)?;
@@ -308,7 +320,7 @@ pub fn ready_to_stay(
     own: Bound,
     body: &Stmt,
 ) -> Result<Option<Guess>, CodeFault> {
-    if !context.holding.has_names() || !may_stay_in(alloc, own.counter, body)? {
+    if !context.manner.holding.has_names() || !may_stay_in(alloc, own.counter, body)? {
         return Ok(None);
     }
     let inner = in_loop(alloc, context, own)?;
@@ -348,7 +360,7 @@ fn add_starts(
                 counter: *counter,
                 count: *count,
             };
-            let own = without_cut(body.get(), own);
+            let own = without_cut(alloc, context, body.get(), own)?;
             let inner = in_loop(alloc, context, own)?;
             add_starts(alloc, bounds, &inner, body.get(), found)
         }

@@ -14,6 +14,8 @@
 //! - `statements`: appends what does it, with forms that registers hold (`specs/Statements.antt`).
 //! - `vectorizing`: a vectorized loop whose iterations store all at once (`specs/Vectorizing.antt`).
 //! - `guards`: the tests in front of such a store.
+//! - `parting`: loops in two parts, of which the first needs no tests, and what is known to do nothing
+//!   (`specs/Idling.antt`).
 //! - [`tasks`]: appends what does one task of a phase (`specs/Tasks.antt`).
 //! - [`stages`]: which words are the code of stages inside a phase.
 //!
@@ -39,6 +41,7 @@ mod lessers;
 mod making;
 mod mentions;
 mod names;
+mod parting;
 mod plain;
 mod replacing;
 mod rewriting;

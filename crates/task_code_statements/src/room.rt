@@ -66,6 +66,10 @@ pub(crate) fn reserve(scope: &[Held], inside: usize, holding: Holding) -> usize 
     match holding {
         Holding::Pointers => shares(free, inside, POINTER_REGISTERS),
         Holding::VariablesWithoutNames => shares(free, inside, VARIABLE_REGISTERS),
+        Holding::OuterVariablesAlone => match inside {
+            0 => 0,
+            _ => free.saturating_sub(1),
+        },
         Holding::OuterVariables | Holding::Variables => match inside {
             0 => 0,
             1 => free.saturating_sub(1).min(INNERMOST_REGISTERS),
@@ -103,7 +107,7 @@ pub(crate) fn wanted_by(
 ) -> Result<Vec<AffineForm>, AllocError> {
     let bounds = context.bounds.as_slice();
     let mut wanted = Vec::new(alloc);
-    if context.holding.has_variable(depth(guess.body.get())) {
+    if context.manner.holding.has_variable(depth(guess.body.get())) {
         let own = variable(alloc, counter)?;
         wanted.push(own)?;
     }

@@ -1,6 +1,6 @@
 //! Split loops: their values as sums.
 
-ghost use Rattle.std.specs.Prelude.{◌≡◌, ◌-◌, ◌<◌, ◌^◌, ◌≤◌, IfOk, IfSome, Some, min, true};
+ghost use Rattle.std.specs.Prelude.{◌≡◌, ◌<◌, ◌^◌, ◌≤◌, IfOk, IfSome, Some, min, true};
 ghost use Rattle.task_code_statements.specs.Splits.{AddsInner, BeginsAt, BeginsRun, EntersSplit, HasLesser, IsInner};
 ghost use Rattle.task_code_statements.specs.Splits.{IsProduct, IsSplitSum, IsSplitValue, IsStart, IsValueOf};
 
@@ -332,17 +332,6 @@ pub(crate) fn enter_split(
             let form = AffineForm { sum, per_hart: 0 };
             Ok(Entered { inner, form })
         }
-    }
-}
-
-/// A loop without its last iteration.
-pub(crate) fn without_last(own: Bound) -> Bound
-    requires { 1 ≤ own.count }
-    ensures { result ≡ record { counter = own.counter; count = own.count - 1 } }
-{
-    Bound {
-        counter: own.counter,
-        count: own.count - 1,
     }
 }
 

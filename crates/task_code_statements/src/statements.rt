@@ -14,9 +14,10 @@ ghost use Rattle.task_code_statements.specs.Statements.{EmitsLoop, EmitsStatemen
 use crate::contexts::{Context, in_loop, with_sum};
 use crate::guessing::Guess;
 use crate::making::unclamped_store;
+use crate::parting::{is_idle, loop_part};
 use crate::plain::is_plain_store;
 use crate::room::{depth, reserve, wanted_by, wanted_in};
-use crate::splits::{enter_split, is_cut, without_last};
+use crate::splits::enter_split;
 use crate::stages::{Code, add_first, add_last, add_second, no_words_beside};
 use crate::starts::{emit_before, emit_start};
 use crate::vectorizing::emit_vectorized;
@@ -174,7 +175,7 @@ fn begin_iterations(
         [] => wanted_in(alloc, site.places, inner, own.counter, iterations.body)?,
         [guess, ..] => wanted_by(alloc, site.places, inner, own.counter, guess)?,
     };
-    let reserved = reserve(site.scope, depth(iterations.body), inner.holding);
+    let reserved = reserve(site.scope, depth(iterations.body), inner.manner.holding);
     let begun = begin(alloc, code, site.scope, own, wanted.as_slice(), reserved)?;
     Ok(begun)
 }
@@ -264,12 +265,12 @@ fn emit_laid_out(
         }
         let number = Linear::of_number(alloc, iteration);
         let inner = with_sum(alloc, context, own.counter, &number)?;
-        emit_statement(alloc, code, site, &inner, body)?;
+        emit_unless_idle(alloc, code, site, &inner, body)?;
     }
     Ok(())
 }
 
-/// Appends a loop, in two parts where its last iteration is another one.
+/// Appends a loop, in two parts where last iterations are other ones.
 #[cycle(statements)]
 fn emit_serial(
     alloc: Global,
@@ -283,19 +284,16 @@ fn emit_serial(
         (Meets context.now)
         own.counter own.count body.now) }
 {
-    if is_cut(body, own) {
-        if own.count == 2 {
-            emit_laid_out(alloc, code, site, context, own, body)?;
-            return Ok(());
-        }
-        emit_parted(alloc, code, site, context, own, body)?;
+    let first = loop_part(alloc, context, own, body)?;
+    if first < own.count {
+        emit_parted(alloc, code, site, context, own, first, body)?;
         return Ok(());
     }
     emit_loop(alloc, code, site, context, own, body)?;
     Ok(())
 }
 
-/// Appends a loop whose last iteration has code of its own.
+/// Appends a loop of so many first iterations, and those after them, each with code of its own.
 #[cycle(statements)]
 fn emit_parted(
     alloc: Global,
@@ -303,9 +301,10 @@ fn emit_parted(
     site: &Site<'_>,
     context: &Context,
     own: Bound,
+    first: u32,
     body: &Stmt,
 ) -> Result<(), CodeFault>
-    requires { 1 ≤ own.count }
+    requires { first ≤ own.count }
     ensures { OnOk result (EmitsLoop code.old.words.items code.new.words.items site.now.places.now site.now.scope.now
         (Meets context.now)
         own.counter own.count body.now) }
@@ -314,11 +313,40 @@ fn emit_parted(
     if mentions(site.scope, counter) {
         return Err(CodeFault::TooDeep);
     }
-    let others = without_last(own);
+    let others = Bound {
+        counter,
+        count: first,
+    };
     emit_loop(alloc, code, site, context, others, body)?;
-    let number = Linear::of_number(alloc, others.count);
-    let inner = with_sum(alloc, context, counter, &number)?;
-    emit_statement(alloc, code, site, &inner, body)?;
+    for iteration in first..own.count {
+        if code.words.len() >= MOST_WORDS {
+            return Err(CodeFault::TooLong);
+        }
+        let number = Linear::of_number(alloc, iteration);
+        let inner = with_sum(alloc, context, counter, &number)?;
+        emit_unless_idle(alloc, code, site, &inner, body)?;
+    }
+    Ok(())
+}
+
+/// Appends the code of a statement, which is none where it is known to do nothing.
+#[cycle(statements)]
+fn emit_unless_idle(
+    alloc: Global,
+    code: &mut Code,
+    site: &Site<'_>,
+    context: &Context,
+    statement: &Stmt,
+) -> Result<(), CodeFault>
+    ensures { OnOk result (EmitsStatement code.old.words.items code.new.words.items site.now.places.now
+        site.now.scope.now (Meets context.now) statement.now) }
+{
+    if context.manner.is_parted {
+        if is_idle(alloc, context, statement)? {
+            return Ok(());
+        }
+    }
+    emit_statement(alloc, code, site, context, statement)?;
     Ok(())
 }
 

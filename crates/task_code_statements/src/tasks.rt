@@ -6,9 +6,10 @@ ghost use Rattle.task_code_statements.specs.Drawing as spec;
 ghost use Rattle.task_code_statements.specs.Drawing.{Begins, StaysMet};
 ghost use Rattle.task_code_statements.specs.Tasks.{AppendsTask, restored};
 
-use crate::contexts::{Context, Holding, in_loop, nothing_known, with_zero};
+use crate::contexts::{Context, Holding, Manner, in_loop, nothing_known, with_zero};
 use crate::costs::{guessed_turns, may_hold_more};
 use crate::mentions::mentioned_variables;
+use crate::parting::has_test;
 use crate::room::depth;
 use crate::stages::{Code, CodeStage, add_moved, no_stages};
 use crate::statements::emit_statement;
@@ -36,6 +37,12 @@ const TASKS: u8 = 16;
 
 /// Under so many loops in one another registers may be better spent than on pointers.
 const MANY_LOOPS: usize = 3;
+
+/// Any turn fewer makes code faster.
+const ANY: u64 = u64::MAX;
+
+/// One turn fewer in so many makes it much faster: that inner loops are entered often is guessed too low.
+const MUCH: u64 = 16;
 
 /// What registers hold where a task begins, and what is known of its loop variable.
 #[derive(Debug, Drop)]
@@ -95,18 +102,18 @@ fn beginning(
     alloc: Global,
     counter: Option<Counter>,
     tasks: u32,
-    holding: Holding,
+    manner: Manner,
 ) -> Result<TaskStart, CodeFault>
     ensures { IfOk result (λ made. Begins counter tasks made.scope.items made.context) }
 {
     match counter {
         None => Ok(TaskStart {
             scope: Vec::new(alloc),
-            context: nothing_known(alloc, holding),
+            context: nothing_known(alloc, manner),
         }),
         Some(counter) => {
             let scope = with_drawn(alloc, counter)?;
-            let outside = nothing_known(alloc, holding);
+            let outside = nothing_known(alloc, manner);
             let own = Bound {
                 counter,
                 count: tasks,
@@ -139,13 +146,13 @@ fn emit_words(
     phase: &Phase,
     places: &Places,
     ticket: u32,
-    holding: Holding,
+    manner: Manner,
     code: &mut Code,
 ) -> Result<(), CodeFault>
     requires { ticket + 4 < 2 ^ 32 }
     ensures { OnOk result (AppendsTask code.old.words.items code.new.words.items phase.now places.now ticket) }
 {
-    let begun = beginning(alloc, phase.counter, phase.tasks, holding)?;
+    let begun = beginning(alloc, phase.counter, phase.tasks, manner)?;
     let others = mentioned_variables(alloc, &phase.body)?;
     let context = with_zeros(alloc, begun.context, phase.counter, others.as_slice())?;
     let site = Site {
@@ -163,7 +170,7 @@ fn tried_words(
     phase: &Phase,
     places: &Places,
     ticket: u32,
-    holding: Holding,
+    manner: Manner,
 ) -> Result<Option<Code>, AllocError>
     requires { ticket + 4 < 2 ^ 32 }
     ensures { IfOk result (λ found. IfSome found (λ made. AppendsTask [] made.words.items phase.now places.now
@@ -173,7 +180,7 @@ fn tried_words(
         words: Vec::new(alloc),
         stages: no_stages(alloc, &phase.body),
     };
-    match emit_words(alloc, phase, places, ticket, holding, &mut made) {
+    match emit_words(alloc, phase, places, ticket, manner, &mut made) {
         Ok(()) => Ok(Some(made)),
         Err(CodeFault::OutOfMemory(error)) => Err(error),
         Err(CodeFault::TooLong) => Ok(None),
@@ -181,17 +188,46 @@ fn tried_words(
     }
 }
 
-/// Whether code is guessed to take fewer turns than other code, or there is no other.
-fn is_faster(alloc: Global, code: &Option<Code>, other: &Option<Code>) -> Result<bool, AllocError> {
+/// Whether code is guessed to take fewer turns than other code, by one in so many, or there is no other.
+fn is_faster(
+    alloc: Global,
+    code: &Option<Code>,
+    other: &Option<Code>,
+    one_in: u64,
+) -> Result<bool, AllocError> {
     match (code, other) {
         (Some(one), Some(two)) => {
             let turns = guessed_turns(alloc, one.words.as_slice())?;
             let others = guessed_turns(alloc, two.words.as_slice())?;
-            Ok(turns < others)
+            let least = if one_in == 0 { 0 } else { turns / one_in };
+            Ok(turns.saturating_add(least) < others)
         }
         (Some(_), None) => Ok(true),
         (None, _) => Ok(false),
     }
+}
+
+/// The words of one task of a phase made in this manner, where these are guessed to take fewer turns than others, by
+/// one in so many, or else those.
+fn faster_of(
+    alloc: Global,
+    phase: &Phase,
+    places: &Places,
+    ticket: u32,
+    manner: Manner,
+    others: Option<Code>,
+    one_in: u64,
+) -> Result<Option<Code>, AllocError>
+    requires ticket { ticket + 4 < 2 ^ 32 }
+    requires others { IfSome others (λ made. AppendsTask [] made.words.items phase.now places.now ticket) }
+    ensures { IfOk result (λ found. IfSome found (λ made. AppendsTask [] made.words.items phase.now places.now
+        ticket)) }
+{
+    let made = tried_words(alloc, phase, places, ticket, manner)?;
+    if is_faster(alloc, &made, &others, one_in)? {
+        return Ok(made);
+    }
+    Ok(others)
 }
 
 /// The words of one task of a phase whose loops hold their variables first, where there are some: those that are
@@ -201,21 +237,21 @@ fn words_by_variables(
     phase: &Phase,
     places: &Places,
     ticket: u32,
+    is_parted: bool,
 ) -> Result<Option<Code>, AllocError>
     requires { ticket + 4 < 2 ^ 32 }
     ensures { IfOk result (λ found. IfSome found (λ made. AppendsTask [] made.words.items phase.now places.now
         ticket)) }
 {
-    let outer = tried_words(alloc, phase, places, ticket, Holding::OuterVariables)?;
-    let all = tried_words(alloc, phase, places, ticket, Holding::Variables)?;
-    let plain = tried_words(alloc, phase, places, ticket, Holding::VariablesWithoutNames)?;
-    if !is_faster(alloc, &all, &outer)? && !is_faster(alloc, &plain, &outer)? {
-        return Ok(outer);
-    }
-    if !is_faster(alloc, &plain, &all)? {
-        return Ok(all);
-    }
-    Ok(plain)
+    let outer = Holding::OuterVariables.made(is_parted);
+    let one = tried_words(alloc, phase, places, ticket, outer)?;
+    let all = Holding::Variables.made(is_parted);
+    let two = faster_of(alloc, phase, places, ticket, all, one, ANY)?;
+    let plain = Holding::VariablesWithoutNames.made(is_parted);
+    let three = faster_of(alloc, phase, places, ticket, plain, two, ANY)?;
+    let alone = Holding::OuterVariablesAlone.made(is_parted);
+    let found = faster_of(alloc, phase, places, ticket, alone, three, MUCH)?;
+    Ok(found)
 }
 
 /// Whether code stands under so many loops that registers may be better spent than it does.
@@ -238,20 +274,58 @@ fn words_of(
     phase: &Phase,
     places: &Places,
     ticket: u32,
+    is_parted: bool,
 ) -> Result<Option<Code>, AllocError>
     requires { ticket + 4 < 2 ^ 32 }
     ensures { IfOk result (λ found. IfSome found (λ made. AppendsTask [] made.words.items phase.now places.now
         ticket)) }
 {
-    let pointers = tried_words(alloc, phase, places, ticket, Holding::Pointers)?;
+    let pointers = tried_words(
+        alloc,
+        phase,
+        places,
+        ticket,
+        Holding::Pointers.made(is_parted),
+    )?;
     if !is_worth_more(alloc, depth(&phase.body), &pointers)? {
         return Ok(pointers);
     }
-    let variables = words_by_variables(alloc, phase, places, ticket)?;
-    if is_faster(alloc, &variables, &pointers)? {
+    let variables = words_by_variables(alloc, phase, places, ticket, is_parted)?;
+    if is_faster(alloc, &variables, &pointers, ANY)? {
         return Ok(variables);
     }
     Ok(pointers)
+}
+
+/// Whether there is code, of so many words at most.
+fn is_no_longer(code: &Option<Code>, most: usize) -> bool {
+    match code {
+        None => false,
+        Some(own) => own.words.len() <= most,
+    }
+}
+
+/// The words of one task of a phase whose loops are made in parts, where there are some and they are no more than so
+/// many, or else of one whose loops aren't.
+fn words_up_to(
+    alloc: Global,
+    phase: &Phase,
+    places: &Places,
+    ticket: u32,
+    most: usize,
+) -> Result<Option<Code>, AllocError>
+    requires { ticket + 4 < 2 ^ 32 }
+    ensures { IfOk result (λ found. IfSome found (λ made. AppendsTask [] made.words.items phase.now places.now
+        ticket)) }
+{
+    if has_test(&phase.body) {
+        let parted = words_of(alloc, phase, places, ticket, true)?;
+        if is_no_longer(&parted, most) {
+            return Ok(parted);
+        }
+    }
+    let found = words_of(alloc, phase, places, ticket, false)?;
+    Ok(found)
 }
 
 /// Appends the code of one task of a phase, with forms in the registers that loops and expressions leave: pointers
@@ -272,11 +346,12 @@ pub fn emit_task(
     ticket: u32,
     code: &mut Vec<u32>,
     stages: &mut Vec<CodeStage>,
+    most: usize,
 ) -> Result<(), CodeFault>
     requires { ticket + 4 < 2 ^ 32 }
     ensures { OnOk result (AppendsTask code.old.items code.new.items phase.now places.now ticket) }
 {
-    match words_of(alloc, phase, places, ticket)? {
+    match words_up_to(alloc, phase, places, ticket, most)? {
         Some(made) => {
             let found = made.stages.list.as_slice();
             add_moved(stages, found, code.len())?;

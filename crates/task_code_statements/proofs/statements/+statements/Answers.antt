@@ -4,8 +4,9 @@ use Rattle.task_code_loops.specs.Bounds.{IsBelow}
 use Rattle.task_code_loops.specs.Guarding.{GuardsWords}
 use Rattle.task_code_statements.specs.Contexts.{Meets}
 use Rattle.task_code_statements.specs.Laying.{LaysOut}
-use Rattle.task_code_statements.specs.Statements.{EmitsStatement}
+use Rattle.task_code_statements.specs.Statements.{EmitsLoop, EmitsStatement}
 use Rattle.task_code_statements.proofs.Giving.{loop-alone, loop-behind, none-given, some-given, statement-after}
+use Rattle.task_code_statements.proofs.Idling.{idle-emits}
 use Rattle.task_code_statements.proofs.Laying.{none-laid, one-laid, laid-emits, number-enters, parted-arm}
 use Rattle.task_code_statements.proofs.Nesting.{sequence-arm, none-emits, loop-arm, for-arm}
 use Rattle.task_code_statements.proofs.Splitting.{split-emits, guarded-emits, bind-arm}
@@ -85,12 +86,12 @@ emit_laid_out-loop-iteration-preserved t c =
     let more : suc k ≡ k + 1 = omega arith in
     let small : k < 2 ^ 32 = omega arith in
     let so = Meets c.args.context.now in
-    subst (λ n. LaysOut c.args.code.now.words.items c.emit_statement.new.code.words.items c.args.site.now.places.now c.args.site.now.scope.now so
+    subst (λ n. LaysOut c.args.code.now.words.items c.emit_unless_idle.new.code.words.items c.args.site.now.places.now c.args.site.now.scope.now so
     c.args.own.counter c.args.body.now n) more
     (one-laid c.args.site.now.places.now c.args.site.now.scope.now so c.args.own.counter c.args.body.now k (Meets c.in_ok-inner.inner) _ _ _
     (sym c.mentions.ensures ∙ c.if-mentions.false)
     (number-enters c.args.context.now c.in_ok-inner.inner c.args.own.counter k c.of_number-number.result small c.of_number-number.ensures.value
-    c.in_ok-inner.ensures) c.loop-iteration.invariant c.in_ok-emit_statement.ensures)
+    c.in_ok-inner.ensures) c.loop-iteration.invariant c.in_ok-emit_unless_idle.ensures)
 
 pub emit_laid_out-returns : goal.emit_laid_out-returns
 emit_laid_out-returns t c = λ kind plain.
@@ -100,12 +101,29 @@ emit_laid_out-returns t c = λ kind plain.
     (subst (λ n. LaysOut c.args.code.now.words.items c.loop-iteration.code.words.items c.args.site.now.places.now c.args.site.now.scope.now so
     c.args.own.counter c.args.body.now n) all c.loop-iteration.invariant)
 
+pub emit_parted-loop-iteration-init : goal.emit_parted-loop-iteration-init
+emit_parted-loop-iteration-init t c = c.in_ok-emit_loop.ensures
+
+pub emit_parted-loop-iteration-preserved : goal.emit_parted-loop-iteration-preserved
+emit_parted-loop-iteration-preserved t c =
+    let k = c.loop-iteration.iteration in
+    let more : suc k ≡ k + 1 = omega arith in
+    let small : k < 2 ^ 32 = omega arith in
+    subst (λ n. EmitsLoop c.args.code.now.words.items c.emit_unless_idle.new.code.words.items c.args.site.now.places.now c.args.site.now.scope.now
+    (Meets c.args.context.now) c.args.own.counter n c.args.body.now) more
+    (parted-arm c.args.site.now.places.now c.args.site.now.scope.now c.args.context.now c.in_ok-inner.inner c.args.own.counter k c.args.body.now
+    c.of_number-number.result _ _ _ small (sym c.mentions.ensures ∙ c.if-mentions.false) c.of_number-number.ensures.value c.in_ok-inner.ensures
+    c.loop-iteration.invariant c.in_ok-emit_unless_idle.ensures)
+
 pub emit_parted-returns : goal.emit_parted-returns
 emit_parted-returns t c =
-    parted-arm c.args.site.now.places.now c.args.site.now.scope.now c.args.context.now c.in_ok-inner.inner c.args.own.counter c.args.own.count c.args.body.now
-    c.without_last-others.result c.of_number-number.result _ _ _ c.requires (omega arith) c.without_last-others.ensures
-    (sym c.mentions.ensures ∙ c.if-mentions.false) c.of_number-number.ensures.value c.in_ok-inner.ensures c.in_ok-emit_loop.ensures
-    c.in_ok-emit_statement.ensures
+    let all : c.loop-iteration.iteration ≡ c.args.own.count = omega arith in
+    subst (λ n. EmitsLoop c.args.code.now.words.items c.loop-iteration.code.words.items c.args.site.now.places.now c.args.site.now.scope.now
+    (Meets c.args.context.now) c.args.own.counter n c.args.body.now) all c.loop-iteration.invariant
+
+pub emit_unless_idle-returns-then-branch : goal.emit_unless_idle-returns-then-branch
+emit_unless_idle-returns-then-branch t c =
+    idle-emits c.args.site.now.places.now c.args.site.now.scope.now c.args.context.now c.args.statement.now _ (c.in_ok-is_idle.ensures c.if-branch.true)
 
 pub emit_entered-returns-then-is_below : goal.emit_entered-returns-then-is_below
 emit_entered-returns-then-is_below t c =

@@ -3,6 +3,7 @@ use Rattle.std.proofs.Common.{suc, ◌*◌}
 use Rattle.loop_ir.specs.declared.statements.Stmt.{size-Stmt}
 use Rattle.task_code_statements.specs.Contexts.{Meets}
 use Rattle.task_code_statements.specs.Laying.{LaysOut}
+use Rattle.task_code_statements.specs.Statements.{EmitsLoop}
 use Rattle.task_code_statements.proofs.statements.+statements.Given as goal
 
 abbrev pub decreases-emit_statement : goal.decreases-emit_statement
@@ -21,7 +22,10 @@ abbrev pub decreases-emit_parted : goal.decreases-emit_parted
 decreases-emit_parted l = suc (suc (suc (5 * goal.size-emit_parted l)))
 
 abbrev pub decreases-emit_laid_out : goal.decreases-emit_laid_out
-decreases-emit_laid_out l = suc (5 * goal.size-emit_laid_out l)
+decreases-emit_laid_out l = suc (suc (5 * goal.size-emit_laid_out l))
+
+abbrev pub decreases-emit_unless_idle : goal.decreases-emit_unless_idle
+decreases-emit_unless_idle l = suc (5 * goal.size-emit_unless_idle l)
 
 abbrev pub decreases-emit_split : goal.decreases-emit_split
 decreases-emit_split l = suc (suc (5 * goal.size-emit_split l))
@@ -32,3 +36,7 @@ decreases-emit_entered l = suc (5 * goal.size-emit_entered l)
 abbrev pub invariant-emit_laid_out-loop-iteration : goal.invariant-emit_laid_out-loop-iteration
 invariant-emit_laid_out-loop-iteration l =
     LaysOut l.fn.code.words.items l.code.words.items l.site.places.now l.site.scope.now (Meets l.context) l.own.counter l.body l.iteration
+
+abbrev pub invariant-emit_parted-loop-iteration : goal.invariant-emit_parted-loop-iteration
+invariant-emit_parted-loop-iteration l =
+    EmitsLoop l.fn.code.words.items l.code.words.items l.site.places.now l.site.scope.now (Meets l.context) l.fn.own.counter l.iteration l.body
