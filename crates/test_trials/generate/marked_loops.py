@@ -8,10 +8,6 @@ Facts = namedtuple("Facts", "roots privates frames tasks greatest code", default
 
 FRAMES = 8 * 4096
 
-# What is counted are the places where lanes are configured: of a run in halves, each half and the whole, and of one whose distances are made in halves
-# its values too.
-IN_HALVES, DISTANCES_IN_HALVES = "3 of 1 vector code, 0 collected", "4 of 1 vector code, 0 collected"
-
 
 def layout(inputs, facts, width, height):
     """The lines `data` and `output`; the output's Func is the last one at root."""
@@ -194,10 +190,10 @@ CASES = [
     ("two stages by shift splits of shift splits of both arguments", "input in 21 13\nfunc g(x,y) = in(x,y) * 2\nfunc f(x,y) = g(x,y) - g(x+1,y+1)\noutput f 20 12",
      "g compute_root\ng split y yo yi 5 shift\ng split yo s t 2 shift\n" + row(8, "shift", "g") + "\nf split x xo xi 4 shift\nf split xo p q 2 shift\nf vectorize xi",
      Facts((273, 240), tasks=(1, 1))),
-    ("choices four deep in all parts, by sixteen", *one(chosen_of_three(4, pixel_of), 29, 16)[:2], Facts((29,), frames=True, greatest=1, code=IN_HALVES)),
-    ("choices four deep in all parts, in whole runs of sixteen", *one(chosen_of_three(4, pixel_of), 32, 16)[:2], Facts((32,), frames=True, greatest=1, code=IN_HALVES)),
-    ("choices five deep in all parts, by sixteen", *one_of_choices("in(x), in(x+1), in(x+2)", "abcdf", 23, 16), Facts((23,), frames=True, greatest=1, code=IN_HALVES)),
+    ("choices four deep in all parts, by sixteen", *one(chosen_of_three(4, pixel_of), 29, 16)[:2], Facts((29,), frames=True, greatest=1)),
+    ("choices four deep in all parts, in whole runs of sixteen", *one(chosen_of_three(4, pixel_of), 32, 16)[:2], Facts((32,), frames=True, greatest=1)),
+    ("choices five deep in all parts, by sixteen", *one_of_choices("in(x), in(x+1), in(x+2)", "abcdf", 23, 16), Facts((23,), frames=True, greatest=1)),
     ("an update by vectors of sixteen whose rows are choices three deep in all parts",
      *update_by_rows(f"clamp({chosen_of_three(3, row_of)},0,3)", f"h(x,0) * 3 + {chosen_of_three(2, row_of)} - x")[:2],
-     Facts((80,), frames=True, tasks=(1, 1), greatest=5, code=DISTANCES_IN_HALVES)),
+     Facts((80,), frames=True, tasks=(1, 1), greatest=5)),
 ]

@@ -17,7 +17,8 @@
 //! and anything in private buffers before each: whether they leave the picture; and the compiled image, on 1, 2, 3 and
 //! 8 harts, at several paces of these harts: what the words hold by which harts share their work (of each phase the one
 //! to draw tasks, and the one to wait at), and whether the picture is another one. Where loops are vectorized, a last
-//! line says whether all of them are vector code, or how many, and how many collect their pixels.
+//! line says whether all of them are vector code, or how many are, how many scalar stores there are that shouldn't be,
+//! and how many loops collect their pixels.
 //!
 //! An assignment is a list of harts, of three. Each of them is stepped alone until it has drawn a task of the first
 //! phase, so that the iterations are theirs in this order; then all are stepped in turn until they finish.

@@ -2,9 +2,10 @@
 //!
 //! Code of a vectorized loop configures lanes once, by a register or a literal, and no other code does. That of a loop
 //! which collects its pixels configures no lanes first, by the literal 0, and lanes by a register in each iteration. So
-//! an image has as many instructions of the one kind as there are vectorized loops, and as many of the other as collect
-//! their pixels, a loop in copies of an unrolled one once for each copy. One inside a loop whose last run a shift moves
-//! back may stand twice, since that run may have code of its own.
+//! an image has at least as many instructions of the one kind as there are vectorized loops, and as many of the other
+//! as collect their pixels: a loop has code for each copy of an unrolled one around it, and for each part of one that
+//! is made in parts, but where it is known to do nothing. Where all stores are those of vectorized loops, no instruction
+//! stores a scalar.
 
 ghost use Rattle.schedule.specs.Accepted.{IsAccepted};
 
@@ -13,16 +14,15 @@ use bounds::infer;
 use halide_parser::parse;
 use halide_pipeline::Pipeline;
 use loader::Image;
-use loop_ir::expressions::{Counter, same_counter};
-use loop_ir::statements::{LoopKind, Stmt, Whole};
+use loop_ir::statements::{LoopKind, Stmt};
 use lowering::phases::lower;
 use rv_encoding::decode;
 use rv_insn::{Insn, VectorInsn};
 use schedule::{Schedule, read};
 use std::alloc::Global;
 
-/// Appends a line where a schedule vectorizes loops: whether all of them are vector code, or how many of how many, and
-/// how many collect their pixels.
+/// Appends a line where a schedule vectorizes loops: whether all of them are vector code, or how many of how many, how
+/// many scalar stores there are where there should be none, and how many loops collect their pixels.
 pub fn push_vectors(
     alloc: Global,
     algorithm: &str,
@@ -32,87 +32,90 @@ pub fn push_vectors(
 ) -> Result<(), TrialFailure> {
     let pipeline = parse(algorithm, alloc)?;
     let schedule = read(schedule, &pipeline, alloc)?;
-    let marked = marked_loops(alloc, &pipeline, &schedule, false)?;
-    let most = marked_loops(alloc, &pipeline, &schedule, true)?;
+    let marked = marked_loops(alloc, &pipeline, &schedule)?;
     let (configured, collected) = configurations(image);
     let made = configured.wrapping_sub(collected);
-    if marked == 0 && configured == 0 {
+    if marked.loops == 0 && configured == 0 {
         return Ok(());
     }
+    let scalar = if marked.is_all {
+        scalar_stores(image)
+    } else {
+        0
+    };
     out.push_str("vectorized loops: ")?;
-    if marked <= made && made <= most {
+    if marked.loops <= made && scalar == 0 {
         out.push_str("all vector code\n")?;
     } else {
-        writeln!(out, "{made} of {marked} vector code, {collected} collected")?;
+        let loops = marked.loops;
+        writeln!(
+            out,
+            "{made} of {loops} vector code, {scalar} scalar stores, {collected} collected"
+        )?;
     }
     Ok(())
 }
 
-/// How many vectorized loops the phases have, where unrolled loops are laid out, and runs that a shift moves back stand
-/// apart or not.
+/// How many vectorized loops there are, and whether all stores are theirs.
+#[derive(Clone, Copy)]
+struct Marked {
+    loops: u64,
+    is_all: bool,
+}
+
+/// Those of the phases.
 fn marked_loops(
     alloc: Global,
     pipeline: &Pipeline,
     schedule: &Schedule,
-    apart: bool,
-) -> Result<u64, TrialFailure>
+) -> Result<Marked, TrialFailure>
     requires { IsAccepted pipeline.now schedule.now }
 {
     let boxes = infer(pipeline, schedule, alloc)?;
-    let mut count: u64 = 0;
-    for phase in &lower(alloc, pipeline, schedule, &boxes)? {
-        count = count.wrapping_add(marked_in(&phase.body, apart));
-    }
-    Ok(count)
-}
-
-/// How many a statement has.
-fn marked_in(statement: &Stmt, apart: bool) -> u64 {
-    match statement {
-        Stmt::Store(_) => 0,
-        Stmt::Sequence(first, second) => {
-            let one = marked_in(first.get(), apart);
-            one.wrapping_add(marked_in(second.get(), apart))
-        }
-        Stmt::For(counter, count, kind, body) => {
-            let inside = marked_in(body.get(), apart);
-            match kind {
-                LoopKind::Vectorized => inside.wrapping_add(1),
-                LoopKind::Unrolled => inside.wrapping_mul(u64::from(*count).max(1)),
-                LoopKind::Serial => {
-                    if apart && is_cut(body.get(), *counter, *count) {
-                        inside.wrapping_mul(2)
-                    } else {
-                        inside
-                    }
-                }
-            }
-        }
-        Stmt::Bind(_, _, _, body) => marked_in(body.get(), apart),
-    }
-}
-
-/// Whether a shift moves a run back in the last iteration of a loop.
-fn is_cut(body: &Stmt, counter: Counter, count: u32) -> bool {
-    match body {
-        Stmt::Store(_) => false,
-        Stmt::Sequence(first, second) => {
-            is_cut(first.get(), counter, count) || is_cut(second.get(), counter, count)
-        }
-        Stmt::For(_, _, _, inside) => is_cut(inside.get(), counter, count),
-        Stmt::Bind(_, whole, _, inside) => {
-            is_moved(whole, counter, count) || is_cut(inside.get(), counter, count)
-        }
-    }
-}
-
-/// Whether a split loop's last run begins before the product of its outer loop's last iteration.
-fn is_moved(whole: &Whole, counter: Counter, count: u32) -> bool {
-    let Some(last) = whole.last else {
-        return false;
+    let mut marked = Marked {
+        loops: 0,
+        is_all: true,
     };
-    let product = u64::from(count.saturating_sub(1)) * u64::from(whole.factor);
-    same_counter(whole.outer, counter) && product > u64::from(last)
+    for phase in &lower(alloc, pipeline, schedule, &boxes)? {
+        marked = both(marked, marked_in(&phase.body));
+    }
+    Ok(marked)
+}
+
+/// Those of two statements.
+fn both(one: Marked, other: Marked) -> Marked {
+    Marked {
+        loops: one.loops.wrapping_add(other.loops),
+        is_all: one.is_all && other.is_all,
+    }
+}
+
+/// Those of a statement.
+fn marked_in(statement: &Stmt) -> Marked {
+    match statement {
+        Stmt::Store(_) => Marked {
+            loops: 0,
+            is_all: false,
+        },
+        Stmt::Sequence(first, second) => both(marked_in(first.get()), marked_in(second.get())),
+        Stmt::For(_, _, LoopKind::Vectorized, _) => Marked {
+            loops: 1,
+            is_all: true,
+        },
+        Stmt::For(_, _, _, body) => marked_in(body.get()),
+        Stmt::Bind(_, _, _, body) => marked_in(body.get()),
+    }
+}
+
+/// How many words of an image store a scalar.
+fn scalar_stores(image: &Image) -> u64 {
+    let mut count: u64 = 0;
+    for word in image.words() {
+        if let Some(Insn::Store { .. }) = decode(*word) {
+            count = count.wrapping_add(1);
+        }
+    }
+    count
 }
 
 /// How many lanes an instruction configures, if it configures some or none; by a register it counts as one.
