@@ -1,0 +1,6 @@
+use Rattle.task_code_borders.proofs.Combining.{same_parted}
+use Rattle.task_code_borders.proofs.parting.same.Goals as goal
+
+pub returns : goal.returns
+returns c =
+    same_parted c.args.statement.now c.in_ok-made.made c.in_ok-made.ensures (c.is_blind_statement.ensures c.if-not-is_blind_statement.false)

@@ -1,0 +1,8 @@
+use Rattle.std.proofs.Common.{arith}
+use Rattle.task_code_borders.proofs.Iterations.{first_made}
+use Rattle.task_code_borders.proofs.parts.behind_first.Goals as goal
+
+pub returns : goal.returns
+returns c = λ inside count not within parted is.
+    first_made c.args.own.counter inside c.args.first count c.args.border.now c.in_ok-body.body c.in_ok-front.front c.args.made c.in_ok-found.found
+    c.in_ok-body.ensures c.in_ok-found.ensures (λ p. c.in_ok-front.ensures inside not (omega (arith, within)) p) parted is

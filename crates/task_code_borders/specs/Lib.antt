@@ -1,0 +1,3 @@
+pub mod Blind
+pub mod Borders
+pub mod Parted
