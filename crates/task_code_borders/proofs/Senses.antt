@@ -31,28 +31,28 @@ then first second now = second (first now)
 abbrev pub stay : {A : Type 0} → A → A
 stay now = now
 
-turns_same : {A : Type 0} (n : ℕ) (f g : ℕ → A → A) → ((i : ℕ) → i < n → f i ≡ g i) → (start : A) → iterated n f start ≡ iterated n g start
+iterated_same : {A : Type 0} (n : ℕ) (f g : ℕ → A → A) → ((i : ℕ) → i < n → f i ≡ g i) → (start : A) → iterated n f start ≡ iterated n g start
 unfolding iterated
-turns_same zero f g is start = refl
-turns_same (suc n) f g is start =
-    ap (λ one. one (iterated n f start)) (is n (omega arith)) ∙ ap (g n) (turns_same n f g (λ i less. is i (omega (arith, less))) start)
+iterated_same zero f g is start = refl
+iterated_same (suc n) f g is start =
+    ap (λ one. one (iterated n f start)) (is n (omega arith)) ∙ ap (g n) (iterated_same n f g (λ i less. is i (omega (arith, less))) start)
 
-turns_sum : {A : Type 0} (m n : ℕ) (f : ℕ → A → A) (start : A) → iterated (m + n) f start ≡ iterated n (λ i. f (m + i)) (iterated m f start)
+iterated_sum : {A : Type 0} (m n : ℕ) (f : ℕ → A → A) (start : A) → iterated (m + n) f start ≡ iterated n (λ i. f (m + i)) (iterated m f start)
 unfolding iterated
-turns_sum m zero f start = let none : m + 0 ≡ m = omega arith in ap (λ k. iterated k f start) none
-turns_sum m (suc n) f start =
+iterated_sum m zero f start = let none : m + 0 ≡ m = omega arith in ap (λ k. iterated k f start) none
+iterated_sum m (suc n) f start =
     let next : m + suc n ≡ suc (m + n) = omega arith in
-    ap (λ k. iterated k f start) next ∙ ap (f (m + n)) (turns_sum m n f start)
+    ap (λ k. iterated k f start) next ∙ ap (f (m + n)) (iterated_sum m n f start)
 
-turns_once : {A : Type 0} (f : ℕ → A → A) (start : A) → iterated 1 f start ≡ f 0 start
+iterated_once : {A : Type 0} (f : ℕ → A → A) (start : A) → iterated 1 f start ≡ f 0 start
 unfolding iterated
-turns_once f start = refl
+iterated_once f start = refl
 
-pub turns_law : {A : Type 0} → AreMany {X = A → A} then turns
-turns_law {A} = record {
-  same = λ n f g is. fun_ext (λ (start : A). turns_same n f g is start);
-  sum = λ m n f. fun_ext (λ (start : A). turns_sum m n f start);
-  one = λ f. fun_ext (λ (start : A). turns_once f start);
+pub iterated_law : {A : Type 0} → AreMany {X = A → A} then iterated
+iterated_law {A} = record {
+  same = λ n f g is. fun_ext (λ (start : A). iterated_same n f g is start);
+  sum = λ m n f. fun_ext (λ (start : A). iterated_sum m n f start);
+  one = λ f. fun_ext (λ (start : A). iterated_once f start);
 }
 
 tested : {A : Type 0} (b : Bool) (f : A → A) (now : A) → cond b (f now) now ≡ cond b f stay now
@@ -72,8 +72,8 @@ module _ (points : Points) (inputs : Planes) where
   running = record {
     join = then;
     none = stay;
-    many = turns;
-    law = turns_law;
+    many = iterated;
+    law = iterated_law;
     of = run points inputs;
     made_of = run points inputs;
     mean = run_means;
@@ -93,8 +93,8 @@ module _ (points : Points) (inputs : Planes) where
     tracing = record {
       join = then;
       none = stay;
-      many = turns;
-      law = turns_law;
+      many = iterated;
+      law = iterated_law;
       of = trace points inputs func x y;
       made_of = trace points inputs func x y;
       mean = trace_means;

@@ -49,6 +49,27 @@ fn has_serial(statement: &Stmt) -> bool {
     }
 }
 
+/// Whether a statement is a part of a loop.
+pub fn is_part(statement: &Stmt) -> bool {
+    match statement {
+        Stmt::Store(_) | Stmt::Sequence(_, _) | Stmt::Bind(_, _, _, _) => false,
+        Stmt::For(_, _, _, body) => match body.get() {
+            Stmt::Bind(_, whole, _, _) => is_border(whole.inner),
+            _ => false,
+        },
+    }
+}
+
+/// Whether loops of a statement are in parts.
+pub fn has_parts(statement: &Stmt) -> bool {
+    match statement {
+        Stmt::Store(_) => false,
+        Stmt::Sequence(first, second) => has_parts(first.get()) || has_parts(second.get()),
+        Stmt::For(_, _, _, body) => has_parts(body.get()),
+        Stmt::Bind(_, whole, _, body) => is_border(whole.inner) || has_parts(body.get()),
+    }
+}
+
 /// A statement once more, if it names no variables but those of stages.
 fn same(alloc: Global, statement: &Stmt) -> Result<Option<Stmt>, AllocError>
     ensures { IfOk result (λ found. IfSome found (IsParted statement.now)) }
