@@ -1,6 +1,6 @@
 -- Statements that name no variables but those of stages do the same wherever others stand.
 use Rattle.std.proofs.Common.{◌≡◌, ℕ, ◌+◌, ◌-◌, Bool, true, false, cond, refl, ap, sym, subst, ◌∙◌}
-use Rattle.std.specs.Prelude.{◌&&◌, ◌||◌, ◌==◌, not, nat_lt, nat_le, List, ◌++◌}
+use Rattle.std.specs.Prelude.{◌&&◌, ◌||◌, ◌==◌, not, nat_lt, nat_le, ◌++◌}
 use Rattle.std.specs.List.{list_all}
 use mathlib.Core.Path.{fun_ext}
 use Rattle.halide_pipeline.specs.Pixel.{Planes, Reads, reads_of}
@@ -9,20 +9,19 @@ use Rattle.loop_ir.specs.declared.expressions.Counter.{Counter}
 use Rattle.loop_ir.specs.declared.statements.LoopKind.{LoopKind}
 use Rattle.loop_ir.specs.declared.statements.Store.{Store}
 use Rattle.loop_ir.specs.declared.statements.Stmt.{Stmt}
-use Rattle.loop_ir.specs.declared.statements.Stmt.TheOpen as layer
 use Rattle.loop_ir.specs.declared.statements.Stmt.TheVariants as s
 use Rattle.loop_ir.specs.declared.statements.Whole.{Whole}
 use Rattle.loop_ir.specs.Buffers.{Points, put}
 use Rattle.loop_ir.specs.Counters.{Values, with}
 use Rattle.loop_ir.specs.Expressions.{value, loads}
-use Rattle.loop_ir.specs.LoopLanes.{LoopLanes, loop_lanes, lanes_at, is_vectorized, is_lane_count, are_apart, all_step_up, misses, everywhere, all_but, all_points}
+use Rattle.loop_ir.specs.LoopLanes.{LoopLanes, loop_lanes, is_vectorized, is_lane_count, are_apart, all_step_up, misses, everywhere, all_but, all_points}
 use Rattle.loop_ir.specs.LoopLanes.{may_be_at_once}
-use Rattle.loop_ir.specs.Running.{run, iterated, whole_value, stored}
-use Rattle.loop_ir.specs.Runs.{Runs, runs, runs_at, are_same, point_of, stores_in_runs}
-use Rattle.loop_ir.specs.Soundness.{every, is_sound, is_sound_store, store_loads}
+use Rattle.loop_ir.specs.Running.{run, whole_value}
+use Rattle.loop_ir.specs.Runs.{Runs, runs, are_same, point_of, stores_in_runs}
+use Rattle.loop_ir.specs.Soundness.{every, is_sound, store_loads}
 use Rattle.loop_ir.specs.Stores.{Trace, trace}
 use Rattle.loop_ir.proofs.LoopLanes.{lanes_store, lanes_of_loop, lanes_sequence, lanes_bind, touches_are}
-use Rattle.loop_ir.proofs.Runs.{runs_store, runs_for, runs_sequence, runs_bind, misses_are}
+use Rattle.loop_ir.proofs.Runs.{runs_store, runs_for, misses_are}
 use Rattle.loop_ir.proofs.Sound.{sound_store, sound_for}
 use Rattle.loop_ir.proofs.Traces.{trace_store, trace_for}
 use Rattle.loop_ir.proofs.Trees.{run_store, run_for}
@@ -30,7 +29,7 @@ use Rattle.task_code_borders.specs.Blind.{IsBlindStatement, IsBlindStore}
 use Rattle.task_code_borders.specs.Borders.{is_border, of_stages}
 use Rattle.task_code_borders.proofs.Blinding.{value_blind, loads_blind}
 use Rattle.task_code_borders.proofs.Meanings.{sequence_if, many_if, bind_if}
-use Rattle.task_code_borders.proofs.Senses.{running, tracing, sounding, at_once, in_runs, every_law}
+use Rattle.task_code_borders.proofs.Senses.{running, tracing, sounding, at_once, in_runs}
 use Rattle.task_code_borders.proofs.Standing.{stages_with, whole_blind}
 
 -- all values are good

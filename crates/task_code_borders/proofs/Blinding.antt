@@ -4,7 +4,7 @@ use Rattle.std.specs.Prelude.{if◌then◌else◌}
 use Rattle.std.proofs.lemmas.Bool.{true≢false}
 use Rattle.halide_pipeline.specs.declared.expressions.Operation.{Operation}
 use Rattle.halide_pipeline.specs.declared.expressions.Source.{Source}
-use Rattle.halide_pipeline.specs.Points.{Point, Seen}
+use Rattle.halide_pipeline.specs.Points.{Seen}
 use Rattle.halide_pipeline.specs.Pixel.{Reads}
 use Rattle.loop_ir.specs.declared.expressions.Term.{Term}
 use Rattle.loop_ir.specs.declared.expressions.Expr.{Expr}
