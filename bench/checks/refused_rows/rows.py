@@ -100,6 +100,10 @@ BAD_LOGS = [("cut", TURNS[:-1], 2), ("a byte more", TURNS + b"\0", 4),
             ("a run too long", log(2, (0, MOST_TURNS + 1)), 5),
                 ("too many turns", log(2, (0, MOST_TURNS), (1, 1), (0, 1)), 5)]
 
+BAD_LOG_TEXTS = [("of no line", b"", "1 line 1"), ("with a word too many", b"harts 1\n0 1 2\n", "2 line 2"),
+    ("with a hart too many", b"harts 1\n1 1\n", "3 line 2"), ("of no turn", b"harts 1\n0 0\n", "4 line 2"),
+    ("of too many turns", b"harts 1\n0 1099511627777\n", "5 line 2")]
+
 TALKS = {
     "places": "goto 6\nstatus\ngoto 9\ngoto 0\nback\ngoto 8\nnext\n"
               "break 0x00010002\nwatch 0x00010000\nword 0x00010000\nreg 2 1\nvec 0 1\nquit\n",
@@ -134,6 +138,11 @@ def machine_rows():
         yield Row(f"a log {name}", ["debug", "image", "log"], both | {"log": held}, f"log {fault}", b"status\n")
         yield Row(f"from a log {name}", ["run", "image", "log", "--from", "old"], {"image": COUNTER, "old": held},
             f"log {fault}")
+        yield Row(f"a log {name}", ["log", "log"], {"log": held}, f"log {fault}")
+    for name, text, fault in BAD_LOG_TEXTS:
+        yield Row(f"a text {name}", ["log", "text", "made"], {"text": text, "made": b"old"}, f"turns {fault}")
+    yield Row("two harts", ["log", "log"], {"log": TURNS})
+    yield Row("two harts", ["log", "text", "made"], {"text": b"harts 2\n0 1\n1 2\n", "made": b"old"})
     for name, lines in TALKS.items():
         yield Row(name, ["debug", "image", "log"], both, "", lines.encode())
     yield Row("kept places", ["debug", "image", "log"], {"image": COUNTING, "log": log(1, (0, 40000))}, "",

@@ -12,6 +12,7 @@ use Rattle.hrv_engines.specs.Devices.{both, image_bytes_of, log_bytes_of, pieces
 use Rattle.hrv_engines.specs.Dis.{IsAddressedListing, IsListing, IsRefusedImage}
 use Rattle.hrv_engines.specs.Drawing.{IsDrawing, IsRefusedDrawing}
 use Rattle.hrv_engines.specs.Engine.{Performs, Writes}
+use Rattle.hrv_engines.specs.Logs.{IsLogMade, IsLogPrinted, IsRefusedLog, IsRefusedLogText}
 use Rattle.hrv_engines.specs.Map.{IsMap, IsRefusedMap}
 use Rattle.hrv_engines.specs.Renew.{IsRenewal}
 use Rattle.hrv_engines.specs.Replay.{IsRefusedReplay, IsReplay}
@@ -19,7 +20,7 @@ use Rattle.hrv_engines.specs.Run as run
 use Rattle.hrv_engines.specs.declared.explain.TheConstants.{VERSION}
 use Rattle.hrv_refusals.specs.Explanations.{explanation}
 use Rattle.hrv_command_line.specs.CommandLine.{Asked, Replays, Debugs, Blames, Assembles, Lists, ListsAddresses, Renews, Draws, Compiles, Maps, Runs, Resumes}
-use Rattle.hrv_command_line.specs.CommandLine.{Explains, TellsVersion}
+use Rattle.hrv_command_line.specs.CommandLine.{Explains, MakesLog, PrintsLog, TellsVersion}
 
 -- a fact of some device at this place, by its state before and after
 abbrev pub At : {S : Type 0} → (S → List ℕ) → List ℕ → (S → S → Type 0) → Type 0
@@ -73,6 +74,12 @@ module _ {R W T P : Type 0}
       (IsRefusedBlame (record { x = x; y = y; address = address; with_turns = with_turns }))
       (both (image_bytes_of read_at read_failed gave ended s t) (log_bytes_of read_at read_failed gave ended u v))
       (sink_of printed_at print_failed printed o p) result)))
+  Does alloc (PrintsLog log) result =
+      At read_at log (λ s t. At printed_at dash (λ o p.
+      Performs IsLogPrinted IsRefusedLog (log_bytes_of read_at read_failed gave ended s t) (sink_of printed_at print_failed printed o p) result))
+  Does alloc (MakesLog text log) result =
+      At read_at text (λ s t. At written_at log (λ o p.
+      Performs IsLogMade IsRefusedLogText (text_of read_at read_failed gave ended s t) (sink_of written_at write_failed stored o p) result))
   Does alloc (Draws algorithm inputs) result =
       OrMemory result (At read_at algorithm (λ s t. AtEach read_at inputs (λ u v. At printed_at dash (λ o p.
       Performs (IsDrawing alloc) (IsRefusedDrawing alloc)

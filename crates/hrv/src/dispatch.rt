@@ -4,15 +4,15 @@ ghost use Rattle.std.specs.Prelude.{◌≡◌, codes, map, option_map, IfOk};
 ghost use Rattle.std.specs.List.{All};
 ghost use Rattle.clap.specs.Walk.{texts};
 ghost use Rattle.hrv_command_line.specs.CommandLine.{AreWithinLimits, Assembles, Blames, Compiles, Debugs, Draws};
-ghost use Rattle.hrv_command_line.specs.CommandLine.{Explains, IsWithinLimits, Lists, ListsAddresses, Maps, Renews};
-ghost use Rattle.hrv_command_line.specs.CommandLine.{Replays, Resumes, Runs, TellsVersion, asked_by};
+ghost use Rattle.hrv_command_line.specs.CommandLine.{Explains, IsWithinLimits, Lists, ListsAddresses, MakesLog, Maps};
+ghost use Rattle.hrv_command_line.specs.CommandLine.{PrintsLog, Renews, Replays, Resumes, Runs, TellsVersion, asked_by};
 ghost use Rattle.hrv.specs.Dispatch.{Does};
 
 use hrv_command_line::{BlameArguments, Invocation};
 use hrv_engines::{
     Fault, Question, Resources, Sink, Source, asm_bytes, blame_bytes, compile_bytes, debug_bytes,
-    dis_addresses_bytes, dis_bytes, explain_bytes, map_bytes, picture_bytes, renew_bytes,
-    replay_bytes, resume_bytes, run_bytes, version_bytes,
+    dis_addresses_bytes, dis_bytes, explain_bytes, make_log_bytes, map_bytes, picture_bytes,
+    print_log_bytes, renew_bytes, replay_bytes, resume_bytes, run_bytes, version_bytes,
 };
 use std::alloc::{AllocError, Global};
 use std::sync::Wait;
@@ -81,6 +81,8 @@ pub fn obey<'a, R: Threads + Wait + Sync, D: Devices<'a>>(
         Invocation::Replay { image, log } => replay(alloc, devices, image, log),
         Invocation::Debug { image, log } => debug(alloc, devices, image, log),
         Invocation::Blame { image, log, words } => blame(alloc, devices, image, log, words),
+        Invocation::PrintLog { log } => print_log(alloc, devices, log),
+        Invocation::MakeLog { text, log } => make_log(alloc, devices, text, log),
         Invocation::Picture { algorithm, inputs } => {
             draw(threads, alloc, devices, algorithm, inputs)
         }
@@ -241,6 +243,33 @@ fn blame<'a, D: Devices<'a>>(
         question,
         &mut devices.printed(),
     )
+}
+
+/// `log LOG`
+#[inline(never)]
+fn print_log<'a, D: Devices<'a>>(alloc: Global, devices: &D, log: &'a str) -> Result<(), Fault>
+    ensures { Does D.Read.place D.Read.failed D.Read.gave D.Read.ended
+        D.Written.place D.Written.failed D.Written.took
+        D.Typed.place D.Typed.failed D.Typed.gave D.Typed.ended
+        D.Printed.place D.Printed.failed D.Printed.took alloc (PrintsLog log.entry.now) result }
+{
+    print_log_bytes(alloc, &mut devices.read(log), &mut devices.printed())
+}
+
+/// `log TEXT LOG`
+#[inline(never)]
+fn make_log<'a, D: Devices<'a>>(
+    alloc: Global,
+    devices: &D,
+    text: &'a str,
+    log: &'a str,
+) -> Result<(), Fault>
+    ensures { Does D.Read.place D.Read.failed D.Read.gave D.Read.ended
+        D.Written.place D.Written.failed D.Written.took
+        D.Typed.place D.Typed.failed D.Typed.gave D.Typed.ended
+        D.Printed.place D.Printed.failed D.Printed.took alloc (MakesLog text.entry.now log.entry.now) result }
+{
+    make_log_bytes(alloc, &mut devices.read(text), &mut devices.written(log))
 }
 
 /// `picture ALGORITHM [INPUT..]`

@@ -20,6 +20,7 @@ pub fn keep_inputs<R: Files>(
 ) -> Result<(), Fault> {
     match invocation {
         Invocation::Asm { source, image } => keep(rt, alloc, image, &[*source]),
+        Invocation::MakeLog { text, log } => keep(rt, alloc, log, &[*text]),
         Invocation::Run { image, log, .. } | Invocation::Resume { image, log, .. } => {
             keep(rt, alloc, log, &[*image])
         }

@@ -9,9 +9,9 @@ use Rattle.clap.proofs.ValueTestLemmas.{accepts-Accepts}
 use Rattle.clap.specs.ValueTests.{accepts}
 use Rattle.clap.specs.Words.{Text}
 use Rattle.clap.specs.declared.builder.value_parser.ValueParser.TheVariants.{Unsigned}
-use Rattle.hrv_command_line.specs.CommandLine.{Asked, Assembles, Compiles, Debugs, Draws, Explains, Given, IsSpelled, IsWithinLimits}
-use Rattle.hrv_command_line.specs.CommandLine.{Maps, Renews, Replays, TellsVersion, asked_of, blame_of, command_named, compile_of, dis_of, explain_of, files_of}
-use Rattle.hrv_command_line.specs.CommandLine.{if_known, is_version_flag, listing_of, named, named_in, nothing_given, number_or, picture_of, read, refusal_in}
+use Rattle.hrv_command_line.specs.CommandLine.{Asked, Assembles, Compiles, Debugs, Draws, Explains, Given, IsSpelled, IsWithinLimits, MakesLog}
+use Rattle.hrv_command_line.specs.CommandLine.{Maps, PrintsLog, Renews, Replays, TellsVersion, asked_of, blame_of, command_named, compile_of, dis_of, explain_of, files_of}
+use Rattle.hrv_command_line.specs.CommandLine.{if_known, is_version_flag, listing_of, log_of, named, named_in, nothing_given, number_or, picture_of, read, refusal_in}
 use Rattle.hrv_command_line.specs.CommandLine.{run_from, run_of, text_of, unmarked, version_of}
 use Rattle.hrv_command_line.specs.Commands.{Shape, commands, most_harts, most_turns}
 use Rattle.hrv_command_line.specs.declared.table.OptionKind.TheVariants.{Flag}
@@ -45,6 +45,13 @@ files made words [] asked holds e = some_none e
 files made words (a ∷ []) asked holds e = some_none e
 files made words (a ∷ b ∷ []) asked holds e = one_is (Holds words) e (holds a b refl)
 files made words (a ∷ b ∷ c ∷ more) asked holds e = some_none e
+
+logged : (words values : List Text) (asked : Asked) → ((a : Text) → values ≡ a ∷ [] → Holds words (PrintsLog a))
+    → ((a b : Text) → values ≡ a ∷ b ∷ [] → Holds words (MakesLog a b)) → log_of values ≡ Some asked → Holds words asked
+logged words [] asked prints makes e = some_none e
+logged words (a ∷ []) asked prints makes e = one_is (Holds words) e (prints a refl)
+logged words (a ∷ b ∷ []) asked prints makes e = one_is (Holds words) e (makes a b refl)
+logged words (a ∷ b ∷ c ∷ more) asked prints makes e = some_none e
 
 drawn : (words values : List Text) (asked : Asked) → ((a : Text) (is : List Text) → values ≡ a ∷ is → Holds words (Draws a is))
     → picture_of values ≡ Some asked → Holds words asked
@@ -166,6 +173,12 @@ at_debug rest asked a =
     files Debugs (codes "debug" ∷ rest) a.given.values asked
     (λ i l e. (ap (λ ws. codes "debug" ∷ ws) (sym (plainly (codes "debug") _ rest asked a refl refl) ∙ e), tt)) a.asks
 
+at_log : (rest : List Text) (asked : Asked) → Asks (codes "log") rest asked → Holds (codes "log" ∷ rest) asked
+at_log rest asked a =
+    logged (codes "log" ∷ rest) a.given.values asked
+    (λ l e. (ap (λ ws. codes "log" ∷ ws) (sym (plainly (codes "log") _ rest asked a refl refl) ∙ e), tt))
+    (λ t l e. (ap (λ ws. codes "log" ∷ ws) (sym (plainly (codes "log") _ rest asked a refl refl) ∙ e), tt)) a.asks
+
 at_asm : (rest : List Text) (asked : Asked) → Asks (codes "asm") rest asked → Holds (codes "asm" ∷ rest) asked
 at_asm rest asked a =
     files Assembles (codes "asm" ∷ rest) a.given.values asked
@@ -212,12 +225,13 @@ by_name name rest asked a =
     tell (bytes_eq name (codes "replay")) (λ same. at (codes "replay") name rest asked same (at_replay rest asked) a) (λ no_replay.
     tell (bytes_eq name (codes "debug")) (λ same. at (codes "debug") name rest asked same (at_debug rest asked) a) (λ no_debug.
     tell (bytes_eq name (codes "blame")) (λ same. at (codes "blame") name rest asked same (at_blame rest asked) a) (λ no_blame.
+    tell (bytes_eq name (codes "log")) (λ same. at (codes "log") name rest asked same (at_log rest asked) a) (λ no_log.
     tell (bytes_eq name (codes "asm")) (λ same. at (codes "asm") name rest asked same (at_asm rest asked) a) (λ no_asm.
     tell (bytes_eq name (codes "dis")) (λ same. at (codes "dis") name rest asked same (at_dis rest asked) a) (λ no_dis.
     tell (bytes_eq name (codes "renew")) (λ same. at (codes "renew") name rest asked same (at_renew rest asked) a) (λ no_renew.
     tell (bytes_eq name (codes "explain")) (λ same. at (codes "explain") name rest asked same (at_explain rest asked) a) (λ no_explain.
     tell (bytes_eq name (codes "version")) (λ same. at (codes "version") name rest asked same (at_version rest asked) a) (λ no_version.
-    some_none (rw (no_picture, no_compile, no_map, no_run, no_replay, no_debug, no_blame, no_asm, no_dis, no_renew, no_explain, no_version) at a.asks)))))))))))))
+    some_none (rw (no_picture, no_compile, no_map, no_run, no_replay, no_debug, no_blame, no_log, no_asm, no_dis, no_renew, no_explain, no_version) at a.asks))))))))))))))
 
 -- words that name something begin with a command's name
 in_command : (words : List Text) (asked : Asked) → named_in words ≡ Some asked → Holds words asked

@@ -12,8 +12,8 @@ use Rattle.clap.specs.Lexer.{usize_max}
 use Rattle.clap.specs.ValueTests.{accepts}
 use Rattle.clap.specs.Words.{Text}
 use Rattle.clap.specs.declared.builder.value_parser.ValueParser.TheVariants.{Unsigned}
-use Rattle.hrv_command_line.specs.CommandLine.{Asked, Assembles, Blames, Compiles, Debugs, Draws, Explains, Given, IsPlainWord, Lists, ListsAddresses, Maps}
-use Rattle.hrv_command_line.specs.CommandLine.{Renews, Replays, Resumes, Runs, TellsVersion, asked_of, choose, further, if_known, named, nothing_given, number_or, printed_in}
+use Rattle.hrv_command_line.specs.CommandLine.{Asked, Assembles, Blames, Compiles, Debugs, Draws, Explains, Given, IsPlainWord, Lists, ListsAddresses, MakesLog, Maps}
+use Rattle.hrv_command_line.specs.CommandLine.{PrintsLog, Renews, Replays, Resumes, Runs, TellsVersion, asked_of, choose, further, if_known, named, nothing_given, number_or, printed_in}
 use Rattle.hrv_command_line.specs.CommandLine.{read, text_of, with_choice, with_values}
 use Rattle.hrv_command_line.specs.Commands.{most_harts, most_turns}
 use Rattle.hrv_command_line.specs.declared.table.OptionKind.{OptionKind}
@@ -93,6 +93,18 @@ plain_debug a b a_plain b_plain = ap (asks (codes "debug")) (all_on [] (a ∷ b 
 
 pub marked_debug : (a b : Text) → named (codes "debug" ∷ codes "--" ∷ a ∷ b ∷ []) ≡ Some (Debugs a b)
 marked_debug a b = ap (asks (codes "debug")) (marked_on [] (a ∷ b ∷ []))
+
+pub plain_log : (log : Text) → IsPlainWord log → named (codes "log" ∷ log ∷ []) ≡ Some (PrintsLog log)
+plain_log log is = ap (asks (codes "log")) (all_on [] (log ∷ []) nothing_given (is, tt))
+
+pub marked_log : (log : Text) → named (codes "log" ∷ codes "--" ∷ log ∷ []) ≡ Some (PrintsLog log)
+marked_log log = ap (asks (codes "log")) (marked_on [] (log ∷ []))
+
+pub plain_made_log : (a b : Text) → IsPlainWord a → IsPlainWord b → named (codes "log" ∷ a ∷ b ∷ []) ≡ Some (MakesLog a b)
+plain_made_log a b a_plain b_plain = ap (asks (codes "log")) (all_on [] (a ∷ b ∷ []) nothing_given (a_plain, (b_plain, tt)))
+
+pub marked_made_log : (a b : Text) → named (codes "log" ∷ codes "--" ∷ a ∷ b ∷ []) ≡ Some (MakesLog a b)
+marked_made_log a b = ap (asks (codes "log")) (marked_on [] (a ∷ b ∷ []))
 
 pub plain_asm : (a b : Text) → IsPlainWord a → IsPlainWord b → named (codes "asm" ∷ a ∷ b ∷ []) ≡ Some (Assembles a b)
 plain_asm a b a_plain b_plain = ap (asks (codes "asm")) (all_on [] (a ∷ b ∷ []) nothing_given (a_plain, (b_plain, tt)))

@@ -12,8 +12,8 @@ use Rattle.clap.specs.declared.builder.value_parser.ValueParser.TheVariants.{Uns
 use Rattle.clap.specs.declared.error.Error.{Error}
 use Rattle.hrv_command_line.specs.Commands.{Shape, commands, hrv_app, most_harts, most_turns}
 use Rattle.hrv_command_line.specs.declared.command_lines.Invocation.{Invocation}
-use Rattle.hrv_command_line.specs.declared.command_lines.Invocation.TheVariants.{Asm, Blame, Compile, Debug, Dis, DisAddresses, Explain, Map, Picture, Renew}
-use Rattle.hrv_command_line.specs.declared.command_lines.Invocation.TheVariants.{Replay, Resume, Run, Version}
+use Rattle.hrv_command_line.specs.declared.command_lines.Invocation.TheVariants.{Asm, Blame, Compile, Debug, Dis, DisAddresses, Explain, MakeLog, Map, Picture, PrintLog}
+use Rattle.hrv_command_line.specs.declared.command_lines.Invocation.TheVariants.{Renew, Replay, Resume, Run, Version}
 use Rattle.hrv_command_line.specs.declared.faults.CommandLineFault.{CommandLineFault}
 use Rattle.hrv_command_line.specs.declared.faults.CommandLineFault.TheVariants.{Refused, Memory, Unexplained}
 use Rattle.hrv_command_line.specs.declared.table.OptionKind.{OptionKind}
@@ -29,6 +29,8 @@ pub data Asked : Type 0 where
   Replays : (image log : List ℕ) → Asked
   Debugs : (image log : List ℕ) → Asked
   Blames : (image log : List ℕ) → (x y address : Option (List ℕ)) → (with_turns : Bool) → Asked
+  PrintsLog : (log : List ℕ) → Asked
+  MakesLog : (text log : List ℕ) → Asked
   Assembles : (source image : List ℕ) → Asked
   Lists : (image : List ℕ) → Asked
   ListsAddresses : (image : List ℕ) → Asked
@@ -46,6 +48,8 @@ asked_by (Replay image log) = Replays image.now log.now
 asked_by (Debug image log) = Debugs image.now log.now
 asked_by (Blame image log words) =
     Blames image.now log.now (option_map (λ s. s.now) words.x) (option_map (λ s. s.now) words.y) (option_map (λ s. s.now) words.address) words.with_turns
+asked_by (PrintLog log) = PrintsLog log.now
+asked_by (MakeLog text log) = MakesLog text.now log.now
 asked_by (Asm source image) = Assembles source.now image.now
 asked_by (Dis image) = Lists image.now
 asked_by (DisAddresses image) = ListsAddresses image.now
@@ -185,6 +189,12 @@ blame_of choices (image ∷ log ∷ x ∷ y ∷ []) =
     Some (Blames image log (Some x) (Some y) (text_of (codes "address") choices) (is_some (text_of (codes "turns") choices)))
 blame_of choices _ = None
 
+-- a log, or a text and the log that is made of it
+abbrev pub log_of : List Text → Option Asked
+log_of (log ∷ []) = Some (PrintsLog log)
+log_of (text ∷ log ∷ []) = Some (MakesLog text log)
+log_of _ = None
+
 abbrev pub listing_of : Text → Bool → Asked
 listing_of image true = ListsAddresses image
 listing_of image false = Lists image
@@ -237,11 +247,12 @@ asked_of name given = if bytes_eq name (codes "picture") then picture_of given.v
     else (if bytes_eq name (codes "replay") then files_of Replays given.values
     else (if bytes_eq name (codes "debug") then files_of Debugs given.values
     else (if bytes_eq name (codes "blame") then blame_of given.choices given.values
+    else (if bytes_eq name (codes "log") then log_of given.values
     else (if bytes_eq name (codes "asm") then files_of Assembles given.values
     else (if bytes_eq name (codes "dis") then dis_of given.choices given.values
     else (if bytes_eq name (codes "renew") then files_of Renews given.values
     else (if bytes_eq name (codes "explain") then explain_of given.values
-    else (if bytes_eq name (codes "version") then version_of given.values else None)))))))))))
+    else (if bytes_eq name (codes "version") then version_of given.values else None))))))))))))
 
 -- the command of a name
 abbrev pub command_named : Text → List Shape → Option Shape
@@ -285,6 +296,8 @@ IsPlainWord _ = Unit {0}
 abbrev pub IsSpelled : List Text → Asked → Type 0
 IsSpelled words (Replays image log) = unmarked words ≡ codes "replay" ∷ image ∷ log ∷ []
 IsSpelled words (Debugs image log) = unmarked words ≡ codes "debug" ∷ image ∷ log ∷ []
+IsSpelled words (PrintsLog log) = unmarked words ≡ codes "log" ∷ log ∷ []
+IsSpelled words (MakesLog text log) = unmarked words ≡ codes "log" ∷ text ∷ log ∷ []
 IsSpelled words (Assembles source image) = unmarked words ≡ codes "asm" ∷ source ∷ image ∷ []
 IsSpelled words (Lists image) = unmarked words ≡ codes "dis" ∷ image ∷ []
 IsSpelled words (Explains family code) = (rest : List Text) × (unmarked words ≡ codes "explain" ∷ rest) × (refusal_in rest ≡ Some (family, code))

@@ -31,6 +31,7 @@ pub(crate) fn asked_for<'a>(
         "replay" => Ok(replay_asked(values)),
         "debug" => Ok(debug_asked(values)),
         "blame" => Ok(blame_asked(values, choices)),
+        "log" => Ok(log_asked(values)),
         "asm" => Ok(asm_asked(values)),
         "dis" => Ok(dis_asked(values, choices)),
         "renew" => Ok(renew_asked(values)),
@@ -201,6 +202,17 @@ fn blame_asked<'a>(values: &[&'a str], choices: &[Chosen<'a>]) -> Option<Invocat
         with_turns,
     };
     Some(Invocation::Blame { image, log, words })
+}
+
+// What `log` is asked for.
+fn log_asked<'a>(values: &[&'a str]) -> Option<Invocation<'a>>
+    ensures { option_map asked_by result ≡ spec.log_of (texts values.now) }
+{
+    match values {
+        [log] => Some(Invocation::PrintLog { log }),
+        [text, log] => Some(Invocation::MakeLog { text, log }),
+        _ => None,
+    }
 }
 
 // What `asm` is asked for.

@@ -60,6 +60,15 @@ pub enum Invocation<'a> {
         log: &'a str,
         words: BlameArguments<'a>,
     },
+    /// `log LOG`
+    PrintLog {
+        log: &'a str,
+    },
+    /// `log TEXT LOG`
+    MakeLog {
+        text: &'a str,
+        log: &'a str,
+    },
     /// `picture ALGORITHM [INPUT..]`
     Picture {
         algorithm: &'a str,

@@ -4,8 +4,8 @@ ghost use Rattle.std.specs.List.{AllByRecursion};
 ghost use Rattle.std.specs.Str.{bytes_eq};
 ghost use Rattle.clap.specs.Lexer.{usize_max};
 ghost use Rattle.hrv_command_line.specs.CommandLine.{Asked, Assembles, Blames, Compiles, Debugs, Draws, Explains};
-ghost use Rattle.hrv_command_line.specs.CommandLine.{IsPlainWord, IsSpelled, Lists, ListsAddresses, Maps, Renews};
-ghost use Rattle.hrv_command_line.specs.CommandLine.{Replays, Resumes, Runs, TellsVersion};
+ghost use Rattle.hrv_command_line.specs.CommandLine.{IsPlainWord, IsSpelled, Lists, ListsAddresses, MakesLog, Maps};
+ghost use Rattle.hrv_command_line.specs.CommandLine.{PrintsLog, Renews, Replays, Resumes, Runs, TellsVersion};
 ghost use Rattle.hrv_command_line.specs.CommandLine.{named, number_or};
 ghost use Rattle.hrv_command_line.specs.Commands.{most_harts, most_turns};
 ghost use Rattle.hrv_refusals.specs.Explanations.{is_explained};
@@ -40,6 +40,17 @@ pub fn blame_is_named()
     ensures address { (image log address : List ℕ) → IsPlainWord image → IsPlainWord log → IsPlainWord address
         → named (codes "blame" ∷ image ∷ log ∷ codes "--address" ∷ address ∷ [])
         ≡ Some (Blames image log None None (Some address) false) }
+{}
+
+/// Which words name the printing of a log and the making of one: `log` and a name, or two names, after `--` where one
+/// begins with `-`.
+pub fn log_is_named()
+    ensures printed { (log : List ℕ) → IsPlainWord log → named (codes "log" ∷ log ∷ []) ≡ Some (PrintsLog log) }
+    ensures printed_marked { (log : List ℕ) → named (codes "log" ∷ codes "--" ∷ log ∷ []) ≡ Some (PrintsLog log) }
+    ensures made { (text log : List ℕ) → IsPlainWord text → IsPlainWord log
+        → named (codes "log" ∷ text ∷ log ∷ []) ≡ Some (MakesLog text log) }
+    ensures made_marked { (text log : List ℕ)
+        → named (codes "log" ∷ codes "--" ∷ text ∷ log ∷ []) ≡ Some (MakesLog text log) }
 {}
 
 /// Which words name an assembly: `asm` and two names, after `--` where one begins with `-`.

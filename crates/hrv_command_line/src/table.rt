@@ -66,7 +66,7 @@ const INPUTS: Value<'static> = Value {
     help: "The inputs' pictures, in the order of the algorithm's lines",
 };
 
-const ROWS: [CommandRow<'static>; 12] = [
+const ROWS: [CommandRow<'static>; 13] = [
     CommandRow {
         name: "picture",
         about: "Draws the picture that an algorithm defines",
@@ -214,6 +214,23 @@ const ROWS: [CommandRow<'static>; 12] = [
                 help: "Gives for each pixel the number of the turn, modulo 2147483648, in place of its hart",
             },
         ],
+    },
+    CommandRow {
+        name: "log",
+        about: "Prints the runs of a log as text, or makes a log of such a text",
+        values: &[
+            Value {
+                name: "FILE",
+                need: ValueCount::Always,
+                help: "The log that is printed; before LOG the text that a log is made of",
+            },
+            Value {
+                name: "LOG",
+                need: ValueCount::Perhaps,
+                help: "The file that the log is stored in",
+            },
+        ],
+        choices: &[],
     },
     CommandRow {
         name: "asm",

@@ -10,6 +10,7 @@ pub mod Drawing
 pub mod Dump
 pub mod Engine
 pub mod Faults
+pub mod Logs
 pub mod Map
 pub mod Refusals
 pub mod Renew

@@ -1,6 +1,7 @@
 -- A lower crate's fault as an engine's: want of memory is one fault for all.
 -- This project's own.
-use Rattle.hrv_engines.specs.declared.faults.Refusal.TheVariants.{Load, Log, Asm, Parse, Picture, Input, Compile}
+use Rattle.log_reports.specs.declared.faults.LogTextFault.{LogTextFault}
+use Rattle.hrv_engines.specs.declared.faults.Refusal.TheVariants.{Load, Log, LogText, Asm, Parse, Picture, Input, Compile}
 use Rattle.hrv_engines.specs.declared.faults.Fault.{Fault}
 use Rattle.hrv_engines.specs.declared.faults.Fault.TheVariants.{Refused, Memory, Thread}
 use Rattle.loader.specs.declared.faults.LoadFault.{LoadFault}
@@ -28,6 +29,10 @@ fault_of_load fault = Refused (Load fault)
 abbrev pub fault_of_log : LogFault → Fault
 fault_of_log log.OutOfMemory = Memory
 fault_of_log fault = Refused (Log fault)
+
+abbrev pub fault_of_log_text : LocatedError LogTextFault → Fault
+fault_of_log_text located.Memory = Memory
+fault_of_log_text (located.Fault line fault) = Refused (LogText line fault)
 
 abbrev pub fault_of_drive : DriveFault → Fault
 fault_of_drive drive.OutOfMemory = Memory

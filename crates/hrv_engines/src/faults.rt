@@ -8,6 +8,7 @@ use halide_parser_syntax::ParseFault;
 use hrv_compiler::CompileFault;
 use line_text::{LocatedError, ReadError};
 use loader::LoadFault;
+use log_reports::LogTextFault;
 use picture::{EvalError, PictureFault};
 use shared_machine::DriveFault;
 use std::alloc::{AllocError, AllocFailed};
@@ -23,6 +24,9 @@ pub enum Refusal {
     /// The bytes of a log of turns.
     #[error("log {}", .0.number().unwrap_or(0))]
     Log(LogFault),
+    /// The text of a log, in the line with this number.
+    #[error("turns {} line {line}", .fault.number())]
+    LogText { line: u64, fault: LogTextFault },
     /// An assembly text, in the line with this number.
     #[error("asm {} line {line}", .fault.number())]
     Asm { line: u64, fault: AsmFault },
@@ -125,6 +129,19 @@ impl From<LogFault> for Fault {
         match fault {
             LogFault::OutOfMemory => Fault::Memory,
             _ => Fault::Refused(Refusal::Log(fault)),
+        }
+    }
+}
+
+impl From<LocatedError<LogTextFault>> for Fault {
+    ghost use Rattle.hrv_engines.specs.Refusals.{fault_of_log_text};
+
+    ghost from_gives = { λ error answered. answered ≡ fault_of_log_text error };
+
+    fn from(error: LocatedError<LogTextFault>) -> Fault {
+        match error {
+            LocatedError::Memory => Fault::Memory,
+            LocatedError::Fault(line, fault) => Fault::Refused(Refusal::LogText { line, fault }),
         }
     }
 }

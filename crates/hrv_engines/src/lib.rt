@@ -11,6 +11,8 @@
 //!   and `Talk.antt`.
 //! - [`blame`]: an image, a log of turns and a question become the answer who wrote data; [`blame_bytes`], over
 //!   `specs/Blame.antt`, by what [`questions`] ask, over `specs/BlameQuestions.antt`.
+//! - [`logs`]: a log of turns becomes a text, and such a text a log; [`print_log_bytes`] and [`make_log_bytes`], over
+//!   `specs/Logs.antt`.
 //! - [`drawing`]: an algorithm and input pictures become the reference picture; [`picture_bytes`], over
 //!   `specs/Drawing.antt`.
 //! - [`compiling`]: an algorithm, a schedule and input pictures become an image; [`compile_bytes`], over
@@ -40,6 +42,7 @@ mod dumps;
 pub mod explain;
 pub mod faults;
 pub mod laws;
+mod logs;
 mod mapping;
 mod pictures;
 mod questions;
@@ -58,6 +61,7 @@ pub use crate::dis::{dis_addresses_bytes, dis_bytes};
 pub use crate::drawing::picture_bytes;
 pub use crate::explain::{explain_bytes, version_bytes};
 pub use crate::faults::{Fault, Refusal};
+pub use crate::logs::{make_log_bytes, print_log_bytes};
 pub use crate::mapping::map_bytes;
 pub use crate::questions::{BlameFault, Question};
 pub use crate::renew::renew_bytes;

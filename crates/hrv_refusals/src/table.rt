@@ -4,7 +4,7 @@
 /// A line for each family, and for each of its codes as often as it has causes, in the order in which they are judged.
 /// Below it stand, after two blanks, what the family says, and the cause with what helps.
 #[rattlefmt::skip]
-pub static REFUSALS: [u8; 8553] = *b"\
+pub static REFUSALS: [u8; 8983] = *b"\
 file\n\
 \x20\x20cause: a file can't be read or written, an output is one of the inputs, or a text isn't UTF-8; here `-` is standard input or output, or a file of that name\n\
 \x20\x20cure: look at the path, its rights, the disk; a word left out moves the words behind it\n\
@@ -72,6 +72,23 @@ log 5\n\
 log 4\n\
 \x20\x20cause: at the end: bytes behind the last run\n\
 \x20\x20cure: something was appended\n\
+turns\n\
+\x20\x20TEXT of `hrv log` is none of a log, in the line that is named\n\
+turns 1\n\
+\x20\x20cause: the first line isn't `harts N`, N 1 to 8\n\
+\x20\x20cure: `harts 2`\n\
+turns 2\n\
+\x20\x20cause: another line isn't `HART COUNT`\n\
+\x20\x20cure: two decimal numbers, one space between\n\
+turns 3\n\
+\x20\x20cause: a hart that isn't below N\n\
+\x20\x20cure: they begin at 0\n\
+turns 4\n\
+\x20\x20cause: a count of 0\n\
+\x20\x20cure: leave the line out\n\
+turns 5\n\
+\x20\x20cause: a hart with more than 2^40 turns\n\
+\x20\x20cure: fewer\n\
 blame\n\
 \x20\x20of `hrv blame`: what is asked has no answer\n\
 blame 1\n\

@@ -10,7 +10,8 @@ use crate::invocations::words_of;
 use hrv_command_line::{Invocation, command};
 use hrv_engines::{
     Fault, Question, asm_bytes, blame_bytes, debug_bytes, dis_addresses_bytes, dis_bytes,
-    explain_bytes, picture_bytes, renew_bytes, replay_bytes, version_bytes,
+    explain_bytes, make_log_bytes, picture_bytes, print_log_bytes, renew_bytes, replay_bytes,
+    version_bytes,
 };
 use std::alloc::{AllocError, Global};
 use std::thread::Threads;
@@ -83,6 +84,30 @@ pub fn push_renewal(alloc: Global, parts: &[Part], out: &mut String) -> Result<(
     let image = bytes_of(alloc, image.named("image")?)?;
     let mut page = devices.page(alloc)?;
     let answered = renew_bytes(alloc, &mut devices.tape("image", &image)?, &mut page);
+    push_stored(answered, &page, out)
+}
+
+/// The runs of a log as a text.
+pub fn push_runs(alloc: Global, parts: &[Part], out: &mut String) -> Result<(), CaseFailure> {
+    let (parts, devices) = devices_of(parts);
+    let [log] = parts else {
+        return Err(CaseFailure::Malformed("not one part"));
+    };
+    let log = bytes_of(alloc, log.named("log")?)?;
+    let mut page = devices.page(alloc)?;
+    let answered = print_log_bytes(alloc, &mut devices.tape("log", &log)?, &mut page);
+    push_answer(answered, &page, out)
+}
+
+/// The log that a text of runs becomes.
+pub fn push_log(alloc: Global, parts: &[Part], out: &mut String) -> Result<(), CaseFailure> {
+    let (parts, devices) = devices_of(parts);
+    let [text] = parts else {
+        return Err(CaseFailure::Malformed("not one part"));
+    };
+    let text = text.bytes(alloc, "text")?;
+    let mut page = devices.page(alloc)?;
+    let answered = make_log_bytes(alloc, &mut devices.tape("text", &text)?, &mut page);
     push_stored(answered, &page, out)
 }
 

@@ -24,6 +24,8 @@
 //! | `addresses` | `image` | the listing with addresses |
 //! | `explain` | `words`: a family, below it a code if there is one; or no part | what it means, or the version |
 //! | `renew` | `image` | the renewed image's bytes, in hexadecimal |
+//! | `runs` | `log`: lines in hexadecimal | the log's text |
+//! | `log` | `text`: that of a log | the log's bytes, in hexadecimal |
 //! | `replay` | `image`, `log`: lines in hexadecimal | the dump |
 //! | `debug` | `image`, `log`; `lines` | the talk |
 //! | `blame` | `image`, `log`; `words`: those after the files, one each line | who wrote what is asked about |
@@ -73,8 +75,8 @@ mod weights;
 use crate::algorithms::{push_reading, push_verdict};
 use crate::assemblies::{push_listing, push_object};
 use crate::commands::{
-    push_addresses, push_blame, push_drawing, push_explained, push_image, push_lines, push_renewal,
-    push_replay, push_talk,
+    push_addresses, push_blame, push_drawing, push_explained, push_image, push_lines, push_log,
+    push_renewal, push_replay, push_runs, push_talk,
 };
 use crate::compilations::{push_accesses, push_compilation, push_cuts, push_map};
 use crate::failures::CaseFailure;
@@ -186,6 +188,8 @@ fn push_answer(
         "addresses" => push_addresses(alloc, parts, out),
         "explain" => push_explained(alloc, parts, out),
         "renew" => push_renewal(alloc, parts, out),
+        "runs" => push_runs(alloc, parts, out),
+        "log" => push_log(alloc, parts, out),
         "replay" => push_replay(alloc, parts, out),
         "debug" => push_talk(alloc, parts, out),
         "blame" => push_blame(alloc, parts, out),

@@ -5,8 +5,8 @@ ghost use Rattle.std.specs.Prelude.{◌≡◌};
 use crate::{Page, Tape, empty_page, tape_of};
 use hrv_engines::{
     Fault, Question, Resources, asm_bytes, blame_bytes, compile_bytes, debug_bytes,
-    dis_addresses_bytes, dis_bytes, map_bytes, picture_bytes, renew_bytes, replay_bytes,
-    resume_bytes, run_bytes,
+    dis_addresses_bytes, dis_bytes, make_log_bytes, map_bytes, picture_bytes, print_log_bytes,
+    renew_bytes, replay_bytes, resume_bytes, run_bytes,
 };
 use std::alloc::{AllocError, Global};
 use std::sync::Wait;
@@ -27,6 +27,9 @@ const INPUT: &[u8] = b"picture 8 1\n0 3 6 9 12 15 18 21\n";
 const LINES: &[u8] =
     b"goto 40\nwatch 0x00200008\nreverse\nforward\nbreak 0x00010004\nback\nstatus\n";
 
+/// The text of a log.
+const RUNS: &[u8] = b"harts 2\n0 3\n1 4\n0 1\n";
+
 /// How many turns a run makes at most.
 const TURNS: u64 = 10_000;
 
@@ -43,12 +46,14 @@ pub enum TestedCommand {
     Replay,
     Debug,
     Blame,
+    PrintLog,
+    MakeLog,
     Map,
     Draw,
 }
 
 /// All commands that want memory.
-pub const COMMANDS: [TestedCommand; 12] = [
+pub const COMMANDS: [TestedCommand; 14] = [
     TestedCommand::Assemble,
     TestedCommand::Compile,
     TestedCommand::Renew,
@@ -59,6 +64,8 @@ pub const COMMANDS: [TestedCommand; 12] = [
     TestedCommand::Replay,
     TestedCommand::Debug,
     TestedCommand::Blame,
+    TestedCommand::PrintLog,
+    TestedCommand::MakeLog,
     TestedCommand::Map,
     TestedCommand::Draw,
 ];
@@ -138,6 +145,8 @@ impl Files {
                 debug_bytes(alloc, image, old, &mut tape_of("lines", LINES), out)
             }
             TestedCommand::Blame => blame_bytes(alloc, image, old, PIXELS, out),
+            TestedCommand::PrintLog => print_log_bytes(alloc, old, out),
+            TestedCommand::MakeLog => make_log_bytes(alloc, &mut tape_of("turns", RUNS), out),
             TestedCommand::Map => map_bytes(alloc, &mut algorithm(), &mut schedule(), out),
             TestedCommand::Draw => draw(resources, out),
         }
