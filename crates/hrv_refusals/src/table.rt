@@ -4,7 +4,7 @@
 /// A line for each family, and for each of its codes as often as it has causes, in the order in which they are judged.
 /// Below it stand, after two blanks, what the family says, and the cause with what helps.
 #[rattlefmt::skip]
-pub static REFUSALS: [u8; 8983] = *b"\
+pub static REFUSALS: [u8; 9095] = *b"\
 file\n\
 \x20\x20cause: a file can't be read or written, an output is one of the inputs, or a text isn't UTF-8; here `-` is standard input or output, or a file of that name\n\
 \x20\x20cure: look at the path, its rights, the disk; a word left out moves the words behind it\n\
@@ -158,7 +158,7 @@ parse 7\n\
 \x20\x20cure: arguments that the right side uses stand in place on the left; the update follows its Func's line\n\
 parse 8\n\
 \x20\x20cause: a limit of the language\n\
-\x20\x20cure: cut the text into Funcs\n\
+\x20\x20cure: fewer Funcs, shorter lines; a picture in tiles\n\
 parse 9\n\
 \x20\x20cause: no output line: the line after the last (of an empty text, line 1)\n\
 \x20\x20cure: `output NAME W H`\n\
@@ -166,7 +166,7 @@ schedule\n\
 \x20\x20the schedule is faulty, or doesn't fit (line 0: no line is at fault)\n\
 schedule 1\n\
 \x20\x20cause: syntax; a compute line whose first word has a dot; a line behind the 256th\n\
-\x20\x20cure: one space between words\n\
+\x20\x20cure: a stage's name, a directive, its words; at most 256 lines\n\
 schedule 2\n\
 \x20\x20cause: a first word that names no stage and no input\n\
 \x20\x20cure: `f.0` is f's first update\n\
@@ -184,7 +184,7 @@ schedule 6\n\
 \x20\x20cure: leave those in their order\n\
 schedule 7\n\
 \x20\x20cause: a parallel loop isn't the outermost of its stage, or its Func isn't at root\n\
-\x20\x20cure: `reorder`, `compute_root`\n\
+\x20\x20cure: `reorder` it outermost; `compute_root` for its Func\n\
 schedule 8\n\
 \x20\x20cause: a parallel loop is over a reduction variable\n\
 \x20\x20cure: an argument in place can be parallel\n\
@@ -203,10 +203,10 @@ schedule 12\n\
 \x20\x20cure: split it by the count first\n\
 schedule 13\n\
 \x20\x20cause: `compute_at g v`: g or v can't have it, or a use lies outside\n\
-\x20\x20cure: a loop name that g has after its splits, one further out, or `compute_root`\n\
+\x20\x20cure: a loop that g has after its splits; one further out, around all uses; or `compute_root`\n\
 schedule 14\n\
 \x20\x20cause: a Func with updates, or with a line about its loops, is inlined (line 0)\n\
-\x20\x20cure: give it a compute line\n\
+\x20\x20cure: `f compute_root`, or `f compute_at g v`\n\
 schedule 15\n\
 \x20\x20cause: a directive for an input, or a compute line for the output\n\
 \x20\x20cure: drop it\n\
