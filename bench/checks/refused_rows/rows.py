@@ -141,8 +141,8 @@ def machine_rows():
         yield Row(f"a log {name}", ["log", "log"], {"log": held}, f"log {fault}")
     for name, text, fault in BAD_LOG_TEXTS:
         yield Row(f"a text {name}", ["log", "text", "made"], {"text": text, "made": b"old"}, f"turns {fault}")
-    yield Row("two harts", ["log", "log"], {"log": TURNS})
-    yield Row("two harts", ["log", "text", "made"], {"text": b"harts 2\n0 1\n1 2\n", "made": b"old"})
+    yield Row("two harts as a text", ["log", "log"], {"log": TURNS})
+    yield Row("a text of two harts", ["log", "text", "made"], {"text": b"harts 2\n0 1\n1 2\n", "made": b"old"})
     for name, lines in TALKS.items():
         yield Row(name, ["debug", "image", "log"], both, "", lines.encode())
     yield Row("kept places", ["debug", "image", "log"], {"image": COUNTING, "log": log(1, (0, 40000))}, "",
