@@ -1,5 +1,5 @@
-//! Loops in order in parts: first iterations, those between and last ones, so that clamps at the borders of a picture are
-//! left to the first and last.
+//! Loops in order in parts: first iterations, those between and last ones, so that clamps at the borders of a picture
+//! are left to the first and last.
 //!
 //! - [`variables`]: variables that no stage has (`specs/Borders.antt`).
 //! - [`blindness`]: what names no such variable (`specs/Blind.antt`), and `copies`: statements once more.

@@ -4,8 +4,8 @@
 //! which collects its pixels configures no lanes first, by the literal 0, and lanes by a register in each iteration. So
 //! an image has at least as many instructions of the one kind as there are vectorized loops, and as many of the other
 //! as collect their pixels: a loop has code for each copy of an unrolled one around it, and for each part of one that
-//! is made in parts, but where it is known to do nothing. Where all stores are those of vectorized loops, no instruction
-//! stores a scalar.
+//! is made in parts, but where it is known to do nothing. Where all stores are those of vectorized loops, no
+//! instruction stores a scalar.
 
 ghost use Rattle.schedule.specs.Accepted.{IsAccepted};
 
