@@ -8,6 +8,9 @@ use std::alloc::{AllocError, Global};
 /// How many iterations a first or last part has at most.
 const MOST: u32 = 4;
 
+/// How many iterations are left between at least: fewer would be code of their own each, and no loop.
+const LEAST_BETWEEN: u32 = 2;
+
 /// How many iterations the first and the last part of a loop have.
 #[derive(Clone, Copy, Debug)]
 pub(crate) struct Cuts {
@@ -90,5 +93,9 @@ pub(crate) fn cuts_of(
     }
     let first = least_first(alloc, spans, own, most, open)?;
     let last = least_last(alloc, spans, own, first, most, open)?;
+    let between = own.count.saturating_sub(first).saturating_sub(last);
+    if between < LEAST_BETWEEN {
+        return Ok(None);
+    }
     Ok(Some(Cuts { first, last }))
 }

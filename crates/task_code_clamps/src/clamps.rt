@@ -134,7 +134,8 @@ fn both(a: bool, b: bool) -> bool
     a && b
 }
 
-/// What an operation makes of two expressions without clamps that cut nothing off.
+/// What an operation makes of two expressions without clamps that cut nothing off; those that cut at one number alone
+/// may be tests.
 ///
 /// # Errors
 ///
@@ -144,6 +145,7 @@ pub fn of_both(
     operation: Operation,
     a: Ranged,
     b: Ranged,
+    may_be_tests: bool,
 ) -> Result<Ranged, AllocError>
     ensures { IfOk result (λ made. (places : Places) (bounds : List Bound) (x y : Expr) → IsRanged places bounds x a
         → IsRanged places bounds y b
@@ -169,8 +171,10 @@ pub fn of_both(
     let range = range_of_both(operation, a.range, b.range);
     let stays = is_choice(operation);
     let is_word = both(are_words, stays);
-    if let Some(e) = by_test(alloc, operation, &a, &b)? {
-        return Ok(Ranged { e, range, is_word });
+    if may_be_tests {
+        if let Some(e) = by_test(alloc, operation, &a, &b)? {
+            return Ok(Ranged { e, range, is_word });
+        }
     }
     let first = Boxed::new(alloc, a.e)?;
     let second = Boxed::new(alloc, b.e)?;

@@ -36,8 +36,6 @@ use Rattle.task_code_registers.proofs.Striding.{linear-with}
 use Rattle.task_code_loops.specs.declared.bounds.Bound.{Bound}
 use Rattle.task_code_loops.specs.Bounds.{AreBelow}
 use Rattle.task_code_loops.specs.Guarding.{stored_if}
-use Rattle.task_code_loops.specs.declared.known.KnownSum.{KnownSum}
-use Rattle.task_code_loops.specs.Known.{AreKnown}
 use Rattle.task_code_loops.proofs.Knowledge.{knows-with}
 use Rattle.task_code_lanes.specs.declared.groups.LaneGroup.{LaneGroup}
 use Rattle.task_code_lanes.specs.declared.groups.LaneGroup.TheVariants as groups
@@ -47,9 +45,7 @@ use Rattle.task_code_vector_loops.specs.Naming.{AreNamed}
 use Rattle.task_code_vector_loops.specs.declared.left.Left.{Left}
 use Rattle.task_code_vector_loops.specs.Runs.{EmitsRun, StoresAs, all_lanes, least_left, left_by, left_lanes, run_of}
 use Rattle.task_code_vector_loops.proofs.Idling.{none-hit, none-run}
-use Rattle.task_code_names.specs.declared.names.Named.{Named}
-use Rattle.task_code_names.specs.Names.{AreNames, IsNamedStore}
-use Rattle.task_code_names.proofs.Alike.{store-then}
+use Rattle.task_code_names.specs.Alike.{IsAlikeStore}
 use Rattle.task_code_statements.specs.declared.contexts.Context.{Context}
 use Rattle.task_code_statements.specs.declared.guards.Guard.{Guard}
 use Rattle.task_code_statements.specs.declared.guards.Parted.{Parted}
@@ -58,7 +54,6 @@ use Rattle.task_code_statements.specs.declared.vectorizing.VectorStore.{VectorSt
 use Rattle.task_code_statements.specs.Contexts.{Meets, MeetsLoop, MeetsSum}
 use Rattle.task_code_statements.specs.Lacking.{StoreLacks}
 use Rattle.task_code_statements.specs.Plain.{IsPlainStore}
-use Rattle.task_code_statements.specs.Rewriting.{IsSameStore}
 use Rattle.task_code_statements.specs.Splits.{IsSplitSum}
 use Rattle.task_code_statements.specs.Statements.{EmitsStatement}
 use Rattle.task_code_statements.specs.Vectorizing.{AreLanes, AreLeft, GuardsLack, IsLeft, IsParted, IsRunOf, IsStoreOf, TestFirst, TestToo, WordsBehind}
@@ -71,32 +66,24 @@ use Rattle.task_code_statements.proofs.Storing.{same-sound}
 
 -- ---- stores
 
-pub store-of : (context : Context) (known : List KnownSum) (names : List Named) (body : Stmt) (store first made : Store) (own : GuardedStore) → IsPlainStore store
-    → known ≡ context.known.items → names ≡ context.names.items → body ≡ s.Store store → IsSameStore known store first → IsNamedStore names first made
-    → own.store ≡ made → own.guards.items ≡ [] → IsStoreOf context body own
-store-of context known names body store first made own plain ek en eb one two es eg = subst (λ b. IsStoreOf context b own) (sym eb) (record {
+pub store-of : (context : Context) (body : Stmt) (store made : Store) (own : GuardedStore) → IsPlainStore store → body ≡ s.Store store
+    → IsAlikeStore (Meets context) store made → own.store ≡ made → own.guards.items ≡ [] → IsStoreOf context body own
+store-of context body store made own plain eb is es eg = subst (λ b. IsStoreOf context b own) (sym eb) (record {
   stores = λ reads values named same meets.
-      let are : AreKnown known named × AreNames names named =
-      (subst (λ k. AreKnown k named) (sym ek) meets.known, subst (λ k. AreNames k named) (sym en) meets.named) in
-      let is = store-then (AreKnown known) (AreNames names) store first made one two in
       effect_store reads store values
       ∙ ap (λ k. Some (record { func = k; x = value reads values store.x; y = value reads values store.y; pixel = value reads values store.value })) (sym
       is.func_is)
       ∙ ap (λ k. Some (record { func = made.func; x = k; y = value reads values store.y; pixel = value reads values store.value }))
-      (sym (plain.column.value_is reads values named same) ∙ sym (is.column.value_is reads named are))
+      (sym (plain.column.value_is reads values named same) ∙ sym (is.column.value_is reads named meets))
       ∙ ap (λ k. Some (record { func = made.func; x = value reads named made.x; y = k; pixel = value reads values store.value }))
-      (sym (plain.row.value_is reads values named same) ∙ sym (is.row.value_is reads named are))
+      (sym (plain.row.value_is reads values named same) ∙ sym (is.row.value_is reads named meets))
       ∙ ap (λ k. Some (record { func = made.func; x = value reads named made.x; y = value reads named made.y; pixel = k }))
-      (sym (plain.pixel.value_is reads values named same) ∙ sym (is.pixel.value_is reads named are))
+      (sym (plain.pixel.value_is reads values named same) ∙ sym (is.pixel.value_is reads named meets))
       ∙ sym (effect_store reads made named)
       ∙ sym (ap (λ l. cond (passes l named) (effect reads (s.Store own.store) named) None) eg ∙ ap (λ t. effect reads (s.Store t) named) es);
   sound = λ reads written loaded values named same meets passed so.
-      let are : AreKnown known named × AreNames names named =
-      (subst (λ k. AreKnown k named) (sym ek) meets.known, subst (λ k. AreNames k named) (sym en) meets.named) in
-      let is = store-then (AreKnown known) (AreNames names) store first made one two in
       ap (λ t. is_sound reads written loaded (s.Store t) named) es
-      ∙ sound_store reads written loaded made named ∙ same-sound (λ values. AreKnown known values × AreNames names values) store made is named are reads written
-      loaded
+      ∙ sound_store reads written loaded made named ∙ same-sound (Meets context) store made is named meets reads written loaded
       ∙ plain-sound store plain values named same reads written loaded ∙ sym (sound_store reads written loaded store values) ∙ so;
 })
 

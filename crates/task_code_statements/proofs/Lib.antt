@@ -16,3 +16,6 @@ pub mod Tasking
 pub mod AtOnce
 pub mod Without
 pub mod Unclamping
+pub mod RunStores
+pub mod Parted
+pub mod Numbered

@@ -1,5 +1,5 @@
 -- What is known of loop variables, inside of loops and after what binds them.
-use Rattle.std.proofs.Common.{◌≡◌, ℕ, ◌%◌, ◌^◌, ◌<◌, List, [], ◌∷◌, ◌++◌, Bool, true, false, refl, ap, ◌∙◌, sym, subst}
+use Rattle.std.proofs.Common.{◌≡◌, ℕ, ◌%◌, ◌^◌, ◌<◌, List, [], ◌∷◌, ◌++◌, Bool, true, false, refl, ap, ◌∙◌, sym, subst, arith}
 use Rattle.std.specs.Prelude.{◌&&◌, ◌||◌, not, if◌then◌else◌}
 use Rattle.std.proofs.lemmas.Bool.{true≢false}
 use Rattle.loop_ir.specs.declared.expressions.Counter.{Counter}
@@ -17,7 +17,7 @@ use Rattle.task_code_loops.proofs.Rewriting.{known-stays, one-more-is-known}
 use Rattle.task_code_names.specs.declared.names.Named.{Named}
 use Rattle.task_code_names.specs.Names.{AreNames, HasValue}
 use Rattle.task_code_statements.specs.declared.contexts.Context.{Context}
-use Rattle.task_code_statements.specs.Contexts.{KeepsNames, MeetsLoop, MeetsName, MeetsSum, MeetsZero, StayNamed, is_bounded, without}
+use Rattle.task_code_statements.specs.Contexts.{KeepsNames, MeetsLoop, MeetsName, MeetsSum, MeetsNumber, StayNamed, is_bounded, without}
 use Rattle.task_code_statements.specs.Lacking.{Lacks}
 
 if-false : (t b : Bool) → (if t then true else b) ≡ false → (t ≡ false) × (b ≡ false)
@@ -120,13 +120,16 @@ module _ (context : Context) (counter : Counter) where
     };
   }
 
-  pub zero-meets : (zero : Linear) (made : Context) → ((values : Values) → linear_value values zero ≡ 0)
-      → made.known.items ≡ record { counter = counter; sum = zero } ∷ rest → made.bounds.items ≡ context.bounds.items
-      → made.names.items ≡ context.names.items → MeetsZero context counter made
-  zero-meets zero made is ek eb en = record {
-    meets = λ values none m. record {
-      known = subst (λ k. AreKnown k values) (sym ek)
-          (ap (λ n. n % 2 ^ 32) none ∙ sym (is values), without-known counter context.known.items values m.known);
+  pub number-meets : (number : ℕ) (sum : Linear) (made : Context) → number < 2 ^ 32 → ((values : Values) → linear_value values sum ≡ number)
+      → made.known.items ≡ record { counter = counter; sum = sum } ∷ rest → made.bounds.items ≡ context.bounds.items
+      → made.names.items ≡ context.names.items → MeetsNumber context counter number made
+  number-meets number sum made small is ek eb en = record {
+    meets = λ values stands m. record {
+      known = subst (λ k. AreKnown k values) (sym ek) (
+        let word : number % 2 ^ 32 ≡ number = omega (arith, small) in
+            ap (λ n. n % 2 ^ 32) stands ∙ word ∙ sym (is values),
+        without-known counter context.known.items values m.known,
+      );
       below = subst (λ b. AreBelow b values) (sym eb) m.below;
       named = subst (λ l. AreNames l values) (sym en) m.named;
     };

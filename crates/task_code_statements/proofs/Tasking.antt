@@ -7,6 +7,7 @@ use Rattle.loop_ir.specs.declared.expressions.Counter.{Counter}
 use Rattle.loop_ir.specs.declared.statements.Phase.{Phase}
 use Rattle.loop_ir.specs.Counters.{no_values}
 use Rattle.loop_ir.specs.Running.{run, task_values}
+use Rattle.task_code_borders.specs.Borders.{is_border, number}
 use Rattle.multi_hart_laws.specs.Alone.{World}
 use Rattle.multi_hart_laws.specs.Paths.{Line}
 use Rattle.multi_hart_laws.proofs.Paths.{block-then, line-then, stand-front, writes-first}
@@ -25,10 +26,12 @@ use Rattle.task_code_loops.specs.Known.{AreKnown}
 use Rattle.task_code_statements.specs.declared.contexts.Context.{Context}
 use Rattle.task_code_names.specs.Names.{AreNames}
 use Rattle.task_code_vector_loops.specs.AtOnce.{MayRun}
-use Rattle.task_code_statements.specs.Contexts.{Meets, MeetsLoop, MeetsZero, IsEmpty}
+use Rattle.task_code_statements.specs.Contexts.{Meets, MeetsLoop, MeetsNumber, IsEmpty}
 use Rattle.task_code_statements.specs.Statements.{EmitsStatement}
 use Rattle.task_code_statements.proofs.Plainness.{named-same}
+use Rattle.task_code_statements.proofs.Numbered.{starts-at-number, starts-at-zero, starts-with}
 use Rattle.task_code_statements.specs.Drawing.{Begins, StaysMet, drawn, is_own}
+use Rattle.task_code_statements.specs.Starts.{AppendsStarted, IsOfStages, numbered, starts}
 use Rattle.task_code_statements.specs.Tasks.{AppendsTask, DoesTask, HasDrawn, restored}
 
 -- ---- the beginning
@@ -43,20 +46,26 @@ empty-meets context is values = record {
 pub none-begins : (counter : Option Counter) (tasks : ℕ) (scope : List Held) (context : Context) → counter ≡ None → scope ≡ [] → IsEmpty context
     → Begins counter tasks scope context
 none-begins counter tasks scope context ep es empty = subst (λ s. Begins counter tasks s context) (sym es) (record {
+  of_stages = subst IsOfStages (sym ep) tt;
   holders = tt;
   knows = λ hart task f less zero number drawn. (zero, number);
-  meets = λ task less. empty-meets context empty (task_values counter task);
+  meets = λ task less. empty-meets context empty (starts counter task);
 })
 
 pub drawn-begins : (own : Option Counter) (tasks : ℕ) (counter : Counter) (scope : List Held) (outside context : Context) → own ≡ Some counter
+    → is_border counter ≡ false
     → scope ≡ drawn counter → tasks < 2 ^ 32 → IsEmpty outside → MeetsLoop outside counter tasks context → Begins own tasks scope context
-drawn-begins own tasks counter scope outside context ep es small empty within = subst (λ s. Begins own tasks s context) (sym es) (record {
+drawn-begins own tasks counter scope outside context ep not es small empty within = subst (λ s. Begins own tasks s context) (sym es) (record {
+  of_stages = subst IsOfStages (sym ep) not;
   holders = (inl refl, (apart, tt));
   knows = λ hart task f less zero number is.
-      subst (λ o. Knows hart (drawn counter) (task_values o task) f) (sym ep)
-      (is ∙ sym (variable-value counter hart task no_values (omega (arith, less, small))), (zero, number));
+      subst (λ o. Knows hart (drawn counter) (starts o task) f) (sym ep)
+      (subst (λ v. Knows hart (drawn counter) v f) (starts-with counter task not)
+      (is ∙ sym (variable-value counter hart task (numbered no_values) (omega (arith, less, small))), (zero, number)));
   meets = λ task less.
-      subst (λ o. Meets context (task_values o task)) (sym ep) (within.meets no_values task less (empty-meets outside empty no_values));
+      subst (λ o. Meets context (starts o task)) (sym ep)
+      (subst (Meets context) (starts-with counter task not)
+      (within.meets (numbered no_values) task less (empty-meets outside empty (numbered no_values))));
 })
   where
     apart : (q : ℕ) → IsKept [] q → q ≡ 12 → ⊥
@@ -100,6 +109,10 @@ kept-harts : (scope : List Held) → IsKept scope 10 × IsKept scope 11
 kept-harts [] = (inr (inl refl), inr (inr refl))
 kept-harts (own ∷ others) = let k = kept-harts others in (inr k.0, inr k.1)
 
+kept-more : (scope : List Held) (q : ℕ) → IsKept [] q → IsKept scope q
+kept-more [] q kept = kept
+kept-more (own ∷ others) q kept = inr (kept-more others q kept)
+
 module _ (phase : Phase) (places : Places) (ticket : ℕ) where
   -- code does a phase's statement wherever a task's number was drawn
   abbrev pub DoesBody : List Insn → (ℕ → ℕ) → List Held → Type 0
@@ -139,37 +152,55 @@ module _ (phase : Phase) (places : Places) (ticket : ℕ) where
             };
       }
 
-  pub task-emits : (scope : List Held) (context : Context) (c0 c1 c2 : List ℕ) → ticket + 4 < 2 ^ 32
+  pub started-emits : (scope : List Held) (context : Context) (c0 c1 c2 : List ℕ)
       → phase.tasks < 2 ^ 32 → Begins phase.counter phase.tasks scope context → EmitsStatement c0 c1 places scope (Meets context) phase.body
-      → Emits c1 c2 (restored ticket phase.tasks) → AppendsTask c0 c2 phase places ticket
-  task-emits scope context c0 c1 c2 lt ls begins x z = record {
-    insns = x.insns ++ restored ticket phase.tasks;
+      → Emits c1 c2 (restored ticket phase.tasks) → AppendsStarted c0 c2 phase places ticket
+  started-emits scope context c0 c1 c2 few begins x z = record {
+    insns = x.insns;
     emits = emits_then x.emits z;
-    does = task-done x.insns (λ task. x.turns (task_values phase.counter task)) scope lt ls
-        (λ own good at-places task less may f memory funcs holds is.
-        let values = task_values phase.counter task in
-        x.does own good at-places values values (named-same values) begins.holders (begins.meets task less) may f memory funcs holds
-        (begins.knows own.world.hart task f less is.none is.number is.drawn));
+    few = few;
+    of_stages = begins.of_stages;
+    turns = λ task. x.turns (starts phase.counter task);
+    does = λ own good at-places task less may f memory funcs holds is.
+        let values = starts phase.counter task in
+        let a = x.does own good at-places values values (named-same values) begins.holders (begins.meets task less) may f memory funcs holds
+        (begins.knows own.world.hart task f less is.none is.number is.drawn) in
+        record {
+          after = a.after;
+          left = a.left;
+          block = a.block;
+          keeps = λ q kept. a.keeps q (kept-more scope q kept);
+          holds = a.holds;
+          elsewhere = a.elsewhere;
+          are_bytes = a.are_bytes;
+          writes = a.writes;
+        };
   }
 
 -- ---- variables that no loop has
 
-pub stays-none : (own : Option Counter) (context : Context) → StaysMet own context context
-stays-none own context = record { meets = λ task meets. meets }
+pub stays-same : (own : Option Counter) (context : Context) → StaysMet own context context
+stays-same own context = record { meets = λ task meets. meets }
 
-stands-still : (own : Option Counter) (counter : Counter) (task : ℕ) → is_own own counter ≡ false → task_values own task counter ≡ 0
-stands-still None counter task other = refl
-stands-still (Some own) counter task other = ap (λ t. if t then task else no_values counter) other
-
-pub stays-more : (own : Option Counter) (counter : Counter) (t : Bool) (context next made : Context) → t ≡ is_own own counter → t ≡ false
-    → MeetsZero context counter next → StaysMet own next made → StaysMet own context made
-stays-more own counter t context next made e f zero rest = record {
-  meets = λ task meets. rest.meets task (zero.meets (task_values own task) (stands-still own counter task (sym e ∙ f)) meets);
+pub stays-at-zero : (own : Option Counter) (counter : Counter) (context made : Context) (t b : Bool) → t ≡ is_own own counter → t ≡ false
+    → b ≡ is_border counter → b ≡ false → MeetsNumber context counter 0 made → StaysMet own context made
+stays-at-zero own counter context made t b et ft eb fb zero = record {
+  meets = λ task meets. zero.meets (starts own task) (starts-at-zero own counter task (sym et ∙ ft) (sym eb ∙ fb)) meets;
 }
+
+pub stays-at-number : (own : Option Counter) (counter : Counter) (n : ℕ) (context made : Context) → counter ≡ number n
+    → MeetsNumber context counter n made → StaysMet own context made
+stays-at-number own counter n context made is stands = record {
+  meets = λ task meets. stands.meets (starts own task) (starts-at-number own counter n task is) meets;
+}
+
+pub stays-then : (own : Option Counter) (context next made : Context) → StaysMet own context next → StaysMet own next made → StaysMet own context made
+stays-then own context next made first rest = record { meets = λ task meets. rest.meets task (first.meets task meets) }
 
 pub begins-met : (own : Option Counter) (tasks : ℕ) (scope : List Held) (context made : Context) → Begins own tasks scope context
     → StaysMet own context made → Begins own tasks scope made
 begins-met own tasks scope context made begins stays = record {
+  of_stages = begins.of_stages;
   holders = begins.holders;
   knows = begins.knows;
   meets = λ task less. stays.meets task (begins.meets task less);

@@ -35,9 +35,9 @@ pub record MeetsLoop (context : Context) (counter : Counter) (count : ℕ) (made
 pub record MeetsSum (context : Context) (counter : Counter) (sum : Linear) (made : Context) : Type 0 where
   pub meets : (values : Values) (v : ℕ) → v % 2 ^ 32 ≡ linear_value values sum → Meets context values → Meets made (with counter v values)
 
--- where one stands at 0,
-pub record MeetsZero (context : Context) (counter : Counter) (made : Context) : Type 0 where
-  pub meets : (values : Values) → values counter ≡ 0 → Meets context values → Meets made values
+-- where one stands at a number,
+pub record MeetsNumber (context : Context) (counter : Counter) (number : ℕ) (made : Context) : Type 0 where
+  pub meets : (values : Values) → values counter ≡ number → Meets context values → Meets made values
 
 -- and where a name has the value of an expression that is a word and loads nothing.
 pub record MeetsName (context : Context) (counter : Counter) (e : Expr) (made : Context) : Type 0 where

@@ -10,6 +10,7 @@ pub mod Plain
 pub mod Replacing
 pub mod Rewriting
 pub mod Splits
+pub mod Starts
 pub mod Statements
 pub mod Tasks
 pub mod Vectorizing

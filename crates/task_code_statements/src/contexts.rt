@@ -2,7 +2,7 @@
 
 ghost use Rattle.std.specs.Prelude.{◌≡◌, ◌++◌, ◌∷◌, IfOk, IfSome, OnOk};
 ghost use Rattle.task_code_statements.specs.Contexts as contexts;
-ghost use Rattle.task_code_statements.specs.Contexts.{IsEmpty, KeepsNames, MeetsLoop, MeetsName, MeetsSum, MeetsZero};
+ghost use Rattle.task_code_statements.specs.Contexts.{IsEmpty, KeepsNames, MeetsLoop, MeetsName, MeetsSum, MeetsNumber};
 ghost use Rattle.task_code_statements.specs.Contexts.{StayNamed};
 
 use crate::lacking::lacks;
@@ -249,16 +249,21 @@ pub fn with_sum(
     })
 }
 
-/// What is known where a loop variable stands at 0.
+/// What is known where a loop variable stands at a number.
 ///
 /// # Errors
 ///
 /// Memory ran out.
-pub fn with_zero(alloc: Global, context: Context, counter: Counter) -> Result<Context, AllocError>
-    ensures { IfOk result (MeetsZero context counter) }
+pub fn with_number(
+    alloc: Global,
+    context: Context,
+    counter: Counter,
+    number: u32,
+) -> Result<Context, AllocError>
+    ensures { IfOk result (MeetsNumber context counter number) }
 {
-    let zero = Linear::of_number(alloc, 0);
-    let known = with_known(alloc, context.known.as_slice(), counter, &zero)?;
+    let sum = Linear::of_number(alloc, number);
+    let known = with_known(alloc, context.known.as_slice(), counter, &sum)?;
     Ok(Context {
         known,
         bounds: context.bounds,

@@ -4,12 +4,11 @@ use crate::contexts::{Context, in_loop, with_value};
 use crate::names::free_name;
 use crate::parting::loop_part;
 use crate::plain::{is_name, name};
-use crate::rewriting::store_by_others;
 use crate::room::is_in_order;
 use crate::splits::{Entered, enter_split, unnamed_start};
 use crate::statements::{is_laid_out, made_store};
 use crate::staying::{add, is_among, is_same_in_all, may_stay_in, staying};
-use crate::vectorizing::is_at_once;
+use crate::vectorizing::{is_at_once, run_store};
 use loop_ir::expressions::{Counter, Expr, Linear};
 use loop_ir::parts::StmtParts;
 use loop_ir::statements::{LoopKind, Stmt, Store, Whole};
@@ -39,8 +38,7 @@ fn ready_store(
     if with_cuts {
         return made_store(alloc, places, context, store);
     }
-    let made = store_by_others(alloc, store, context.known.as_slice())?;
-    renamed_store(alloc, context.names.as_slice(), made)
+    run_store(alloc, context, store)
 }
 
 /// A loop whose body is ready, with names of what stays the same in its iterations.

@@ -25,6 +25,7 @@ fn unclamped_binary(
     operation: Operation,
     a: Ranged,
     b: Ranged,
+    may_be_tests: bool,
 ) -> Result<Ranged, AllocError>
     ensures { IfOk result (λ made. (places : Places) (x y : Expr) → IsRanged places bounds.now x a
         → IsRanged places bounds.now y b → IsRanged places bounds.now (expressions.Binary operation x y) made) }
@@ -32,7 +33,7 @@ fn unclamped_binary(
     match sum_of_both(alloc, operation, &a.e, &b.e)? {
         Some(sum) => Ok(of_linear(sum, bounds)),
         None => {
-            let made = of_both(alloc, operation, a, b)?;
+            let made = of_both(alloc, operation, a, b, may_be_tests)?;
             Ok(made)
         }
     }
@@ -45,11 +46,12 @@ fn unclamped_part(
     places: &Places,
     known: &[KnownSum],
     bounds: &[Bound],
+    may_be_tests: bool,
     e: &Expr,
 ) -> Result<Boxed<Expr>, AllocError>
     ensures { IfOk result (IsUnclamped places.now known.now bounds.now e.now) }
 {
-    let made = unclamped(alloc, places, known, bounds, e)?;
+    let made = unclamped(alloc, places, known, bounds, may_be_tests, e)?;
     let boxed = Boxed::new(alloc, made.e)?;
     Ok(boxed)
 }
@@ -62,6 +64,7 @@ fn unclamped(
     places: &Places,
     known: &[KnownSum],
     bounds: &[Bound],
+    may_be_tests: bool,
     e: &Expr,
 ) -> Result<Ranged, AllocError>
     ensures { IfOk result (IsUnclampedIn places.now known.now bounds.now e.now) }
@@ -73,28 +76,28 @@ fn unclamped(
             Ok(of_linear(sum, bounds))
         }
         Expr::Binary(operation, a, b) => {
-            let first = unclamped(alloc, places, known, bounds, a.get())?;
-            let second = unclamped(alloc, places, known, bounds, b.get())?;
-            let made = unclamped_binary(alloc, bounds, *operation, first, second)?;
+            let first = unclamped(alloc, places, known, bounds, may_be_tests, a.get())?;
+            let second = unclamped(alloc, places, known, bounds, may_be_tests, b.get())?;
+            let made = unclamped_binary(alloc, bounds, *operation, first, second, may_be_tests)?;
             Ok(made)
         }
         Expr::Divide(a, divisor) => {
-            let first = unclamped_part(alloc, places, known, bounds, a.get())?;
+            let first = unclamped_part(alloc, places, known, bounds, may_be_tests, a.get())?;
             Ok(anywhere(Expr::Divide(first, *divisor)))
         }
         Expr::Remainder(a, divisor) => {
-            let first = unclamped_part(alloc, places, known, bounds, a.get())?;
+            let first = unclamped_part(alloc, places, known, bounds, may_be_tests, a.get())?;
             Ok(anywhere(Expr::Remainder(first, *divisor)))
         }
         Expr::Select(c, a, b) => {
-            let condition = unclamped_part(alloc, places, known, bounds, c.get())?;
-            let first = unclamped_part(alloc, places, known, bounds, a.get())?;
-            let second = unclamped_part(alloc, places, known, bounds, b.get())?;
+            let condition = unclamped_part(alloc, places, known, bounds, may_be_tests, c.get())?;
+            let first = unclamped_part(alloc, places, known, bounds, may_be_tests, a.get())?;
+            let second = unclamped_part(alloc, places, known, bounds, may_be_tests, b.get())?;
             Ok(anywhere(Expr::Select(condition, first, second)))
         }
         Expr::Load(source, x, y) => {
-            let column = unclamped_part(alloc, places, known, bounds, x.get())?;
-            let row = unclamped_part(alloc, places, known, bounds, y.get())?;
+            let column = unclamped_part(alloc, places, known, bounds, may_be_tests, x.get())?;
+            let row = unclamped_part(alloc, places, known, bounds, may_be_tests, y.get())?;
             Ok(of_load(places, *source, column, row))
         }
     }
@@ -110,13 +113,14 @@ pub fn unclamped_store(
     places: &Places,
     known: &[KnownSum],
     bounds: &[Bound],
+    may_be_tests: bool,
     store: &Store,
 ) -> Result<Store, AllocError>
     ensures { IfOk result (IsUnclampedStore places.now known.now bounds.now store.now) }
 {
-    let x = unclamped(alloc, places, known, bounds, &store.x)?;
-    let y = unclamped(alloc, places, known, bounds, &store.y)?;
-    let value = unclamped(alloc, places, known, bounds, &store.value)?;
+    let x = unclamped(alloc, places, known, bounds, may_be_tests, &store.x)?;
+    let y = unclamped(alloc, places, known, bounds, may_be_tests, &store.y)?;
+    let value = unclamped(alloc, places, known, bounds, may_be_tests, &store.value)?;
     Ok(Store {
         func: store.func,
         x: x.e,

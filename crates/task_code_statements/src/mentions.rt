@@ -1,8 +1,9 @@
-//! Which loop variables a statement's sums name.
+//! Which loop variables a statement's sums name, and which of its split loops stand at a number.
 
 use loop_ir::expressions::{Counter, Expr, Linear, same_counter};
 use loop_ir::statements::{Stmt, Store};
 use std::alloc::{AllocError, Global};
+use task_code_borders::variables::is_border;
 
 /// Adds a loop variable, unless it is there.
 fn add(found: &mut Vec<Counter>, counter: Counter) -> Result<(), AllocError> {
@@ -59,7 +60,12 @@ fn add_statement(found: &mut Vec<Counter>, statement: &Stmt) -> Result<(), Alloc
             add_statement(found, second.get())
         }
         Stmt::For(_, _, _, body) => add_statement(found, body.get()),
-        Stmt::Bind(_, _, _, body) => add_statement(found, body.get()),
+        Stmt::Bind(_, whole, _, body) => {
+            if is_border(whole.inner) {
+                add(found, whole.inner)?;
+            }
+            add_statement(found, body.get())
+        }
     }
 }
 

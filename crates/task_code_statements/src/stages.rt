@@ -6,6 +6,7 @@ use loop_ir::statements::Stmt;
 use schedule_lines::stages::StageName;
 use sqlite_items::Boxed;
 use std::alloc::{AllocError, Global};
+use task_code_borders::parting::is_part;
 
 /// A stage inside a phase, and words that are the code of its nest.
 #[derive(Clone, Copy)]
@@ -100,8 +101,11 @@ fn add_nest(
     first: usize,
     behind: usize,
 ) -> Result<(), AllocError> {
-    // Of a sequence each part is added by itself.
+    // Of a sequence each statement is added by itself, and parts of a loop with the loop around them.
     if let Stmt::Sequence(_, _) = statement {
+        return Ok(());
+    }
+    if is_part(statement) {
         return Ok(());
     }
     let func = func_of(statement);

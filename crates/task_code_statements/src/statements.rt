@@ -59,7 +59,8 @@ pub(crate) fn made_store(
     ensures { IfOk result (IsMadeStore places.now context.now store.now) }
 {
     let known = context.known.as_slice();
-    let plain = unclamped_store(alloc, places, known, context.bounds.as_slice(), store)?;
+    let bounds = context.bounds.as_slice();
+    let plain = unclamped_store(alloc, places, known, bounds, true, store)?;
     let named = renamed_store(alloc, context.names.as_slice(), plain)?;
     Ok(named)
 }
@@ -124,6 +125,8 @@ pub(crate) fn is_laid_out(kind: LoopKind, count: u32) -> bool
 #[derive(Clone, Copy, Debug)]
 enum LoopMethod {
     AtOnce,
+    /// One alone.
+    Once,
     /// Each with code of its own.
     LaidOut,
     /// One after the other.
@@ -133,6 +136,7 @@ enum LoopMethod {
 /// How the iterations of so many of a loop of this kind are done.
 fn way_of(kind: LoopKind, count: u32) -> LoopMethod
     ensures at_once { result ≡ LoopMethod.AtOnce → kind ≡ vectorized }
+    ensures once { result ≡ LoopMethod.Once → is_vectorized kind ≡ false }
     ensures laid_out { result ≡ LoopMethod.LaidOut → is_vectorized kind ≡ false }
     ensures in_order { result ≡ LoopMethod.InOrder → is_vectorized kind ≡ false }
 {
@@ -141,7 +145,7 @@ fn way_of(kind: LoopKind, count: u32) -> LoopMethod
         LoopKind::Unrolled => LoopMethod::LaidOut,
         LoopKind::Serial => {
             if count == 1 {
-                LoopMethod::LaidOut
+                LoopMethod::Once
             } else {
                 LoopMethod::InOrder
             }
@@ -268,6 +272,37 @@ fn emit_laid_out(
         emit_unless_idle(alloc, code, site, &inner, body)?;
     }
     Ok(())
+}
+
+/// Appends a loop of one iteration, after what has names in it.
+#[cycle(statements)]
+fn emit_once(
+    alloc: Global,
+    code: &mut Code,
+    site: &Site<'_>,
+    context: &Context,
+    own: Bound,
+    body: &Stmt,
+) -> Result<(), CodeFault>
+    ensures { OnOk result (EmitsLoop code.old.words.items code.new.words.items site.now.places.now site.now.scope.now
+        (Meets context.now)
+        own.counter own.count body.now) }
+{
+    let before = emit_before(alloc, &mut code.words, site, context, own, body)?;
+    match &before.naming {
+        None => {
+            emit_laid_out(alloc, code, site, context, own, body)?;
+            Ok(())
+        }
+        Some(naming) => {
+            let inner = Site {
+                places: site.places,
+                scope: naming.scope.as_slice(),
+            };
+            emit_laid_out(alloc, code, &inner, &naming.context, own, body)?;
+            Ok(())
+        }
+    }
 }
 
 /// Appends a loop, in two parts where last iterations are other ones.
@@ -466,6 +501,7 @@ pub fn emit_statement(
                 LoopMethod::AtOnce => {
                     emit_vectorized(alloc, &mut code.words, site, context, own, body.get())?;
                 }
+                LoopMethod::Once => emit_once(alloc, code, site, context, own, body.get())?,
                 LoopMethod::LaidOut => emit_laid_out(alloc, code, site, context, own, body.get())?,
                 LoopMethod::InOrder => emit_serial(alloc, code, site, context, own, body.get())?,
             }

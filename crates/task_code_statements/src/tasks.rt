@@ -4,9 +4,10 @@ ghost use Rattle.std.specs.Prelude.{◌≡◌, ◌<◌, ◌+◌, ◌^◌, [], If
 ghost use Rattle.task_code_scalar.specs.Words.{Emits};
 ghost use Rattle.task_code_statements.specs.Drawing as spec;
 ghost use Rattle.task_code_statements.specs.Drawing.{Begins, StaysMet};
+ghost use Rattle.task_code_statements.specs.Starts.{AppendsStarted};
 ghost use Rattle.task_code_statements.specs.Tasks.{AppendsTask, restored};
 
-use crate::contexts::{Context, Holding, Manner, in_loop, nothing_known, with_zero};
+use crate::contexts::{Context, Holding, Manner, in_loop, nothing_known, with_number};
 use crate::costs::{guessed_turns, may_hold_more};
 use crate::mentions::mentioned_variables;
 use crate::parting::has_test;
@@ -14,8 +15,13 @@ use crate::room::depth;
 use crate::stages::{Code, CodeStage, add_moved, no_stages};
 use crate::statements::emit_statement;
 use loop_ir::expressions::{Counter, same_counter};
-use loop_ir::statements::Phase;
+use loop_ir::statements::{Phase, Stmt};
+use sqlite_items::Items;
 use std::alloc::{AllocError, Global};
+use task_code_borders::blindness::is_blind_statement;
+use task_code_borders::parting::{Reach, Standing, has_parts, parted};
+use task_code_borders::spans::open_clamps;
+use task_code_borders::variables::{is_border, number_of};
 use task_code_loops::bounds::Bound;
 use task_code_loops::tests::variable;
 use task_code_registers::scopes::{Held, with_held};
@@ -74,8 +80,33 @@ fn is_own(own: Option<Counter>, counter: Counter) -> bool
     }
 }
 
-/// What is known where each of these loop variables, but the task's own, stands at 0.
-fn with_zeros(
+/// What is known where a loop variable, if it isn't the task's own, stands at 0, or at its number if it has one.
+fn with_start(
+    alloc: Global,
+    context: Context,
+    own: Option<Counter>,
+    counter: Counter,
+) -> Result<Context, AllocError>
+    ensures { IfOk result (StaysMet own context) }
+{
+    if is_own(own, counter) {
+        return Ok(context);
+    }
+    if !is_border(counter) {
+        let made = with_number(alloc, context, counter, 0)?;
+        return Ok(made);
+    }
+    match number_of(counter) {
+        None => Ok(context),
+        Some(number) => {
+            let made = with_number(alloc, context, counter, number)?;
+            Ok(made)
+        }
+    }
+}
+
+/// What is known where each of these loop variables, but the task's own, stands where it does before a task.
+fn with_starts(
     alloc: Global,
     context: Context,
     own: Option<Counter>,
@@ -86,12 +117,8 @@ fn with_zeros(
     match others {
         [] => Ok(context),
         [first, rest @ ..] => {
-            if is_own(own, *first) {
-                let made = with_zeros(alloc, context, own, rest)?;
-                return Ok(made);
-            }
-            let next = with_zero(alloc, context, *first)?;
-            let made = with_zeros(alloc, next, own, rest)?;
+            let next = with_start(alloc, context, own, *first)?;
+            let made = with_starts(alloc, next, own, rest)?;
             Ok(made)
         }
     }
@@ -112,6 +139,9 @@ fn beginning(
             context: nothing_known(alloc, manner),
         }),
         Some(counter) => {
+            if is_border(counter) {
+                return Err(CodeFault::TooDeep);
+            }
             let scope = with_drawn(alloc, counter)?;
             let outside = nothing_known(alloc, manner);
             let own = Bound {
@@ -150,11 +180,11 @@ fn emit_words(
     code: &mut Code,
 ) -> Result<(), CodeFault>
     requires { ticket + 4 < 2 ^ 32 }
-    ensures { OnOk result (AppendsTask code.old.words.items code.new.words.items phase.now places.now ticket) }
+    ensures { OnOk result (AppendsStarted code.old.words.items code.new.words.items phase.now places.now ticket) }
 {
     let begun = beginning(alloc, phase.counter, phase.tasks, manner)?;
     let others = mentioned_variables(alloc, &phase.body)?;
-    let context = with_zeros(alloc, begun.context, phase.counter, others.as_slice())?;
+    let context = with_starts(alloc, begun.context, phase.counter, others.as_slice())?;
     let site = Site {
         places,
         scope: begun.scope.as_slice(),
@@ -173,7 +203,7 @@ fn tried_words(
     manner: Manner,
 ) -> Result<Option<Code>, AllocError>
     requires { ticket + 4 < 2 ^ 32 }
-    ensures { IfOk result (λ found. IfSome found (λ made. AppendsTask [] made.words.items phase.now places.now
+    ensures { IfOk result (λ found. IfSome found (λ made. AppendsStarted [] made.words.items phase.now places.now
         ticket)) }
 {
     let mut made = Code {
@@ -219,8 +249,8 @@ fn faster_of(
     one_in: u64,
 ) -> Result<Option<Code>, AllocError>
     requires ticket { ticket + 4 < 2 ^ 32 }
-    requires others { IfSome others (λ made. AppendsTask [] made.words.items phase.now places.now ticket) }
-    ensures { IfOk result (λ found. IfSome found (λ made. AppendsTask [] made.words.items phase.now places.now
+    requires others { IfSome others (λ made. AppendsStarted [] made.words.items phase.now places.now ticket) }
+    ensures { IfOk result (λ found. IfSome found (λ made. AppendsStarted [] made.words.items phase.now places.now
         ticket)) }
 {
     let made = tried_words(alloc, phase, places, ticket, manner)?;
@@ -240,7 +270,7 @@ fn words_by_variables(
     is_parted: bool,
 ) -> Result<Option<Code>, AllocError>
     requires { ticket + 4 < 2 ^ 32 }
-    ensures { IfOk result (λ found. IfSome found (λ made. AppendsTask [] made.words.items phase.now places.now
+    ensures { IfOk result (λ found. IfSome found (λ made. AppendsStarted [] made.words.items phase.now places.now
         ticket)) }
 {
     let outer = Holding::OuterVariables.made(is_parted);
@@ -277,7 +307,7 @@ fn words_of(
     is_parted: bool,
 ) -> Result<Option<Code>, AllocError>
     requires { ticket + 4 < 2 ^ 32 }
-    ensures { IfOk result (λ found. IfSome found (λ made. AppendsTask [] made.words.items phase.now places.now
+    ensures { IfOk result (λ found. IfSome found (λ made. AppendsStarted [] made.words.items phase.now places.now
         ticket)) }
 {
     let pointers = tried_words(
@@ -315,7 +345,7 @@ fn words_up_to(
     most: usize,
 ) -> Result<Option<Code>, AllocError>
     requires { ticket + 4 < 2 ^ 32 }
-    ensures { IfOk result (λ found. IfSome found (λ made. AppendsTask [] made.words.items phase.now places.now
+    ensures { IfOk result (λ found. IfSome found (λ made. AppendsStarted [] made.words.items phase.now places.now
         ticket)) }
 {
     if has_test(&phase.body) {
@@ -325,6 +355,126 @@ fn words_up_to(
         }
     }
     let found = words_of(alloc, phase, places, ticket, false)?;
+    Ok(found)
+}
+
+/// A phase with another body, for the code of its tasks alone.
+fn with_body(alloc: Global, phase: &Phase, body: Stmt) -> Phase
+    ensures { result ≡ record {
+      tasks = phase.now.tasks;
+      counter = phase.now.counter;
+      body = body;
+      private = [];
+      bytes = [];
+    } }
+{
+    Phase {
+        tasks: phase.tasks,
+        counter: phase.counter,
+        body,
+        private: Items::new(alloc),
+        bytes: Items::new(alloc),
+    }
+}
+
+/// The words of one task of a phase, if its statement names no variables but those of stages, of so many if they may
+/// be.
+fn whole_words(
+    alloc: Global,
+    phase: &Phase,
+    places: &Places,
+    ticket: u32,
+    most: usize,
+) -> Result<Option<Code>, AllocError>
+    requires { ticket + 4 < 2 ^ 32 }
+    ensures { IfOk result (λ found. IfSome found (λ made. AppendsTask [] made.words.items phase.now places.now
+        ticket)) }
+{
+    if !is_blind_statement(&phase.body) {
+        return Ok(None);
+    }
+    let found = words_up_to(alloc, phase, places, ticket, most)?;
+    Ok(found)
+}
+
+/// The words of one task of a phase whose loops are in parts where that decides clamps, if there are such parts.
+fn parted_words(
+    alloc: Global,
+    phase: &Phase,
+    places: &Places,
+    ticket: u32,
+    most: usize,
+    reach: Reach,
+) -> Result<Option<Code>, AllocError>
+    requires { ticket + 4 < 2 ^ 32 }
+    ensures { IfOk result (λ found. IfSome found (λ made. AppendsTask [] made.words.items phase.now places.now
+        ticket)) }
+{
+    let standing = Standing {
+        spans: &[],
+        reach,
+        level: 0,
+    };
+    match parted(alloc, standing, &phase.body)? {
+        None => Ok(None),
+        Some(body) => {
+            if !has_parts(&body) {
+                return Ok(None);
+            }
+            let other = with_body(alloc, phase, body);
+            let found = words_up_to(alloc, &other, places, ticket, most)?;
+            Ok(found)
+        }
+    }
+}
+
+/// The first words of one task of a phase whose loops are in parts so far that are guessed to take fewer turns than
+/// those whose loops aren't, and are so many at most, or else those.
+fn first_better(
+    alloc: Global,
+    phase: &Phase,
+    places: &Places,
+    ticket: u32,
+    most: usize,
+    reaches: &[Reach],
+    whole: Option<Code>,
+) -> Result<Option<Code>, AllocError>
+    requires ticket { ticket + 4 < 2 ^ 32 }
+    requires whole { IfSome whole (λ made. AppendsTask [] made.words.items phase.now places.now ticket) }
+    ensures { IfOk result (λ found. IfSome found (λ made. AppendsTask [] made.words.items phase.now places.now
+        ticket)) }
+{
+    match reaches {
+        [] => Ok(whole),
+        [reach, others @ ..] => {
+            let made = parted_words(alloc, phase, places, ticket, most, *reach)?;
+            if is_no_longer(&made, most) && is_faster(alloc, &made, &whole, ANY)? {
+                return Ok(made);
+            }
+            let found = first_better(alloc, phase, places, ticket, most, others, whole)?;
+            Ok(found)
+        }
+    }
+}
+
+/// The words of one task of a phase, where there are some: with loops in parts where clamps are decided by that.
+fn best_words(
+    alloc: Global,
+    phase: &Phase,
+    places: &Places,
+    ticket: u32,
+    most: usize,
+) -> Result<Option<Code>, AllocError>
+    requires { ticket + 4 < 2 ^ 32 }
+    ensures { IfOk result (λ found. IfSome found (λ made. AppendsTask [] made.words.items phase.now places.now
+        ticket)) }
+{
+    let whole = whole_words(alloc, phase, places, ticket, most)?;
+    if open_clamps(alloc, &[], &phase.body)? == 0 {
+        return Ok(whole);
+    }
+    let reaches = [Reach::All, Reach::Inner, Reach::Innermost];
+    let found = first_better(alloc, phase, places, ticket, most, &reaches, whole)?;
     Ok(found)
 }
 
@@ -351,7 +501,7 @@ pub fn emit_task(
     requires { ticket + 4 < 2 ^ 32 }
     ensures { OnOk result (AppendsTask code.old.items code.new.items phase.now places.now ticket) }
 {
-    match words_up_to(alloc, phase, places, ticket, most)? {
+    match best_words(alloc, phase, places, ticket, most)? {
         Some(made) => {
             let found = made.stages.list.as_slice();
             add_moved(stages, found, code.len())?;

@@ -3,6 +3,7 @@
 ghost use Rattle.std.specs.Prelude.{◌≡◌, IfOk, OnOk, true};
 ghost use Rattle.loop_ir.specs.declared.statements.LoopKind.TheVariants.{Vectorized as vectorized};
 ghost use Rattle.loop_ir.specs.declared.statements.Stmt.TheVariants as stmts;
+ghost use Rattle.task_code_names.specs.Alike.{IsAlikeStore};
 ghost use Rattle.task_code_statements.specs.Contexts.{Meets};
 ghost use Rattle.task_code_statements.specs.Statements.{EmitsStatement};
 ghost use Rattle.task_code_statements.specs.Vectorizing.{AreLanes, GuardedLacks, IsRunOf, IsStoreOf, ReplacesIn};
@@ -10,20 +11,22 @@ ghost use Rattle.task_code_statements.specs.Vectorizing.{AreLanes, GuardedLacks,
 use crate::contexts::{Context, in_loop};
 use crate::guards::{Guard, Tests, add_test, emit_behind, guards_lack, tests_of};
 use crate::lacking::{lacks, store_lacks};
+use crate::making::unclamped_store;
 use crate::plain::is_plain_store;
 use crate::replacing::{Standing, store_with};
-use crate::rewriting::store_by_others;
 use crate::splits::{enter_split, split_value};
 use crate::starts::emit_starts;
 use loop_ir::expressions::Counter;
 use loop_ir::statements::{LoopKind, Stmt, Store};
-use std::alloc::Global;
+use sqlite_items::Items;
+use std::alloc::{AllocError, Global};
 use task_code_lane_values::vectorized::VectorLanes;
 use task_code_lanes::groups::LaneGroup;
 use task_code_loops::bounds::Bound;
 use task_code_names::renaming::renamed_store;
 use task_code_registers::scopes::Held;
 use task_code_scalar::CodeFault;
+use task_code_scalar::layouts::Places;
 use task_code_values::sites::Site;
 use task_code_vector_loops::left::Left;
 use task_code_vector_loops::runs::emit_run;
@@ -74,6 +77,27 @@ pub fn is_at_once(kind: LoopKind) -> bool
     }
 }
 
+/// A store of a run by the loop variables that aren't known, without clamps that cut nothing off, and by names.
+pub(crate) fn run_store(
+    alloc: Global,
+    context: &Context,
+    store: &Store,
+) -> Result<Store, AllocError>
+    ensures { IfOk result (IsAlikeStore (Meets context.now) store.now) }
+{
+    // Of bytes nothing is known here.
+    let places = Places {
+        inputs: Items::new(alloc),
+        funcs: Items::new(alloc),
+        frames: None,
+    };
+    let known = context.known.as_slice();
+    let bounds = context.bounds.as_slice();
+    let plain = unclamped_store(alloc, &places, known, bounds, false, store)?;
+    let named = renamed_store(alloc, context.names.as_slice(), plain)?;
+    Ok(named)
+}
+
 /// A store by the loop variables that aren't known and by names, under no test.
 fn stored_alone(alloc: Global, context: &Context, store: &Store) -> Result<GuardedStore, CodeFault>
     ensures { IfOk result (IsStoreOf context.now (stmts.Store store.now)) }
@@ -81,10 +105,9 @@ fn stored_alone(alloc: Global, context: &Context, store: &Store) -> Result<Guard
     if !is_plain_store(store) {
         return Err(CodeFault::TooDeep);
     }
-    let made = store_by_others(alloc, store, context.known.as_slice())?;
-    let store = renamed_store(alloc, context.names.as_slice(), made)?;
+    let made = run_store(alloc, context, store)?;
     Ok(GuardedStore {
-        store,
+        store: made,
         guards: Vec::new(alloc),
     })
 }

@@ -37,6 +37,12 @@ emit_statement-returns-in_ok-emit_laid_out-in-LaidOut t c =
     c.in-For.body c.get-in-LaidOut.result.now _ _ c.in-For.is c.get-in-LaidOut.ensures (c.way_of.ensures.laid_out c.in-LaidOut.is)
     c.in_ok-emit_laid_out-in-LaidOut.ensures
 
+pub emit_statement-returns-in_ok-emit_once-in-Once : goal.emit_statement-returns-in_ok-emit_once-in-Once
+emit_statement-returns-in_ok-emit_once-in-Once t c =
+    for-arm c.args.site.now.places.now c.args.site.now.scope.now (Meets c.args.context.now) c.args.statement.now c.in-For.counter c.in-For.count c.in-For.kind
+    c.in-For.body c.get-in-Once.result.now _ _ c.in-For.is c.get-in-Once.ensures (c.way_of.ensures.once c.in-Once.is)
+    c.in_ok-emit_once-in-Once.ensures
+
 pub emit_statement-returns-in_ok-emit_serial-in-InOrder : goal.emit_statement-returns-in_ok-emit_serial-in-InOrder
 emit_statement-returns-in_ok-emit_serial-in-InOrder t c =
     for-arm c.args.site.now.places.now c.args.site.now.scope.now (Meets c.args.context.now) c.args.statement.now c.in-For.counter c.in-For.count c.in-For.kind
@@ -67,6 +73,21 @@ emit_loop-returns t c =
     (some-given c.args.site.now.places.now c.args.site.now.scope.now c.args.context.now c.in-Some.naming c.in_ok-before.before.naming
     c.args.code.now.words.items c.emit_before.new.code.items c.in-Some.is c.in_ok-before.ensures) c.as_slice.ensures.value
     c.in_ok-emit_iterations-in-Some.ensures
+
+pub emit_once-returns-in-None : goal.emit_once-returns-in-None
+emit_once-returns-in-None t c =
+    loop-alone c.args.site.now.places.now c.args.site.now.scope.now (Meets c.args.context.now) c.args.own.counter c.args.own.count c.args.body.now
+    c.args.code.now.words.items c.emit_before.new.code.items _
+    (none-given c.args.site.now.places.now c.args.site.now.scope.now c.args.context.now c.in_ok-before.before.naming c.args.code.now.words.items
+    c.emit_before.new.code.items c.in-None.is c.in_ok-before.ensures) c.in_ok-emit_laid_out-in-None.ensures
+
+pub emit_once-returns : goal.emit_once-returns
+emit_once-returns t c =
+    loop-behind c.args.site.now.places.now c.args.site.now.scope.now c.as_slice.result.now c.args.context.now c.in-Some.naming c.args.own.counter
+    c.args.own.count c.args.body.now c.args.code.now.words.items c.emit_before.new.code.items _
+    (some-given c.args.site.now.places.now c.args.site.now.scope.now c.args.context.now c.in-Some.naming c.in_ok-before.before.naming
+    c.args.code.now.words.items c.emit_before.new.code.items c.in-Some.is c.in_ok-before.ensures) c.as_slice.ensures.value
+    c.in_ok-emit_laid_out-in-Some.ensures
 
 pub emit_iterations-returns : goal.emit_iterations-returns
 emit_iterations-returns t c = λ kind plain.

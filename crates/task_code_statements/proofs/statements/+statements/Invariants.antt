@@ -24,6 +24,9 @@ decreases-emit_parted l = suc (suc (suc (5 * goal.size-emit_parted l)))
 abbrev pub decreases-emit_laid_out : goal.decreases-emit_laid_out
 decreases-emit_laid_out l = suc (suc (5 * goal.size-emit_laid_out l))
 
+abbrev pub decreases-emit_once : goal.decreases-emit_once
+decreases-emit_once l = suc (suc (suc (5 * goal.size-emit_once l)))
+
 abbrev pub decreases-emit_unless_idle : goal.decreases-emit_unless_idle
 decreases-emit_unless_idle l = suc (5 * goal.size-emit_unless_idle l)
 

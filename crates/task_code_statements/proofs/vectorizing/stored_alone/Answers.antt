@@ -5,7 +5,5 @@ use Rattle.task_code_statements.proofs.vectorizing.stored_alone.Goals as goal
 
 pub returns : goal.returns
 returns c =
-    store-of c.args.context.now c.as_slice.result.now c.as_slice-2.result.now (s.Store c.args.store.now) c.args.store.now c.in_ok-made.made c.in_ok-store.store
-    _
-    (c.is_plain_store.ensures c.if-not-is_plain_store.false) c.as_slice.ensures.value c.as_slice-2.ensures.value refl c.in_ok-made.ensures
-    c.in_ok-store.ensures refl c.new.ensures.items
+    store-of c.args.context.now (s.Store c.args.store.now) c.args.store.now c.in_ok-made.made _ (c.is_plain_store.ensures c.if-not-is_plain_store.false) refl
+    c.in_ok-made.ensures refl c.new.ensures.items
