@@ -8,12 +8,14 @@
 //! after the part's name. The last part of each case is named `answer`, and is what the rules say of the case.
 //!
 //! - [`read_cases`]: the cases of a file's text.
-//! - [`Case::difference`]: an answer beside the one that stands in the file.
+//! - [`judge_file`]: a program's answers beside those that stand in a file.
 #![tactic(auto)]
 
 mod faults;
+mod judging;
 
 pub use crate::faults::CaseFault;
+pub use crate::judging::judge_file;
 use std::alloc::{AllocError, Global};
 
 /// One case: what is asked, its name, and its parts in their order.
@@ -48,21 +50,6 @@ impl Case {
             [asked @ .., answer] => Ok((asked, answer.named("answer")?)),
             [] => Err(CaseFault::Malformed("a case without an answer")),
         }
-    }
-
-    /// The case's heading with both answers, where this is another than the wanted one.
-    pub fn difference(
-        &self,
-        alloc: Global,
-        wanted: &str,
-        found: &str,
-    ) -> Result<Option<String>, AllocError> {
-        if wanted == found {
-            return Ok(None);
-        }
-        let Case { kind, name, .. } = self;
-        let text = format!(in alloc; "== {kind} {name}\n-- wanted\n{wanted}-- found\n{found}")?;
-        Ok(Some(text))
     }
 }
 

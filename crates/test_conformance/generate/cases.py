@@ -1,6 +1,10 @@
-"""Case files: each case with its answer behind it. `stdout` has a line for each file, with the number of its cases."""
+"""Case files: each case with its answer behind it. `stdout` has a line for each file, with the number of its cases.
+
+Files are named by their paths below data/.
+"""
 
 import os
+import sys
 
 FOLDER = os.path.dirname(os.path.dirname(os.path.abspath(__file__)))
 
@@ -49,7 +53,33 @@ def piece(line):
 
 def files():
     """The names of all case files."""
-    return set(os.listdir(os.path.join(FOLDER, "data")))
+    data = os.path.join(FOLDER, "data")
+    return {os.path.relpath(os.path.join(at, name), data) for at, _, names in os.walk(data) for name in names}
+
+
+def faults():
+    """What is wrong with the files: each has its place in `args`; those of generated/, and no others, say that they are made; the cases of a file have
+    names of their own; and those of written/ aren't only numbered."""
+    if sorted(arguments()) != sorted(files()):
+        yield "data and args name other files"
+    for name in sorted(files()):
+        with open(os.path.join(FOLDER, "data", name), encoding="utf-8", newline="\n") as file:
+            comments = [line for line in file.read().split("== ")[0].split("\n") if line.startswith("#")]
+        if name.startswith("generated/") != any("Made by generate/make" in line for line in comments):
+            yield f"{name}: its first lines say otherwise where it comes from"
+        names = [" ".join(case[:2]) for case in read_cases(name)]
+        yield from (f"{name}: two cases are named {twice}" for twice in sorted(set(names)) if names.count(twice) > 1)
+        if name.startswith("written/"):
+            fronts = [case.removesuffix(" 1") for case in names if case.endswith(" 1")]
+            yield from (f"{name}: cases named {front} are only numbered" for front in fronts if f"{front} 2" in names)
+
+
+def check_files(generated):
+    """Ends where something is wrong with the files, or where generated/ has other ones than these."""
+    for fault in faults():
+        sys.exit(fault)
+    if generated != {name for name in files() if name.startswith("generated/")}:
+        sys.exit("data/generated has other files than those that are made")
 
 
 def arguments():
@@ -58,11 +88,15 @@ def arguments():
         return file.read().split()
 
 
-def write_stdout():
-    """Writes what the program prints where all answers are as the files say."""
+def stdout():
+    """What the program prints where all answers are as the files say."""
     lines = []
     for name in arguments():
         count = len(read_cases(name))
         lines.append(f"file {name}: {count} cases" if count else f"file {name}: malformed: a line before the first case")
+    return "".join(line + "\n" for line in [*lines, "0 answers differ"])
+
+
+def write_stdout():
     with open(os.path.join(FOLDER, "stdout"), "w") as file:
-        file.writelines(line + "\n" for line in [*lines, "0 answers differ"])
+        file.write(stdout())

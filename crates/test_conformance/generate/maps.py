@@ -10,7 +10,7 @@ prints it, or the layout:
 
 A range is `low..high`, with a base before it where there is one: `8*by.yo+-1..8` begins at -1 while loop yo of by is 0.
 
-  generate/maps.py READINGS COUNT      takes COUNT of these cases into data/maps.txt, which has a kind `map` then, with their answers
+  generate/maps.py READINGS COUNT      takes COUNT of these cases into data/taken/maps.txt, which has a kind `map` then, with their answers
 """
 
 import random
@@ -98,7 +98,7 @@ if __name__ == "__main__":
     sys.dont_write_bytecode = True
     import cases
 
-    file = cases.File("maps.txt", "Where the data of algorithms under schedules lie.", "Taken by generate/maps.py from another reading of the rules, and so are the answers.")
+    file = cases.File("taken/maps.txt", "Where the data of algorithms under schedules lie.", "Taken by generate/maps.py from another reading of the rules, and so are the answers.")
     for name, algorithm, schedule, says in chosen(sys.argv[1], int(sys.argv[2])):
         file.case("map", f"random {name}", [("algorithm", algorithm), ("schedule", schedule)], lines_of(algorithm, schedule, says))
     file.write()

@@ -1,12 +1,13 @@
 //! `test_conformance`: what the libraries and the engines answer to cases that lie in files.
 //!
 //! The program reads the files that its arguments name (`test_cases`), answers each case, and prints those whose answer
-//! is another than the rules' own, which stands after the case; none of these was copied from this program.
-//! What algorithms under schedules come to stands beside it (`test_trials`). `generate/make` makes the files that say
-//! so in their first line; the others were worked out by hand, or come from another reading of the rules.
+//! is another than the rules' own, which stands after the case, with both; it ends with status 1 where there are any.
+//! None of the answers was copied from this program. What algorithms under schedules come to stands beside it
+//! (`test_trials`).
 //!
-//! To add a case, write it with its answer into a file of `data/`, and count it in `stdout`. To run one file without
-//! proofs: `rt try -- data/talks.txt`.
+//! The cases of `data/written` were worked out by hand; `generate/make` makes those of `data/generated`; those of
+//! `data/taken` are random, with answers from another reading of the rules. To run one file without proofs:
+//! `rt try -- data/written/talks.txt`.
 //!
 //! | Kind | Parts | Answer |
 //! |---|---|---|
@@ -88,69 +89,28 @@ use crate::turns::push_changes;
 use crate::weights::{push_needs, push_weight};
 use hrv_engines::Fault;
 use std::alloc::{AllocError, Global};
-use std::rt::{Env, Files};
+use std::process::ExitCode;
 use std::sync::Wait;
 use std::thread::Threads;
-use std::{env, fs, io};
-use test_cases::{Case, Part, read_cases};
+use std::{env, io};
+use test_cases::{Part, judge_file};
 
-fn main(rt: HostRuntime) -> io::Result<()> {
+fn main(rt: HostRuntime) -> io::Result<ExitCode> {
     let mut differ: u64 = 0;
     for path in env::args(&rt)?.skip(1) {
-        differ = differ.saturating_add(judge_file(&rt, path.as_str())?);
+        let found = judge_file(
+            &rt,
+            path.as_str(),
+            |kind, parts| answer(&rt, rt.alloc(), kind, parts),
+        )?;
+        differ = differ.saturating_add(found);
     }
-    println!(rt; "{differ} answers differ")
-}
-
-/// Answers the cases of a file, prints those whose answer is another than the file says, and says how many these are.
-fn judge_file<R: Files + Print + AllocGlobal + Threads + Wait + Sync>(
-    rt: &R,
-    path: &str,
-) -> io::Result<u64> {
-    let alloc = rt.alloc();
-    let text = fs::read_to_string(rt, path)?;
-    match read_cases(alloc, text.as_str()) {
-        Ok(cases) => {
-            let differ = judge_cases(rt, &cases)?;
-            let count = cases.len();
-            println!(rt; "file {path}: {count} cases")?;
-            Ok(differ)
-        }
-        Err(fault) => {
-            println!(rt; "file {path}: {fault}")?;
-            Ok(0)
-        }
-    }
-}
-
-/// Prints the cases whose answer is another than they say, and says how many these are.
-fn judge_cases<R: Print + AllocGlobal + Threads + Wait + Sync>(
-    rt: &R,
-    cases: &[Case],
-) -> io::Result<u64> {
-    let mut differ: u64 = 0;
-    for case in cases {
-        if let Some(difference) = judge(rt, rt.alloc(), case)? {
-            print!(rt; "{difference}")?;
-            differ = differ.saturating_add(1);
-        }
-    }
-    Ok(differ)
-}
-
-/// A case whose answer is another than it says, with both answers.
-fn judge(
-    rt: &(impl Threads + Wait + Sync),
-    alloc: Global,
-    case: &Case,
-) -> Result<Option<String>, AllocError> {
-    match case.asked() {
-        Ok((parts, wanted)) => {
-            let found = answer(rt, alloc, case.kind.as_str(), parts)?;
-            case.difference(alloc, wanted, found.as_str())
-        }
-        Err(fault) => Ok(Some(format!(in alloc; "{fault}\n")?)),
-    }
+    println!(rt; "{differ} answers differ")?;
+    Ok(if differ == 0 {
+        ExitCode::SUCCESS
+    } else {
+        ExitCode::FAILURE
+    })
 }
 
 /// The answer to a case of a kind, or what stands in its place.

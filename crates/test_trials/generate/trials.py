@@ -1,5 +1,5 @@
-"""Accepted algorithms and schedules of data/boxes.txt as trials: random pictures for them, and answers. The picture comes from the plain model of
-`test_conformance`; the data, the output and the tasks are those of the answer in data/boxes.txt.
+"""Accepted algorithms and schedules of data/taken/boxes.txt as trials: random pictures for them, and answers. The picture comes from the plain model
+of `test_conformance`; the data, the output and the tasks are those of the answer in data/taken/boxes.txt.
 """
 
 import os
@@ -15,7 +15,7 @@ import pipelines
 # The files are those of this program.
 cases.FOLDER = FOLDER
 
-# The cases that vectorize a loop, aren't in random.txt, and take more than a tenth of a second, measured once as LLVM builds the program, with
+# The cases that vectorize a loop, aren't in generated/random.txt, and take more than a tenth of a second, measured once as LLVM builds the program, with
 # checks: they stand in large/vectors.txt, which the gate doesn't read.
 LONG = (
     102, 119, 181, 187, 194, 197, 213, 237, 238, 248, 259, 267, 270, 282, 289, 310, 312, 318, 323, 326, 328, 342, 366, 378, 384, 389, 401, 408,
@@ -80,7 +80,7 @@ def func_names(algorithm):
 
 
 class Accepted:
-    """An accepted algorithm and schedule of data/boxes.txt, with what is said of them there."""
+    """An accepted algorithm and schedule of data/taken/boxes.txt, with what is said of them there."""
 
     def __init__(self, name, algorithm, schedule, says):
         self.name, self.algorithm, self.schedule, self.says = name, algorithm, schedule, says
@@ -105,8 +105,8 @@ class Accepted:
 
 
 def accepted():
-    """The accepted cases of data/boxes.txt."""
-    for _, name, parts, says in cases.read_cases("boxes.txt"):
+    """The accepted cases of data/taken/boxes.txt."""
+    for _, name, parts, says in cases.read_cases("taken/boxes.txt"):
         if says[0].startswith("data "):
             yield Accepted(name, *(text for _, text in parts), says)
 
