@@ -59,8 +59,7 @@ pub(crate) fn made_store(
     ensures { IfOk result (IsMadeStore places.now context.now store.now) }
 {
     let known = context.known.as_slice();
-    let bounds = context.bounds.as_slice();
-    let plain = unclamped_store(alloc, places, known, bounds, true, store)?;
+    let plain = unclamped_store(alloc, places, known, context.bounds.as_slice(), true, store)?;
     let named = renamed_store(alloc, context.names.as_slice(), plain)?;
     Ok(named)
 }
