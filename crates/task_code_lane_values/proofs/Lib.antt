@@ -5,10 +5,12 @@ pub mod Comparing
 pub mod Composing
 pub mod Dividing
 pub mod Gathering
+pub mod Keeping
 pub mod Loading
+pub mod Masks
 pub mod Moving
 pub mod Powers
-pub mod Keeping
+pub mod Operands
 pub mod Signs
 pub mod Sparing
 pub mod Steady

@@ -14,6 +14,7 @@
 //! - [`values`]: appends what leaves an expression's values in a group (`specs/Leaving.antt`).
 #![tactic(auto)]
 
+mod kept;
 mod loads;
 pub mod needs;
 mod operations;

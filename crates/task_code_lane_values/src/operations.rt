@@ -1,6 +1,6 @@
 //! What operations make of lanes, in the group of the first operand.
 
-ghost use Rattle.std.specs.Prelude.{◌≡◌, ◌+◌, ◌-◌, ◌<◌, ◌^◌, [], ◌∷◌, IfSome, OnOk, true};
+ghost use Rattle.std.specs.Prelude.{◌≡◌, ◌+◌, ◌-◌, ◌<◌, ◌^◌, [], ◌∷◌, IfSome, OnOk, false, true};
 ghost use Rattle.rv_insn.specs.declared.instructions.Insn.TheVariants.{Vector};
 ghost use Rattle.rv_insn.specs.declared.vector_instructions.VectorInsn.TheVariants as v;
 ghost use Rattle.rv_insn.specs.declared.vector_operations.ShiftViOp.TheVariants.{Vsra as shift_right};
@@ -10,7 +10,7 @@ ghost use Rattle.task_code_lanes.specs.Groups.{slots};
 ghost use Rattle.task_code_lanes.specs.Lanes.{compared, flagged};
 ghost use Rattle.task_code_lane_values.specs.inner.Parts.{AnyWord, Chooses, IsBy, IsComparedBy};
 ghost use Rattle.task_code_lane_values.specs.inner.Parts.{IsComputedBy, ComputesBy, ComputesOne, ComputesTwo};
-ghost use Rattle.task_code_lane_values.specs.inner.Parts.{operation_rows};
+ghost use Rattle.task_code_lane_values.specs.inner.Parts.{IsVectorComparison, operation_rows};
 
 use halide_pipeline::Operation;
 use rv_insn::{
@@ -54,7 +54,13 @@ fn emit_compared(
 }
 
 /// Appends an operation on the lanes of two groups.
-fn emit_operation(code: &mut Vec<u32>, op: Operation, d: u8, a: u8, b: u8) -> Result<(), AllocError>
+pub(crate) fn emit_operation(
+    code: &mut Vec<u32>,
+    op: Operation,
+    d: u8,
+    a: u8,
+    b: u8,
+) -> Result<(), AllocError>
     requires { (d < 32) × (a < 32) × (b < 32) }
     ensures { OnOk result (Emits code.old.items code.new.items (operation_rows op d a b)) }
 {
@@ -71,6 +77,61 @@ fn emit_operation(code: &mut Vec<u32>, op: Operation, d: u8, a: u8, b: u8) -> Re
         Operation::Equal => emit_compared(code, CompareVvOp::Vmseq, d, a, b)?,
         Operation::NotEqual => emit_compared(code, CompareVvOp::Vmsne, d, a, b)?,
     }
+    Ok(())
+}
+
+/// A comparison of lanes that does an operation, of the second operand and the first where they are swapped.
+#[derive(Clone, Copy)]
+pub(crate) struct VectorComparison {
+    pub instruction: CompareVvOp,
+    pub is_swapped: bool,
+}
+
+fn in_order(instruction: CompareVvOp) -> VectorComparison
+    ensures { result ≡ record { instruction = instruction; is_swapped = false } }
+{
+    VectorComparison {
+        instruction,
+        is_swapped: false,
+    }
+}
+
+fn swapped(instruction: CompareVvOp) -> VectorComparison
+    ensures { result ≡ record { instruction = instruction; is_swapped = true } }
+{
+    VectorComparison {
+        instruction,
+        is_swapped: true,
+    }
+}
+
+/// The comparison of lanes that does an operation.
+pub(crate) fn comparison_of(op: Operation) -> Option<VectorComparison>
+    ensures { IfSome result (IsVectorComparison op) }
+{
+    match op {
+        Operation::Less => Some(in_order(CompareVvOp::Vmslt)),
+        Operation::LessOrEqual => Some(in_order(CompareVvOp::Vmsle)),
+        Operation::Greater => Some(swapped(CompareVvOp::Vmslt)),
+        Operation::GreaterOrEqual => Some(swapped(CompareVvOp::Vmsle)),
+        Operation::Equal => Some(in_order(CompareVvOp::Vmseq)),
+        Operation::NotEqual => Some(in_order(CompareVvOp::Vmsne)),
+        _ => None,
+    }
+}
+
+/// Appends a copy of a group's lanes.
+pub(crate) fn copy_lanes(code: &mut Vec<u32>, d: u8, a: u8) -> Result<(), AllocError>
+    requires { (d < 32) × (a < 32) }
+    ensures { OnOk result (Emits code.old.items code.new.items (Vector (v.MoveVv d a) ∷ [])) }
+{
+    put(
+        code,
+        &Insn::Vector(VectorInsn::MoveVv {
+            vd: VReg::new(d).unwrap(),
+            vs1: VReg::new(a).unwrap(),
+        }),
+    )?;
     Ok(())
 }
 
@@ -131,7 +192,7 @@ fn instruction_swapped(op: Operation) -> Option<ArithmeticVxOp>
 }
 
 /// The comparison that does an operation with a register as the second operand.
-fn comparison_with(op: Operation) -> Option<CompareVxOp>
+pub(crate) fn comparison_with(op: Operation) -> Option<CompareVxOp>
     ensures { IfSome result (IsComparedBy op) }
 {
     match op {
@@ -145,7 +206,12 @@ fn comparison_with(op: Operation) -> Option<CompareVxOp>
 }
 
 /// Appends a comparison of lanes and a register, into the mask.
-fn comparison_by(code: &mut Vec<u32>, op: CompareVxOp, a: u8, s: u8) -> Result<(), AllocError>
+pub(crate) fn comparison_by(
+    code: &mut Vec<u32>,
+    op: CompareVxOp,
+    a: u8,
+    s: u8,
+) -> Result<(), AllocError>
     requires { (a < 32) × (s < 32) }
     ensures { OnOk result (Emits code.old.items code.new.items (Vector (v.CompareVx op 0 a s true) ∷ [])) }
 {

@@ -1,147 +1,35 @@
-//! Values of an expression that loads two pixels more than once: those are loaded first, and stay in groups of their
-//! own.
+//! Values of an expression of which parts stay in groups, once they are made.
 
-ghost use Rattle.std.specs.Prelude.{◌≡◌, ◌<◌, ◌≤◌, IfOk, IfSome, OnOk};
+ghost use Rattle.std.specs.Prelude.{◌<◌, ◌≤◌, [], IfOk, IfSome, OnOk};
 ghost use Rattle.task_code_lanes.specs.Groups.{slots};
 ghost use Rattle.task_code_lane_values.specs.Leaving.{MakesLanes};
-ghost use Rattle.task_code_lane_values.specs.inner.Sharing.{AreParts, IsKeptAt, IsPart, IsTwo, Keeps, MakesOperand};
-ghost use Rattle.task_code_lane_values.specs.inner.Sharing.{MakesShared};
+ghost use Rattle.task_code_lane_values.specs.inner.Sharing.{AreBelow, MakesMask, MakesOperand};
 
-use crate::scalars::{first_moving, known_steady};
+use crate::kept::{Kept, Sharing, common_part, slot_of, with_kept};
+use crate::operations::{
+    comparison_by, comparison_of, comparison_with, copy_lanes, emit_by, emit_masked,
+    emit_operation, emit_quotient, emit_remainder, emit_shifted, emit_swapped, takes_first,
+    takes_second,
+};
+use crate::scalars::{emit_literal, emit_steady, known_steady};
 use crate::values::emit_lanes;
 use crate::vectorized::LaneSite;
-use halide_pipeline::Operation;
 use loop_ir::expressions::Expr;
-use rv_insn::ArithmeticVvOp;
 use std::alloc::Global;
 use task_code_lanes::groups::LaneGroup;
-use task_code_lanes::vectors::arithmetic;
+use task_code_lanes::vectors::{comparison, merge, test_nonzero};
+use task_code_registers::numbers::power_of_two;
 use task_code_scalar::CodeFault;
-use task_code_values::updates::same_index;
 
-/// How many groups the loads that stay take.
-const KEPT: u8 = 2;
+/// How many parts may stay at once: as many as groups suffice for.
+const MOST_KEPT: [usize; 5] = [6, 4, 2, 1, 0];
 
-/// What values are made of: the values of two loads stay in the first two groups of the stack.
-#[derive(Clone, Copy)]
-pub(crate) struct Sharing<'a> {
-    pub site: LaneSite<'a>,
-    pub first: &'a Expr,
-    pub second: &'a Expr,
-}
-
-// ---- what is shared
-
-/// The instruction that does an operation on two groups, where there is one.
-fn instruction_of(op: Operation) -> Option<ArithmeticVvOp>
-    ensures { IfSome result (IsTwo op) }
-{
-    match op {
-        Operation::Add => Some(ArithmeticVvOp::Vadd),
-        Operation::Subtract => Some(ArithmeticVvOp::Vsub),
-        Operation::Minimum => Some(ArithmeticVvOp::Vmin),
-        Operation::Maximum => Some(ArithmeticVvOp::Vmax),
-        _ => None,
-    }
-}
-
-/// How often such operations have a load as an operand.
-fn times(e: &Expr, own: &Expr) -> u32 {
-    match e {
-        Expr::Binary(op, a, b) => {
-            if instruction_of(*op).is_some() {
-                times(a.get(), own).saturating_add(times(b.get(), own))
-            } else {
-                0
-            }
-        }
-        Expr::Load(_, _, _) => u32::from(same_index(e, own)),
-        _ => 0,
-    }
-}
-
-/// The first load of an expression, from the left.
-fn first_load(e: &Expr) -> Option<&Expr>
-    ensures { IfSome result (λ own. IsPart e.now own.now) }
-{
-    match e {
-        Expr::Binary(_, a, b) => match first_load(a.get()) {
-            Some(own) => Some(own),
-            None => first_load(b.get()),
-        },
-        Expr::Load(_, _, _) => Some(e),
-        _ => None,
-    }
-}
-
-/// The first load that is another one.
-fn other_load<'a>(e: &'a Expr, first: &Expr) -> Option<&'a Expr>
-    ensures { IfSome result (λ own. IsPart e.now own.now) }
-{
-    match e {
-        Expr::Binary(_, a, b) => match other_load(a.get(), first) {
-            Some(own) => Some(own),
-            None => other_load(b.get(), first),
-        },
-        Expr::Load(_, _, _) => { if same_index(e, first) { None } else { Some(e) } }
-        _ => None,
-    }
-}
-
-/// How many groups an expression's values take, at most.
-fn groups_of(e: &Expr) -> u8 {
-    match e {
-        Expr::Number(_) => 1,
-        Expr::Linear(_) => 1,
-        Expr::Binary(_, a, b) => behind(groups_of(a.get()), groups_of(b.get()), 1),
-        Expr::Divide(a, _) => groups_of(a.get()),
-        Expr::Remainder(a, _) => groups_of(a.get()),
-        Expr::Select(c, a, b) => {
-            let two = behind(groups_of(c.get()), groups_of(a.get()), 1);
-            behind(two, groups_of(b.get()), 2)
-        }
-        Expr::Load(_, x, y) => behind(groups_of(x.get()), groups_of(y.get()), 1),
-    }
-}
-
-/// As many as the first value takes, or as the second one does after some others.
-fn behind(first: u8, second: u8, others: u8) -> u8 {
-    let second = second.saturating_add(others);
-    if first < second { second } else { first }
-}
-
-/// The first two loads of an expression, where it has each of them more than once and groups suffice.
-fn shared<'a>(site: &LaneSite<'a>, e: &'a Expr) -> Option<Sharing<'a>>
-    ensures { IfSome result (AreParts site.now e.now) }
-{
-    let first = first_load(e)?;
-    let second = other_load(e, first)?;
-    if times(e, first) < 2 || times(e, second) < 2 {
-        return None;
-    }
-    if groups_of(e).saturating_add(KEPT) > site.lanes.group.slots() {
-        return None;
-    }
-    Some(Sharing {
-        site: *site,
-        first,
-        second,
-    })
-}
-
-// ---- code
-
-/// The group in which a load's values stay, if it is one of the two.
-fn slot_of(own: &Sharing, e: &Expr) -> Option<u8>
-    ensures { IfSome result (IsKeptAt own.now e.now) }
-{
-    if same_index(e, own.first) {
-        return Some(0);
-    }
-    if same_index(e, own.second) {
-        return Some(1);
-    }
-    None
+/// In which group values are left, and from which one on groups are free. The group may be one in which a part stays,
+/// up to the last instruction.
+#[derive(Clone, Copy, Debug)]
+struct Room {
+    target: u8,
+    free: u8,
 }
 
 /// The group after that of an operand, where that isn't the first free one itself.
@@ -158,86 +46,410 @@ fn free_behind(group: LaneGroup, s: u8, k: u8) -> Result<u8, CodeFault>
     Err(CodeFault::TooDeep)
 }
 
-/// Appends what leaves the values of the two loads in the first two groups.
-fn emit_kept(alloc: Global, code: &mut Vec<u32>, own: &Sharing) -> Result<(), CodeFault>
-    ensures { OnOk result (Keeps code.old.items code.new.items own.now) }
-{
-    if own.site.lanes.group.slots() <= KEPT {
-        return Err(CodeFault::TooDeep);
-    }
-    emit_lanes(alloc, code, &own.site, own.first, 0)?;
-    emit_lanes(alloc, code, &own.site, own.second, 1)?;
-    Ok(())
-}
+// ---- operands
 
-/// Appends what leaves an expression's values in group k, unless they stay in one of the first two; which group it is.
-/// Of so many, the expression itself, its first operand and so on, it is known that iterations differ.
+/// Appends what leaves an expression's values in group k, unless they stay in a lower one; which group it is.
+#[cycle(sharing)]
 fn emit_operand(
     alloc: Global,
     code: &mut Vec<u32>,
-    own: &Sharing,
+    own: &Sharing<'_>,
     e: &Expr,
     k: u8,
-    known: u32,
 ) -> Result<u8, CodeFault>
-    requires { (2 ≤ k) × (k < slots own.now.site.lanes.group) }
-    ensures { IfOk result (λ s. MakesOperand code.old.items code.new.items own.now k s e.now) }
+    requires { AreBelow own.now.kept.now k × (k < slots own.now.site.lanes.group) }
+    ensures { IfOk result (λ s. MakesOperand code.old.items code.new.items own.now.site own.now.kept.now k s e.now) }
 {
-    if let Some(slot) = slot_of(own, e) {
+    if let Some(slot) = slot_of(own.kept, e) {
         return Ok(slot);
     }
+    if known_steady(e, own.site.lanes.counter, 0) {
+        emit_lanes(alloc, code, &own.site, e, k)?;
+        return Ok(k);
+    }
+    let room = Room { target: k, free: k };
     match e {
-        Expr::Binary(operation, a, b) => {
-            let counter = own.site.lanes.counter;
-            let moving = first_moving(e, counter, known);
-            if known_steady(a.get(), counter, moving) || known_steady(b.get(), counter, 0) {
-                emit_lanes(alloc, code, &own.site, e, k)?;
-                return Ok(k);
+        Expr::Binary(_, _, _) => emit_combined(alloc, code, own, e, room)?,
+        Expr::Select(_, _, _) => emit_combined(alloc, code, own, e, room)?,
+        Expr::Divide(_, _) => emit_quotients(alloc, code, own, e, k)?,
+        Expr::Remainder(_, _) => emit_remainders(alloc, code, own, e, k)?,
+        _ => emit_lanes(alloc, code, &own.site, e, k)?,
+    }
+    Ok(k)
+}
+
+/// Appends what leaves an expression's values in group k.
+#[cycle(sharing)]
+fn emit_into(
+    alloc: Global,
+    code: &mut Vec<u32>,
+    own: &Sharing<'_>,
+    e: &Expr,
+    k: u8,
+) -> Result<(), CodeFault>
+    requires { AreBelow own.now.kept.now k × (k < slots own.now.site.lanes.group) }
+    ensures { OnOk result (MakesOperand code.old.items code.new.items own.now.site own.now.kept.now k k e.now) }
+{
+    let s = emit_operand(alloc, code, own, e, k)?;
+    if s == k {
+        return Ok(());
+    }
+    let group = own.site.lanes.group;
+    copy_lanes(code, group.slot(k), group.slot(s))?;
+    Ok(())
+}
+
+/// Appends quotients' values.
+#[cycle(sharing)]
+fn emit_quotients(
+    alloc: Global,
+    code: &mut Vec<u32>,
+    own: &Sharing<'_>,
+    e: &Expr,
+    k: u8,
+) -> Result<(), CodeFault>
+    requires { AreBelow own.now.kept.now k × (k < slots own.now.site.lanes.group) }
+    ensures { OnOk result (MakesOperand code.old.items code.new.items own.now.site own.now.kept.now k k e.now) }
+{
+    let Expr::Divide(a, divisor) = e else {
+        return Err(CodeFault::TooDeep);
+    };
+    if *divisor == 0 {
+        return Err(CodeFault::TooDeep);
+    }
+    let lanes = own.site.lanes;
+    emit_into(alloc, code, own, a.get(), k)?;
+    if let Some(bits) = power_of_two(*divisor) {
+        emit_shifted(code, lanes.group, *divisor, bits, k)?;
+        return Ok(());
+    }
+    let s = emit_literal(alloc, code, own.site.scope, lanes, *divisor)?;
+    emit_quotient(code, lanes.group, *divisor, k, s)?;
+    Ok(())
+}
+
+/// Appends remainders' values.
+#[cycle(sharing)]
+fn emit_remainders(
+    alloc: Global,
+    code: &mut Vec<u32>,
+    own: &Sharing<'_>,
+    e: &Expr,
+    k: u8,
+) -> Result<(), CodeFault>
+    requires { AreBelow own.now.kept.now k × (k < slots own.now.site.lanes.group) }
+    ensures { OnOk result (MakesOperand code.old.items code.new.items own.now.site own.now.kept.now k k e.now) }
+{
+    let Expr::Remainder(a, divisor) = e else {
+        return Err(CodeFault::TooDeep);
+    };
+    if *divisor == 0 {
+        return Err(CodeFault::TooDeep);
+    }
+    let lanes = own.site.lanes;
+    emit_into(alloc, code, own, a.get(), k)?;
+    if let Some(bits) = power_of_two(*divisor) {
+        let s = emit_literal(alloc, code, own.site.scope, lanes, *divisor - 1)?;
+        emit_masked(code, lanes.group, *divisor, bits, k, s)?;
+        return Ok(());
+    }
+    let s = emit_literal(alloc, code, own.site.scope, lanes, *divisor)?;
+    emit_remainder(code, lanes.group, *divisor, k, s)?;
+    Ok(())
+}
+
+// ---- operations and choices
+
+/// Appends an operation's or a choice's values, with parts that several operands have made first.
+#[cycle(sharing)]
+fn emit_combined(
+    alloc: Global,
+    code: &mut Vec<u32>,
+    own: &Sharing<'_>,
+    e: &Expr,
+    room: Room,
+) -> Result<(), CodeFault>
+    requires { AreBelow own.now.kept.now room.free × (room.target ≤ room.free)
+        × (room.free < slots own.now.site.lanes.group) }
+    ensures { OnOk result (MakesOperand code.old.items code.new.items own.now.site own.now.kept.now room.target
+        room.target e.now) }
+{
+    match common_part(own, e) {
+        None => {
+            match e {
+                Expr::Select(_, _, _) => emit_choice_of(alloc, code, own, e, room)?,
+                _ => emit_operation_of(alloc, code, own, e, room)?,
             }
-            match instruction_of(*operation) {
-                None => {
-                    emit_lanes(alloc, code, &own.site, e, k)?;
-                    Ok(k)
-                }
-                Some(op) => {
-                    let group = own.site.lanes.group;
-                    let s = emit_operand(alloc, code, own, a.get(), k, moving)?;
-                    let next = free_behind(group, s, k)?;
-                    let t = emit_operand(alloc, code, own, b.get(), next, 0)?;
-                    arithmetic(code, op, group.slot(k), group.slot(s), group.slot(t))?;
-                    Ok(k)
-                }
+            Ok(())
+        }
+        Some(part) => {
+            let k = room.free;
+            if k + 1 >= own.site.lanes.group.slots() {
+                return Err(CodeFault::TooDeep);
             }
+            emit_into(alloc, code, own, part, k)?;
+            let kept = with_kept(alloc, own.kept, Kept { e: part, slot: k })?;
+            let inner = Sharing {
+                site: own.site,
+                kept: kept.as_slice(),
+                most: own.most,
+            };
+            let left = Room {
+                target: room.target,
+                free: k + 1,
+            };
+            emit_combined(alloc, code, &inner, e, left)?;
+            Ok(())
+        }
+    }
+}
+
+/// Appends an operation's values. One operand may be the same in all iterations, in a register alone.
+#[cycle(sharing)]
+fn emit_operation_of(
+    alloc: Global,
+    code: &mut Vec<u32>,
+    own: &Sharing<'_>,
+    e: &Expr,
+    room: Room,
+) -> Result<(), CodeFault>
+    requires { AreBelow own.now.kept.now room.free × (room.target ≤ room.free)
+        × (room.free < slots own.now.site.lanes.group) }
+    ensures { OnOk result (MakesOperand code.old.items code.new.items own.now.site own.now.kept.now room.target
+        room.target e.now) }
+{
+    let Expr::Binary(operation, a, b) = e else {
+        return Err(CodeFault::TooDeep);
+    };
+    let lanes = own.site.lanes;
+    let k = room.free;
+    let first = a.get();
+    let second = b.get();
+    if takes_second(*operation) && known_steady(second, lanes.counter, 0) && room.target == k {
+        emit_into(alloc, code, own, first, k)?;
+        let c = emit_steady(alloc, code, &own.site, second)?;
+        emit_by(code, lanes.group, *operation, k, c)?;
+        return Ok(());
+    }
+    if takes_first(*operation) && known_steady(first, lanes.counter, 0) && room.target == k {
+        emit_into(alloc, code, own, second, k)?;
+        let c = emit_steady(alloc, code, &own.site, first)?;
+        emit_swapped(code, lanes.group, *operation, k, c)?;
+        return Ok(());
+    }
+    let s = emit_operand(alloc, code, own, first, k)?;
+    let next = free_behind(lanes.group, s, k)?;
+    let t = emit_operand(alloc, code, own, second, next)?;
+    let target = lanes.group.slot(room.target);
+    emit_operation(
+        code,
+        *operation,
+        target,
+        lanes.group.slot(s),
+        lanes.group.slot(t),
+    )?;
+    Ok(())
+}
+
+/// Appends choices' values: those between which a condition chooses, and then the condition, in the mask.
+#[cycle(sharing)]
+fn emit_choice_of(
+    alloc: Global,
+    code: &mut Vec<u32>,
+    own: &Sharing<'_>,
+    e: &Expr,
+    room: Room,
+) -> Result<(), CodeFault>
+    requires { AreBelow own.now.kept.now room.free × (room.target ≤ room.free)
+        × (room.free < slots own.now.site.lanes.group) }
+    ensures { OnOk result (MakesOperand code.old.items code.new.items own.now.site own.now.kept.now room.target
+        room.target e.now) }
+{
+    let Expr::Select(condition, a, b) = e else {
+        return Err(CodeFault::TooDeep);
+    };
+    let group = own.site.lanes.group;
+    let first = a.get();
+    let second = b.get();
+    let test = condition.get();
+    let s = emit_operand(alloc, code, own, first, room.free)?;
+    let next = free_behind(group, s, room.free)?;
+    let t = emit_operand(alloc, code, own, second, next)?;
+    let last = free_behind(group, t, next)?;
+    emit_mask(alloc, code, own, test, last)?;
+    let target = group.slot(room.target);
+    merge(code, target, group.slot(t), group.slot(s))?;
+    Ok(())
+}
+
+// ---- conditions
+
+/// Appends what leaves in the mask where a condition isn't 0.
+#[cycle(sharing)]
+fn emit_mask(
+    alloc: Global,
+    code: &mut Vec<u32>,
+    own: &Sharing<'_>,
+    e: &Expr,
+    k: u8,
+) -> Result<(), CodeFault>
+    requires { AreBelow own.now.kept.now k × (k < slots own.now.site.lanes.group) }
+    ensures { OnOk result (MakesMask code.old.items code.new.items own.now.site own.now.kept.now k e.now) }
+{
+    if slot_of(own.kept, e).is_some() {
+        emit_nonzero(alloc, code, own, e, k)?;
+        return Ok(());
+    }
+    match e {
+        Expr::Binary(operation, _, b) => {
+            if comparison_with(*operation).is_some()
+                && known_steady(b.get(), own.site.lanes.counter, 0)
+            {
+                emit_compared_with(alloc, code, own, e, k)?;
+                return Ok(());
+            }
+            if comparison_of(*operation).is_some() {
+                emit_compared(alloc, code, own, e, k)?;
+                return Ok(());
+            }
+            emit_nonzero(alloc, code, own, e, k)?;
+            Ok(())
         }
         _ => {
-            emit_lanes(alloc, code, &own.site, e, k)?;
-            Ok(k)
+            emit_nonzero(alloc, code, own, e, k)?;
+            Ok(())
         }
     }
 }
 
-/// Appends what leaves an expression's values in the first group, in which the first load stays until then.
-fn emit_shared(alloc: Global, code: &mut Vec<u32>, own: &Sharing, e: &Expr) -> Result<(), CodeFault>
-    ensures { OnOk result (MakesShared code.old.items code.new.items own.now e.now) }
+/// The same, of any expression.
+#[cycle(sharing)]
+fn emit_nonzero(
+    alloc: Global,
+    code: &mut Vec<u32>,
+    own: &Sharing<'_>,
+    e: &Expr,
+    k: u8,
+) -> Result<(), CodeFault>
+    requires { AreBelow own.now.kept.now k × (k < slots own.now.site.lanes.group) }
+    ensures { OnOk result (MakesMask code.old.items code.new.items own.now.site own.now.kept.now k e.now) }
 {
-    match e {
-        Expr::Binary(operation, a, b) => match instruction_of(*operation) {
-            None => Err(CodeFault::TooDeep),
-            Some(op) => {
-                let group = own.site.lanes.group;
-                let s = emit_operand(alloc, code, own, a.get(), KEPT, 0)?;
-                let next = free_behind(group, s, KEPT)?;
-                let t = emit_operand(alloc, code, own, b.get(), next, 0)?;
-                arithmetic(code, op, group.slot(0), group.slot(s), group.slot(t))?;
-                Ok(())
-            }
-        },
-        _ => Err(CodeFault::TooDeep),
+    let s = emit_operand(alloc, code, own, e, k)?;
+    test_nonzero(code, own.site.lanes.group.slot(s))?;
+    Ok(())
+}
+
+/// Of a comparison with what all iterations have in common.
+#[cycle(sharing)]
+fn emit_compared_with(
+    alloc: Global,
+    code: &mut Vec<u32>,
+    own: &Sharing<'_>,
+    e: &Expr,
+    k: u8,
+) -> Result<(), CodeFault>
+    requires { AreBelow own.now.kept.now k × (k < slots own.now.site.lanes.group) }
+    ensures { OnOk result (MakesMask code.old.items code.new.items own.now.site own.now.kept.now k e.now) }
+{
+    let Expr::Binary(operation, a, b) = e else {
+        return Err(CodeFault::TooDeep);
+    };
+    let Some(by) = comparison_with(*operation) else {
+        return Err(CodeFault::TooDeep);
+    };
+    let second = b.get();
+    if !known_steady(second, own.site.lanes.counter, 0) {
+        return Err(CodeFault::TooDeep);
+    }
+    let first = a.get();
+    let s = emit_operand(alloc, code, own, first, k)?;
+    let r = emit_steady(alloc, code, &own.site, second)?;
+    comparison_by(code, by, own.site.lanes.group.slot(s), r)?;
+    Ok(())
+}
+
+/// Of a comparison of lanes.
+#[cycle(sharing)]
+fn emit_compared(
+    alloc: Global,
+    code: &mut Vec<u32>,
+    own: &Sharing<'_>,
+    e: &Expr,
+    k: u8,
+) -> Result<(), CodeFault>
+    requires { AreBelow own.now.kept.now k × (k < slots own.now.site.lanes.group) }
+    ensures { OnOk result (MakesMask code.old.items code.new.items own.now.site own.now.kept.now k e.now) }
+{
+    let Expr::Binary(operation, a, b) = e else {
+        return Err(CodeFault::TooDeep);
+    };
+    let Some(by) = comparison_of(*operation) else {
+        return Err(CodeFault::TooDeep);
+    };
+    let group = own.site.lanes.group;
+    let first = a.get();
+    let second = b.get();
+    let s = emit_operand(alloc, code, own, first, k)?;
+    let next = free_behind(group, s, k)?;
+    let t = emit_operand(alloc, code, own, second, next)?;
+    let one = group.slot(s);
+    let other = group.slot(t);
+    if by.is_swapped {
+        comparison(code, by.instruction, other, one)?;
+        return Ok(());
+    }
+    comparison(code, by.instruction, one, other)?;
+    Ok(())
+}
+
+// ---- whole expressions
+
+/// The words that leave an expression's values in the first group, where groups suffice for so many parts that stay.
+fn words_keeping(
+    alloc: Global,
+    site: &LaneSite<'_>,
+    e: &Expr,
+    most: usize,
+) -> Result<Option<Vec<u32>>, CodeFault>
+    ensures { IfOk result (λ found. IfSome found (λ made. MakesOperand [] made.items site.now [] 0 0 e.now)) }
+{
+    let own = Sharing {
+        site: *site,
+        kept: &[],
+        most,
+    };
+    let mut made = Vec::new(alloc);
+    match emit_into(alloc, &mut made, &own, e, 0) {
+        Ok(()) => Ok(Some(made)),
+        Err(CodeFault::OutOfMemory(error)) => Err(CodeFault::OutOfMemory(error)),
+        Err(CodeFault::TooLong) => Ok(None),
+        Err(CodeFault::TooDeep) => Ok(None),
     }
 }
 
-/// Appends what leaves an expression's values in the first group. What it loads more than once stays in groups while
-/// there are enough.
+/// The words of the first of these ways for which groups suffice, if there is one.
+fn first_words(
+    alloc: Global,
+    site: &LaneSite<'_>,
+    e: &Expr,
+    ways: &[usize],
+) -> Result<Option<Vec<u32>>, CodeFault>
+    ensures { IfOk result (λ found. IfSome found (λ made. MakesOperand [] made.items site.now [] 0 0 e.now)) }
+{
+    match ways {
+        [] => Ok(None),
+        [most, others @ ..] => match words_keeping(alloc, site, e, *most)? {
+            Some(made) => Ok(Some(made)),
+            None => {
+                let found = first_words(alloc, site, e, others)?;
+                Ok(found)
+            }
+        },
+    }
+}
+
+/// Appends what leaves an expression's values in the first group. Parts that several of its operands have stay in
+/// groups while there are enough.
 ///
 /// # Errors
 ///
@@ -251,14 +463,13 @@ pub fn emit_values(
     ensures { OnOk result (MakesLanes code.old.items code.new.items site.now.places.now site.now.scope.now
         site.now.lanes 0 e.now) }
 {
-    match shared(site, e) {
+    match first_words(alloc, site, e, &MOST_KEPT)? {
         None => {
             emit_lanes(alloc, code, site, e, 0)?;
             Ok(())
         }
-        Some(sharing) => {
-            emit_kept(alloc, code, &sharing)?;
-            emit_shared(alloc, code, &sharing, e)?;
+        Some(made) => {
+            code.extend_from_slice(made.as_slice())?;
             Ok(())
         }
     }

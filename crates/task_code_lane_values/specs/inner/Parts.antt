@@ -10,7 +10,7 @@ use Rattle.rv_insn.specs.declared.vector_operations.MultiplyOp.TheVariants as mu
 use Rattle.rv_insn.specs.declared.vector_operations.ArithmeticVxOp.{ArithmeticVxOp}
 use Rattle.rv_insn.specs.declared.vector_operations.CompareVxOp.{CompareVxOp}
 use Rattle.hart_core.specs.Scalar.{one_if}
-use Rattle.vector_unit.specs.Operations.{arithmetic_vx, compare_vx}
+use Rattle.vector_unit.specs.Operations.{arithmetic_vx, compare_vv, compare_vx}
 use Rattle.halide_pipeline.specs.declared.expressions.Operation.{Operation}
 use Rattle.halide_pipeline.specs.declared.expressions.Operation.TheVariants as operations
 use Rattle.halide_pipeline.specs.declared.expressions.Source.{Source}
@@ -38,6 +38,7 @@ use Rattle.task_code_lanes.specs.declared.groups.LaneGroup.{LaneGroup}
 use Rattle.task_code_lanes.specs.Groups.{registers, slot}
 use Rattle.task_code_lanes.specs.Lanes.{compared}
 use Rattle.task_code_lanes.specs.Leaving.{HasLanes}
+use Rattle.task_code_lane_values.specs.declared.operations.VectorComparison.{VectorComparison}
 use Rattle.task_code_lane_values.specs.declared.vectorized.VectorLanes.{VectorLanes}
 use Rattle.task_code_lane_values.specs.Leaving.{LeavesLanes}
 
@@ -207,3 +208,9 @@ operation_rows operations.Greater d a b = compared compares.Vmslt d b a
 operation_rows operations.GreaterOrEqual d a b = compared compares.Vmsle d b a
 operation_rows operations.Equal d a b = compared compares.Vmseq d a b
 operation_rows operations.NotEqual d a b = compared compares.Vmsne d a b
+
+-- a comparison of lanes does an operation, of the second operand and the first where they are swapped
+abbrev pub IsVectorComparison : Operation → VectorComparison → Type 0
+IsVectorComparison op own =
+    (x y : ℕ) → x < 2 ^ 32 → y < 2 ^ 32
+    → one_if (if own.is_swapped then compare_vv own.instruction 32 y x else compare_vv own.instruction 32 x y) ≡ word.applied op x y
