@@ -5,7 +5,7 @@ use crate::bounds::{Bound, is_below};
 use crate::known::KnownSum;
 use crate::sums::combined;
 use crate::tests::number;
-use crate::uses::{Use, count, count_by_others, count_inside, most_used_first};
+use crate::uses::{Use, count, count_by_others, count_inside, form_by_others, most_used_first};
 use halide_pipeline::{Operation, Source, words};
 use loop_ir::expressions::{Counter, Expr, Linear, Term, same_counter};
 use loop_ir::statements::{LoopKind, Stmt, Store, Whole};
@@ -114,10 +114,17 @@ fn count_divisor(alloc: Global, divisor: u32, found: &mut Vec<Use>) -> Result<()
     Ok(())
 }
 
-/// Whether an instruction holds the number that is the second operand.
-fn is_immediate(operation: Operation, e: &Expr) -> bool {
-    match e {
-        Expr::Number(n) => match operation {
+/// What a value is made for: one point, or all lanes of a group at once.
+#[derive(Clone, Copy, Debug)]
+enum Width {
+    Scalar,
+    Lanes,
+}
+
+/// Whether an instruction holds the number that is the second operand: of those that are made for lanes none does.
+fn is_immediate(width: Width, operation: Operation, e: &Expr) -> bool {
+    match (width, e) {
+        (Width::Scalar, Expr::Number(n)) => match operation {
             Operation::Add => fits(*n),
             Operation::Subtract => fits(words::subtract(0, *n)),
             Operation::Multiply => n.count_ones() == 1,
@@ -146,10 +153,11 @@ fn count_value(alloc: Global, own: Linear, found: &mut Vec<Use>) -> Result<(), A
 fn gather_expr(
     alloc: Global,
     places: &Places,
+    width: Width,
     e: &Expr,
     found: &mut Vec<Use>,
 ) -> Result<(), AllocError> {
-    match gather_parts(alloc, places, e, found)? {
+    match gather_parts(alloc, places, width, e, found)? {
         Some(own) => count_value(alloc, own, found)?,
         None => {}
     }
@@ -162,6 +170,7 @@ fn gather_expr(
 fn gather_parts(
     alloc: Global,
     places: &Places,
+    width: Width,
     e: &Expr,
     found: &mut Vec<Use>,
 ) -> Result<Option<Linear>, AllocError> {
@@ -172,29 +181,29 @@ fn gather_parts(
             Ok(Some(sum))
         }
         Expr::Binary(operation, a, b) => {
-            match gather_parts(alloc, places, a.get(), found)? {
-                Some(x) => gather_both(alloc, places, e, x, found),
+            match gather_parts(alloc, places, width, a.get(), found)? {
+                Some(x) => gather_both(alloc, places, width, e, x, found),
                 None => {
-                    if !is_immediate(*operation, b.get()) {
-                        gather_expr(alloc, places, b.get(), found)?;
+                    if !is_immediate(width, *operation, b.get()) {
+                        gather_expr(alloc, places, width, b.get(), found)?;
                     }
                     Ok(None)
                 }
             }
         }
         Expr::Divide(a, divisor) | Expr::Remainder(a, divisor) => {
-            gather_expr(alloc, places, a.get(), found)?;
+            gather_expr(alloc, places, width, a.get(), found)?;
             count_divisor(alloc, *divisor, found)?;
             Ok(None)
         }
         Expr::Select(c, a, b) => {
-            gather_expr(alloc, places, c.get(), found)?;
-            gather_expr(alloc, places, a.get(), found)?;
-            gather_expr(alloc, places, b.get(), found)?;
+            gather_expr(alloc, places, width, c.get(), found)?;
+            gather_expr(alloc, places, width, a.get(), found)?;
+            gather_expr(alloc, places, width, b.get(), found)?;
             Ok(None)
         }
         Expr::Load(_, _, _) => {
-            gather_load(alloc, places, e, found)?;
+            gather_load(alloc, places, width, e, found)?;
             Ok(None)
         }
     }
@@ -205,6 +214,7 @@ fn gather_parts(
 fn gather_load(
     alloc: Global,
     places: &Places,
+    width: Width,
     e: &Expr,
     found: &mut Vec<Use>,
 ) -> Result<(), AllocError> {
@@ -214,10 +224,10 @@ fn gather_load(
     let column = SumIndex::of(alloc, x.get())?;
     let row = SumIndex::of(alloc, y.get())?;
     if !column.is_sum() {
-        gather_expr(alloc, places, x.get(), found)?;
+        gather_expr(alloc, places, width, x.get(), found)?;
     }
     if !row.is_sum() {
-        gather_expr(alloc, places, y.get(), found)?;
+        gather_expr(alloc, places, width, y.get(), found)?;
     }
     count_point(alloc, places, *source, &column, &row, found)?;
     Ok(())
@@ -228,6 +238,7 @@ fn gather_load(
 fn gather_both(
     alloc: Global,
     places: &Places,
+    width: Width,
     e: &Expr,
     x: Linear,
     found: &mut Vec<Use>,
@@ -241,7 +252,7 @@ fn gather_both(
             let sum = combined(alloc, *operation, x.copy(alloc)?, &y)?;
             if sum.is_none() {
                 count_value(alloc, x, found)?;
-                if !is_immediate(*operation, b.get()) {
+                if !is_immediate(width, *operation, b.get()) {
                     count_value(alloc, y, found)?;
                 }
             }
@@ -249,7 +260,7 @@ fn gather_both(
         }
         None => {
             count_value(alloc, x, found)?;
-            gather_expr(alloc, places, b.get(), found)?;
+            gather_expr(alloc, places, width, b.get(), found)?;
             Ok(None)
         }
     }
@@ -258,10 +269,11 @@ fn gather_both(
 fn gather_store(
     alloc: Global,
     places: &Places,
+    width: Width,
     store: &Store,
     found: &mut Vec<Use>,
 ) -> Result<(), AllocError> {
-    gather_expr(alloc, places, &store.value, found)?;
+    gather_expr(alloc, places, width, &store.value, found)?;
     let source = Source::Func(store.func);
     let column = SumIndex::of(alloc, &store.x)?;
     let row = SumIndex::of(alloc, &store.y)?;
@@ -306,35 +318,68 @@ fn stride_along(sum: &Linear, lanes: Option<LaneStep>) -> u32 {
     }
 }
 
+/// What is known where a statement stands: the numbers below which loop variables stay, those that stand at sums of
+/// others, and the variable that its lanes go along.
+#[derive(Clone, Copy)]
+struct Around<'a> {
+    bounds: &'a [Bound],
+    known: &'a [KnownSum],
+    lanes: Option<LaneStep>,
+}
+
+impl<'a> Around<'a> {
+    /// The width of what is made there.
+    fn width(&self) -> Width {
+        match self.lanes {
+            Some(_) => Width::Lanes,
+            None => Width::Scalar,
+        }
+    }
+
+    /// Whether a split loop's value is known to stay below an extent, by the values of split loops around it too.
+    fn is_below(
+        &self,
+        alloc: Global,
+        split: &[KnownSum],
+        sum: &Linear,
+        extent: u32,
+    ) -> Result<bool, AllocError> {
+        let form = value_form(alloc, sum)?;
+        if is_below(&form, self.bounds, extent) {
+            return Ok(true);
+        }
+        let inner = form_by_others(alloc, form, split)?;
+        let own = form_by_others(alloc, inner, self.known)?;
+        Ok(is_below(&own, self.bounds, extent))
+    }
+}
+
+/// The value of a sum as a form.
+fn value_form(alloc: Global, sum: &Linear) -> Result<AffineForm, AllocError> {
+    let sum = sum.copy(alloc)?;
+    Ok(AffineForm { sum, per_hart: 0 })
+}
+
 /// Counts the value of a split loop that is tested, where it isn't known to pass; of one that goes along with lanes,
 /// how far it is from the extent: as many lanes are left as strides go into that.
 fn count_tested(
     alloc: Global,
-    known: &[KnownSum],
-    bounds: &[Bound],
-    lanes: Option<LaneStep>,
+    around: &Around<'_>,
+    split: &[KnownSum],
+    own: &KnownSum,
     extent: u32,
     found: &mut Vec<Use>,
 ) -> Result<(), AllocError> {
-    for own in known {
-        let sum = own.sum.copy(alloc)?;
-        let form = AffineForm { sum, per_hart: 0 };
-        if !is_below(&form, bounds, extent) {
-            let stride = stride_along(&own.sum, lanes);
-            if stride != 0 {
-                let most = words::add(extent, stride - 1);
-                let left = Linear::of_number(alloc, most).minus(&own.sum)?;
-                let form = AffineForm {
-                    sum: left,
-                    per_hart: 0,
-                };
-                count(found, form, VALUE_USES)?;
-            } else {
-                count(found, form, VALUE_USES)?;
-            }
-        }
+    if around.is_below(alloc, split, &own.sum, extent)? {
+        return Ok(());
     }
-    Ok(())
+    let stride = stride_along(&own.sum, around.lanes);
+    if stride == 0 {
+        return count(found, value_form(alloc, &own.sum)?, VALUE_USES);
+    }
+    let most = words::add(extent, stride - 1);
+    let sum = Linear::of_number(alloc, most).minus(&own.sum)?;
+    count(found, AffineForm { sum, per_hart: 0 }, VALUE_USES)
 }
 
 /// How many iterations of a loop are looked at on their own: those of one that is laid out, unless they are many.
@@ -371,52 +416,96 @@ fn along(counter: Counter, whole: &Whole, lanes: Option<LaneStep>) -> Option<Lan
     }
 }
 
-/// Counts what a statement wants, whose nearest loop may have lanes.
+/// Adds the value of a split loop, by loop variables that stand at no sum, to those of split loops around it.
+fn push_split(
+    alloc: Global,
+    known: &[KnownSum],
+    split: &mut Vec<KnownSum>,
+    own: &KnownSum,
+) -> Result<(), AllocError> {
+    let inner = form_by_others(alloc, value_form(alloc, &own.sum)?, split.as_slice())?;
+    let AffineForm { sum, per_hart: _ } = form_by_others(alloc, inner, known)?;
+    split.push(KnownSum {
+        counter: own.counter,
+        sum,
+    })?;
+    Ok(())
+}
+
+/// Counts what a split loop's body wants, and its test.
+#[cycle(counting)]
+fn gather_split(
+    alloc: Global,
+    places: &Places,
+    around: &Around<'_>,
+    split: &mut Vec<KnownSum>,
+    statement: &Stmt,
+    found: &mut Vec<Use>,
+) -> Result<(), AllocError> {
+    let Stmt::Bind(counter, whole, extent, body) = statement else {
+        return Ok(());
+    };
+    let known = split_sum(alloc, *counter, whole)?;
+    for own in known.as_slice() {
+        count_tested(alloc, around, split.as_slice(), own, *extent, found)?;
+        push_split(alloc, around.known, split, own)?;
+    }
+    // After its test the split loop's value is below the extent.
+    let mut within = around.bounds.to_vec(alloc)?;
+    within.push(Bound {
+        counter: *counter,
+        count: *extent,
+    })?;
+    let next = Around {
+        bounds: within.as_slice(),
+        known: around.known,
+        lanes: along(*counter, whole, around.lanes),
+    };
+    let mut inner = Vec::new(alloc);
+    gather(alloc, places, &next, split, body.get(), &mut inner)?;
+    if !known.is_empty() {
+        drop(split.pop());
+    }
+    count_by_others(alloc, inner, known.as_slice(), found)
+}
+
+/// Counts what a statement wants, where so many split loops stand around it.
+#[cycle(counting)]
 fn gather(
     alloc: Global,
     places: &Places,
-    bounds: &[Bound],
-    lanes: Option<LaneStep>,
+    around: &Around<'_>,
+    split: &mut Vec<KnownSum>,
     statement: &Stmt,
     found: &mut Vec<Use>,
 ) -> Result<(), AllocError> {
     match statement {
-        Stmt::Store(store) => gather_store(alloc, places, store, found),
+        Stmt::Store(store) => gather_store(alloc, places, around.width(), store, found),
         Stmt::Sequence(first, second) => {
-            gather(alloc, places, bounds, lanes, first.get(), found)?;
-            gather(alloc, places, bounds, lanes, second.get(), found)
+            gather(alloc, places, around, split, first.get(), found)?;
+            gather(alloc, places, around, split, second.get(), found)
         }
         Stmt::For(counter, count, kind, body) => {
-            let mut within = bounds.to_vec(alloc)?;
+            let mut within = around.bounds.to_vec(alloc)?;
             within.push(Bound {
                 counter: *counter,
                 count: *count,
             })?;
+            let next = Around {
+                bounds: within.as_slice(),
+                known: around.known,
+                lanes: lanes_of(*counter, *kind),
+            };
             let mut inner = Vec::new(alloc);
-            let all = within.as_slice();
-            let lanes = lanes_of(*counter, *kind);
-            gather(alloc, places, all, lanes, body.get(), &mut inner)?;
+            gather(alloc, places, &next, split, body.get(), &mut inner)?;
             count_inside(alloc, inner, *counter, laid_out(*count, *kind), found)
         }
-        Stmt::Bind(counter, whole, extent, body) => {
-            let mut inner = Vec::new(alloc);
-            let along = along(*counter, whole, lanes);
-            // After its test the split loop's value is below the extent.
-            let mut within = bounds.to_vec(alloc)?;
-            within.push(Bound {
-                counter: *counter,
-                count: *extent,
-            })?;
-            let all = within.as_slice();
-            gather(alloc, places, all, along, body.get(), &mut inner)?;
-            let known = split_sum(alloc, *counter, whole)?;
-            count_by_others(alloc, inner, known.as_slice(), found)?;
-            count_tested(alloc, known.as_slice(), bounds, lanes, *extent, found)
-        }
+        Stmt::Bind(_, _, _, _) => gather_split(alloc, places, around, split, statement, found),
     }
 }
 
-/// The forms that a loop's body wants in registers, most used first, where loop variables stay below these bounds.
+/// The forms that a loop's body wants in registers, most used first, where loop variables stay below these bounds and
+/// some stand at these sums.
 ///
 /// # Errors
 ///
@@ -425,9 +514,16 @@ pub fn wanted_forms(
     alloc: Global,
     places: &Places,
     bounds: &[Bound],
+    known: &[KnownSum],
     body: &Stmt,
 ) -> Result<Vec<AffineForm>, AllocError> {
+    let around = Around {
+        bounds,
+        known,
+        lanes: None,
+    };
     let mut found = Vec::new(alloc);
-    gather(alloc, places, bounds, None, body, &mut found)?;
+    let mut split = Vec::new(alloc);
+    gather(alloc, places, &around, &mut split, body, &mut found)?;
     most_used_first(alloc, found)
 }

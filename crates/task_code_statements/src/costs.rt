@@ -1,7 +1,17 @@
 //! How many turns code takes, and whether its innermost loops could hold more, guessed from its words. Nothing is
 //! promised of it.
 
+use crate::stages::Code;
 use std::alloc::{AllocError, Global};
+
+/// Under so many loops in one another registers may be better spent than on pointers.
+const MANY_LOOPS: usize = 2;
+
+/// Any turn fewer makes code faster.
+pub(crate) const ANY: u64 = u64::MAX;
+
+/// One turn fewer in so many makes it much faster: that inner loops are entered often is guessed too low.
+pub(crate) const MUCH: u64 = 16;
 
 /// How many loops in one another are told apart; each is guessed to have 16 iterations.
 const MOST_DEPTH: u32 = 8;
@@ -51,7 +61,7 @@ fn depths(alloc: Global, words: &[u32]) -> Result<Vec<u32>, AllocError> {
 /// # Errors
 ///
 /// Memory ran out.
-pub(crate) fn guessed_turns(alloc: Global, words: &[u32]) -> Result<u64, AllocError> {
+fn guessed_turns(alloc: Global, words: &[u32]) -> Result<u64, AllocError> {
     let found = depths(alloc, words)?;
     let mut turns: u64 = 0;
     for depth in found.as_slice() {
@@ -74,7 +84,7 @@ fn may_be_held(word: u32) -> bool {
 /// # Errors
 ///
 /// Memory ran out.
-pub(crate) fn may_hold_more(alloc: Global, words: &[u32]) -> Result<bool, AllocError> {
+fn may_hold_more(alloc: Global, words: &[u32]) -> Result<bool, AllocError> {
     let found = depths(alloc, words)?;
     let mut most = 0;
     for depth in found.as_slice() {
@@ -86,4 +96,48 @@ pub(crate) fn may_hold_more(alloc: Global, words: &[u32]) -> Result<bool, AllocE
         }
     }
     Ok(false)
+}
+
+/// Whether code is guessed to take fewer turns than other code, by one in so many, or there is no other.
+pub(crate) fn is_faster(
+    alloc: Global,
+    code: &Option<Code>,
+    other: &Option<Code>,
+    one_in: u64,
+) -> Result<bool, AllocError> {
+    match (code, other) {
+        (Some(one), Some(two)) => {
+            let turns = guessed_turns(alloc, one.words.as_slice())?;
+            let others = guessed_turns(alloc, two.words.as_slice())?;
+            let least = if one_in == 0 { 0 } else { turns / one_in };
+            Ok(turns.saturating_add(least) < others)
+        }
+        (Some(_), None) => Ok(true),
+        (None, _) => Ok(false),
+    }
+}
+
+/// Whether code stands under so many loops that registers may be better spent than it does.
+pub(crate) fn is_worth_more(
+    alloc: Global,
+    loops: usize,
+    code: &Option<Code>,
+) -> Result<bool, AllocError> {
+    match code {
+        None => Ok(true),
+        Some(own) => {
+            if loops < MANY_LOOPS {
+                return Ok(false);
+            }
+            may_hold_more(alloc, own.words.as_slice())
+        }
+    }
+}
+
+/// Whether there is code, of so many words at most.
+pub(crate) fn is_no_longer(code: &Option<Code>, most: usize) -> bool {
+    match code {
+        None => false,
+        Some(own) => own.words.len() <= most,
+    }
 }

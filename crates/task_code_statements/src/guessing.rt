@@ -1,12 +1,13 @@
 //! What of a loop's body is worth a name: what stays the same in all iterations. A guess, of which nothing is promised.
 
 use crate::contexts::{Context, in_loop, with_value};
+use crate::methods::is_laid_out;
 use crate::names::free_name;
 use crate::parting::loop_part;
 use crate::plain::{is_name, name};
 use crate::room::is_in_order;
 use crate::splits::{Entered, enter_split, unnamed_start};
-use crate::statements::{is_laid_out, made_store};
+use crate::statements::made_store;
 use crate::staying::{add, is_among, is_same_in_all, may_stay_in, staying};
 use crate::vectorizing::{is_at_once, run_store};
 use loop_ir::expressions::{Counter, Expr, Linear};
@@ -339,6 +340,16 @@ pub fn staying_in(
     staying(alloc, context.bounds.as_slice(), guess.body.get())
 }
 
+/// Whether a statement has a split loop whose last run begins before its product: no other run needs a name.
+fn has_last(statement: &Stmt) -> bool {
+    match statement {
+        Stmt::Store(_) => false,
+        Stmt::Sequence(first, second) => has_last(first.get()) || has_last(second.get()),
+        Stmt::For(_, _, _, body) => has_last(body.get()),
+        Stmt::Bind(_, whole, _, body) => whole.last.is_some() || has_last(body.get()),
+    }
+}
+
 /// Adds where runs inside a statement begin that need a name, if these stay the same where these loops stand around it.
 fn add_starts(
     alloc: Global,
@@ -387,6 +398,9 @@ pub fn starts_in(
     body: &Stmt,
 ) -> Result<Vec<Expr>, CodeFault> {
     let mut found = Vec::new(alloc);
+    if !has_last(body) {
+        return Ok(found);
+    }
     let inner = in_loop(alloc, context, own)?;
     add_starts(alloc, context.bounds.as_slice(), &inner, body, &mut found)?;
     Ok(found)

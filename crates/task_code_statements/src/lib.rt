@@ -12,6 +12,7 @@
 //! What code is made of a statement:
 //!
 //! - `statements`: appends what does it, with forms that registers hold (`specs/Statements.antt`).
+//! - `methods`: how the iterations of a loop are done.
 //! - `vectorizing`: a vectorized loop whose iterations store all at once (`specs/Vectorizing.antt`).
 //! - `guards`: the tests in front of such a store.
 //! - `parting`: loops in two parts, of which the first needs no tests, and what is known to do nothing
@@ -40,6 +41,7 @@ mod lacking;
 mod lessers;
 mod making;
 mod mentions;
+mod methods;
 mod names;
 mod parting;
 mod plain;

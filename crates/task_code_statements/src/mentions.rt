@@ -1,81 +1,104 @@
-//! Which loop variables a statement's sums name, and which of its split loops stand at a number.
+//! Which loop variables a statement's sums name outside their loops, and which of its split loops stand at a number.
 
 use loop_ir::expressions::{Counter, Expr, Linear, same_counter};
 use loop_ir::statements::{Stmt, Store};
 use std::alloc::{AllocError, Global};
 use task_code_borders::variables::is_border;
 
+/// Whether a loop variable is one of these.
+fn is_one_of(counters: &[Counter], counter: Counter) -> bool {
+    counters.iter().any(|own| same_counter(*own, counter))
+}
+
 /// Adds a loop variable, unless it is there.
 fn add(found: &mut Vec<Counter>, counter: Counter) -> Result<(), AllocError> {
-    let is_there = found
-        .as_slice()
-        .iter()
-        .any(|own| same_counter(*own, counter));
-    if !is_there {
+    if !is_one_of(found.as_slice(), counter) {
         found.push(counter)?;
     }
     Ok(())
 }
 
-fn add_sum(found: &mut Vec<Counter>, own: &Linear) -> Result<(), AllocError> {
+/// Adds the variables of a sum but those of the loops around it.
+fn add_sum(found: &mut Vec<Counter>, around: &[Counter], own: &Linear) -> Result<(), AllocError> {
     for term in own.terms.as_slice() {
-        add(found, term.counter)?;
+        if !is_one_of(around, term.counter) {
+            add(found, term.counter)?;
+        }
     }
     Ok(())
 }
 
-fn add_expr(found: &mut Vec<Counter>, e: &Expr) -> Result<(), AllocError> {
+fn add_expr(found: &mut Vec<Counter>, around: &[Counter], e: &Expr) -> Result<(), AllocError> {
     match e {
         Expr::Number(_) => Ok(()),
-        Expr::Linear(own) => add_sum(found, own),
+        Expr::Linear(own) => add_sum(found, around, own),
         Expr::Binary(_, a, b) => {
-            add_expr(found, a.get())?;
-            add_expr(found, b.get())
+            add_expr(found, around, a.get())?;
+            add_expr(found, around, b.get())
         }
-        Expr::Divide(a, _) => add_expr(found, a.get()),
-        Expr::Remainder(a, _) => add_expr(found, a.get()),
+        Expr::Divide(a, _) => add_expr(found, around, a.get()),
+        Expr::Remainder(a, _) => add_expr(found, around, a.get()),
         Expr::Select(c, a, b) => {
-            add_expr(found, c.get())?;
-            add_expr(found, a.get())?;
-            add_expr(found, b.get())
+            add_expr(found, around, c.get())?;
+            add_expr(found, around, a.get())?;
+            add_expr(found, around, b.get())
         }
         Expr::Load(_, x, y) => {
-            add_expr(found, x.get())?;
-            add_expr(found, y.get())
+            add_expr(found, around, x.get())?;
+            add_expr(found, around, y.get())
         }
     }
 }
 
-fn add_store(found: &mut Vec<Counter>, store: &Store) -> Result<(), AllocError> {
-    add_expr(found, &store.x)?;
-    add_expr(found, &store.y)?;
-    add_expr(found, &store.value)
+fn add_store(
+    found: &mut Vec<Counter>,
+    around: &[Counter],
+    store: &Store,
+) -> Result<(), AllocError> {
+    add_expr(found, around, &store.x)?;
+    add_expr(found, around, &store.y)?;
+    add_expr(found, around, &store.value)
 }
 
-fn add_statement(found: &mut Vec<Counter>, statement: &Stmt) -> Result<(), AllocError> {
+/// Adds those of a statement inside of these loops.
+fn add_statement(
+    found: &mut Vec<Counter>,
+    around: &mut Vec<Counter>,
+    statement: &Stmt,
+) -> Result<(), AllocError> {
     match statement {
-        Stmt::Store(store) => add_store(found, store),
+        Stmt::Store(store) => add_store(found, around.as_slice(), store),
         Stmt::Sequence(first, second) => {
-            add_statement(found, first.get())?;
-            add_statement(found, second.get())
+            add_statement(found, around, first.get())?;
+            add_statement(found, around, second.get())
         }
-        Stmt::For(_, _, _, body) => add_statement(found, body.get()),
-        Stmt::Bind(_, whole, _, body) => {
+        Stmt::For(counter, _, _, body) => {
+            around.push(*counter)?;
+            add_statement(found, around, body.get())?;
+            around.pop();
+            Ok(())
+        }
+        Stmt::Bind(counter, whole, _, body) => {
             if is_border(whole.inner) {
                 add(found, whole.inner)?;
             }
-            add_statement(found, body.get())
+            around.push(*counter)?;
+            add_statement(found, around, body.get())?;
+            around.pop();
+            Ok(())
         }
     }
 }
 
-/// The loop variables that a statement's sums name, each once.
+/// The loop variables that a statement's sums name outside these variables' loops, each once, and those at whose
+/// numbers split loops of it stand.
 ///
 /// # Errors
 ///
 /// Memory ran out.
 pub fn mentioned_variables(alloc: Global, statement: &Stmt) -> Result<Vec<Counter>, AllocError> {
     let mut found = Vec::new(alloc);
-    add_statement(&mut found, statement)?;
+    let mut around = Vec::new(alloc);
+    add_statement(&mut found, &mut around, statement)?;
     Ok(found)
 }

@@ -65,35 +65,21 @@ struct Passing {
     some: u32,
 }
 
-/// A loop of whose tests it is asked, the loops inside around them, whether they stand around all that it does, and
-/// whether a test counts that last lanes alone fail, which costs little: it leaves a number of lanes.
+/// A loop of whose tests it is asked, the loops inside around them, and whether they stand around all that it does.
 #[derive(Clone, Copy, Debug)]
 struct Asked<'a> {
     own: Bound,
     inside: &'a [Bound],
     is_around: bool,
-    by_lanes: bool,
 }
 
 impl<'a> Asked<'a> {
-    /// A loop as it counts here.
-    fn counted(&self, own: Bound, kind: LoopKind) -> Bound {
-        if is_at_once(kind) && !self.by_lanes {
-            return Bound {
-                counter: own.counter,
-                count: 1,
-            };
-        }
-        own
-    }
-
     /// After other statements.
     fn beside(&self) -> Asked<'a> {
         Asked {
             own: self.own,
             inside: self.inside,
             is_around: false,
-            by_lanes: self.by_lanes,
         }
     }
 
@@ -119,6 +105,18 @@ impl<'a> Asked<'a> {
             some: found.some.min(some),
         }
     }
+}
+
+/// A loop as it counts where it is asked how many iterations pass: that last lanes fail a test costs little, since it
+/// leaves a number of lanes.
+fn counted(own: Bound, kind: LoopKind) -> Bound {
+    if is_at_once(kind) {
+        return Bound {
+            counter: own.counter,
+            count: 1,
+        };
+    }
+    own
 }
 
 /// A test inside a loop: how its value goes up with the loop's iterations and, at most, with those of loops inside.
@@ -201,12 +199,11 @@ fn left_by_tests(
                 count: *count,
             };
             let inner = in_loop(alloc, context, own)?;
-            let more = and_one(alloc, asked.inside, asked.counted(own, *kind))?;
+            let more = and_one(alloc, asked.inside, counted(own, *kind))?;
             let next = Asked {
                 own: asked.own,
                 inside: more.as_slice(),
                 is_around: asked.is_around,
-                by_lanes: asked.by_lanes,
             };
             left_by_tests(alloc, &inner, &next, within.get(), found)
         }
@@ -255,6 +252,23 @@ fn is_run(statement: &Stmt) -> bool {
 /// So many runs of a row inside other loops are laid out.
 const FEW_RUNS: u32 = 4;
 
+/// Whether a loop does few runs, one after the other.
+fn is_few_runs(count: u32, body: &Stmt) -> bool {
+    1 < count && count <= FEW_RUNS && is_run(body)
+}
+
+/// Whether some loop of a statement does few runs.
+pub(crate) fn has_few_runs(statement: &Stmt) -> bool {
+    match statement {
+        Stmt::Store(_) => false,
+        Stmt::Sequence(first, second) => has_few_runs(first.get()) || has_few_runs(second.get()),
+        Stmt::For(_, count, kind, body) => {
+            !is_at_once(*kind) && (is_few_runs(*count, body.get()) || has_few_runs(body.get()))
+        }
+        Stmt::Bind(_, _, _, body) => has_few_runs(body.get()),
+    }
+}
+
 /// Whether a loop is a row of few runs, none of which has a part that is worth a name in front of the loop.
 fn is_row_of_runs(
     alloc: Global,
@@ -262,29 +276,33 @@ fn is_row_of_runs(
     own: Bound,
     body: &Stmt,
 ) -> Result<bool, AllocError> {
-    if own.count > FEW_RUNS || context.bounds.len() < 2 || !is_run(body) {
+    if !is_few_runs(own.count, body) || context.bounds.len() < 2 {
         return Ok(false);
     }
     let has_names = may_stay_in(alloc, own.counter, body)?;
     Ok(!has_names)
 }
 
-/// How many first iterations are a loop by the tests inside.
+/// How many first iterations are a loop by the tests inside; a row of few runs is laid out.
 fn tested_part(
     alloc: Global,
     context: &Context,
     own: Bound,
     body: &Stmt,
 ) -> Result<u32, CodeFault> {
-    if !context.manner.is_parted || !has_test(body) {
+    if !context.manner.is_parted {
         return Ok(own.count);
     }
-    let is_row = is_row_of_runs(alloc, context, own, body)?;
+    if is_row_of_runs(alloc, context, own, body)? {
+        return Ok(0);
+    }
+    if !has_test(body) {
+        return Ok(own.count);
+    }
     let asked = Asked {
         own,
         inside: &[],
         is_around: true,
-        by_lanes: is_row,
     };
     let every = Passing {
         all: own.count,
@@ -294,9 +312,6 @@ fn tested_part(
     let found = left_by_tests(alloc, &inner, &asked, body, every)?;
     if found.all == own.count {
         return Ok(own.count);
-    }
-    if is_row {
-        return Ok(0);
     }
     if found.all.saturating_add(1) < found.some {
         return Ok(found.some);

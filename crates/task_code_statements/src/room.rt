@@ -2,7 +2,7 @@
 
 use crate::contexts::{Context, Holding};
 use crate::guessing::{Guess, add_sums, ready_in};
-use crate::statements::is_laid_out;
+use crate::methods::is_laid_out;
 use crate::vectorizing::is_at_once;
 use loop_ir::expressions::Counter;
 use loop_ir::statements::{LoopKind, Stmt};
@@ -114,8 +114,9 @@ pub(crate) fn wanted_by(
     for e in guess.named.as_slice() {
         add_sums(alloc, bounds, e, &mut wanted)?;
     }
-    let found = wanted_forms(alloc, places, bounds, guess.body.get())?;
-    add_by_others(alloc, context.known.as_slice(), found, &mut wanted)?;
+    let known = context.known.as_slice();
+    let found = wanted_forms(alloc, places, bounds, known, guess.body.get())?;
+    add_by_others(alloc, known, found, &mut wanted)?;
     Ok(wanted)
 }
 

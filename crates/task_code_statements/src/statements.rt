@@ -1,9 +1,7 @@
 //! The code of statements, with forms that registers hold.
 
-ghost use Rattle.std.specs.Prelude.{◌≡◌, ◌≤◌, IfOk, OnOk, false, true};
-ghost use Rattle.loop_ir.specs.declared.statements.LoopKind.TheVariants.{Vectorized as vectorized};
+ghost use Rattle.std.specs.Prelude.{◌≡◌, ◌≤◌, IfOk, OnOk, false};
 ghost use Rattle.loop_ir.specs.declared.statements.Stmt.TheVariants as stmts;
-ghost use Rattle.loop_ir.specs.LoopLanes.{is_vectorized};
 ghost use Rattle.task_code_registers.specs.Holding as holding;
 ghost use Rattle.task_code_loops.specs.Beginning.{Begins};
 ghost use Rattle.task_code_loops.specs.Guarding.{GuardsWords};
@@ -14,6 +12,7 @@ ghost use Rattle.task_code_statements.specs.Statements.{EmitsLoop, EmitsStatemen
 use crate::contexts::{Context, in_loop, with_sum};
 use crate::guessing::Guess;
 use crate::making::unclamped_store;
+use crate::methods::{LoopMethod, method_of};
 use crate::parting::{is_idle, loop_part};
 use crate::plain::is_plain_store;
 use crate::room::{depth, reserve, wanted_by, wanted_in};
@@ -22,7 +21,7 @@ use crate::stages::{Code, add_first, add_last, add_second, no_words_beside};
 use crate::starts::{emit_before, emit_start};
 use crate::vectorizing::emit_vectorized;
 use loop_ir::expressions::{Counter, Linear};
-use loop_ir::statements::{LoopKind, Stmt, Store, Whole};
+use loop_ir::statements::{Stmt, Store, Whole};
 use std::alloc::{AllocError, Global};
 use task_code_loops::beginning::{BegunLoop, begin_loop};
 use task_code_loops::bounds::{Bound, is_below};
@@ -107,49 +106,6 @@ fn begin(
     }
     let begun = begin_loop(alloc, code, scope, own, wanted, reserved)?;
     Ok(begun)
-}
-
-/// Whether each iteration has code of its own.
-pub(crate) fn is_laid_out(kind: LoopKind, count: u32) -> bool
-    ensures { result ≡ true → is_vectorized kind ≡ false }
-{
-    match kind {
-        LoopKind::Serial => count == 1,
-        LoopKind::Unrolled => true,
-        LoopKind::Vectorized => false,
-    }
-}
-
-/// How the iterations of a loop are done.
-#[derive(Clone, Copy, Debug)]
-enum LoopMethod {
-    AtOnce,
-    /// One alone.
-    Once,
-    /// Each with code of its own.
-    LaidOut,
-    /// One after the other.
-    InOrder,
-}
-
-/// How the iterations of so many of a loop of this kind are done.
-fn way_of(kind: LoopKind, count: u32) -> LoopMethod
-    ensures at_once { result ≡ LoopMethod.AtOnce → kind ≡ vectorized }
-    ensures once { result ≡ LoopMethod.Once → is_vectorized kind ≡ false }
-    ensures laid_out { result ≡ LoopMethod.LaidOut → is_vectorized kind ≡ false }
-    ensures in_order { result ≡ LoopMethod.InOrder → is_vectorized kind ≡ false }
-{
-    match kind {
-        LoopKind::Vectorized => LoopMethod::AtOnce,
-        LoopKind::Unrolled => LoopMethod::LaidOut,
-        LoopKind::Serial => {
-            if count == 1 {
-                LoopMethod::Once
-            } else {
-                LoopMethod::InOrder
-            }
-        }
-    }
 }
 
 // ---- statements
@@ -496,7 +452,7 @@ pub fn emit_statement(
                 counter: *counter,
                 count: *count,
             };
-            match way_of(*kind, *count) {
+            match method_of(*kind, *count) {
                 LoopMethod::AtOnce => {
                     emit_vectorized(alloc, &mut code.words, site, context, own, body.get())?;
                 }

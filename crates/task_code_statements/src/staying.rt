@@ -167,44 +167,44 @@ pub(crate) fn staying(
 
 /// What is known of an expression where some loop variables go on.
 #[derive(Clone, Copy, Debug, PartialEq, Eq)]
-enum Standing {
+enum Invariance {
     /// It is a number or a sum, and stays the same.
-    StaysLeaf,
+    Leaf,
     /// It is more than that, and stays the same.
-    Stays,
+    Whole,
     /// It doesn't, but some part of it that is more than a sum does.
-    HasStaying,
+    Part,
     /// Neither.
-    Leaves,
+    Nothing,
 }
 
 /// Whether an expression stays the same.
-fn is_staying(standing: Standing) -> bool {
-    standing == Standing::StaysLeaf || standing == Standing::Stays
+fn is_staying(invariance: Invariance) -> bool {
+    invariance == Invariance::Leaf || invariance == Invariance::Whole
 }
 
 /// Whether an expression is worth a name, or some part of it is.
-fn is_worth(standing: Standing) -> bool {
-    standing == Standing::Stays || standing == Standing::HasStaying
+fn is_worth(invariance: Invariance) -> bool {
+    invariance == Invariance::Whole || invariance == Invariance::Part
 }
 
 /// Of an operation on two parts.
-fn joined(first: Standing, second: Standing) -> Standing {
+fn joined(first: Invariance, second: Invariance) -> Invariance {
     if is_staying(first) && is_staying(second) {
-        Standing::Stays
+        Invariance::Whole
     } else if is_worth(first) || is_worth(second) {
-        Standing::HasStaying
+        Invariance::Part
     } else {
-        Standing::Leaves
+        Invariance::Nothing
     }
 }
 
 /// Of a pixel that is read at these indexes.
-fn loaded(column: Standing, row: Standing) -> Standing {
+fn loaded(column: Invariance, row: Invariance) -> Invariance {
     if is_worth(column) || is_worth(row) {
-        Standing::HasStaying
+        Invariance::Part
     } else {
-        Standing::Leaves
+        Invariance::Nothing
     }
 }
 
@@ -219,24 +219,33 @@ fn moves(moving: &[Counter], terms: &[Term]) -> bool {
 }
 
 /// What is known of an expression where these loop variables go on. Each part is asked once.
-fn standing_of(moving: &[Counter], e: &Expr) -> Standing {
+fn invariance_of(moving: &[Counter], e: &Expr) -> Invariance {
     match e {
-        Expr::Number(_) => Standing::StaysLeaf,
+        Expr::Number(_) => Invariance::Leaf,
         Expr::Linear(own) => {
             if moves(moving, own.terms.as_slice()) {
-                Standing::Leaves
+                Invariance::Nothing
             } else {
-                Standing::StaysLeaf
+                Invariance::Leaf
             }
         }
-        Expr::Binary(_, a, b) => joined(standing_of(moving, a.get()), standing_of(moving, b.get())),
-        Expr::Divide(a, _) => joined(standing_of(moving, a.get()), Standing::StaysLeaf),
-        Expr::Remainder(a, _) => joined(standing_of(moving, a.get()), Standing::StaysLeaf),
+        Expr::Binary(_, a, b) => joined(
+            invariance_of(moving, a.get()),
+            invariance_of(moving, b.get()),
+        ),
+        Expr::Divide(a, _) => joined(invariance_of(moving, a.get()), Invariance::Leaf),
+        Expr::Remainder(a, _) => joined(invariance_of(moving, a.get()), Invariance::Leaf),
         Expr::Select(c, a, b) => {
-            let operands = joined(standing_of(moving, a.get()), standing_of(moving, b.get()));
-            joined(standing_of(moving, c.get()), operands)
+            let operands = joined(
+                invariance_of(moving, a.get()),
+                invariance_of(moving, b.get()),
+            );
+            joined(invariance_of(moving, c.get()), operands)
         }
-        Expr::Load(_, x, y) => loaded(standing_of(moving, x.get()), standing_of(moving, y.get())),
+        Expr::Load(_, x, y) => loaded(
+            invariance_of(moving, x.get()),
+            invariance_of(moving, y.get()),
+        ),
     }
 }
 
@@ -246,8 +255,8 @@ fn may_stay(statement: &Stmt, moving: &mut Vec<Counter>) -> Result<bool, AllocEr
     match statement {
         Stmt::Store(store) => {
             let own = moving.as_slice();
-            let point = loaded(standing_of(own, &store.x), standing_of(own, &store.y));
-            Ok(is_worth(point) || is_worth(standing_of(own, &store.value)))
+            let point = loaded(invariance_of(own, &store.x), invariance_of(own, &store.y));
+            Ok(is_worth(point) || is_worth(invariance_of(own, &store.value)))
         }
         Stmt::Sequence(first, second) => {
             let one = may_stay(first.get(), moving)?;

@@ -8,9 +8,9 @@ ghost use Rattle.task_code_statements.specs.Starts.{AppendsStarted};
 ghost use Rattle.task_code_statements.specs.Tasks.{AppendsTask, restored};
 
 use crate::contexts::{Context, Holding, Manner, in_loop, nothing_known, with_number};
-use crate::costs::{guessed_turns, may_hold_more};
+use crate::costs::{ANY, MUCH, is_faster, is_no_longer, is_worth_more};
 use crate::mentions::mentioned_variables;
-use crate::parting::has_test;
+use crate::parting::{has_few_runs, has_test};
 use crate::room::depth;
 use crate::stages::{Code, CodeStage, add_moved, no_stages};
 use crate::statements::emit_statement;
@@ -40,15 +40,6 @@ const GATE: u8 = 14;
 const ONE: u8 = 15;
 
 const TASKS: u8 = 16;
-
-/// Under so many loops in one another registers may be better spent than on pointers.
-const MANY_LOOPS: usize = 3;
-
-/// Any turn fewer makes code faster.
-const ANY: u64 = u64::MAX;
-
-/// One turn fewer in so many makes it much faster: that inner loops are entered often is guessed too low.
-const MUCH: u64 = 16;
 
 /// What registers hold where a task begins, and what is known of its loop variable.
 #[derive(Debug, Drop)]
@@ -218,25 +209,6 @@ fn tried_words(
     }
 }
 
-/// Whether code is guessed to take fewer turns than other code, by one in so many, or there is no other.
-fn is_faster(
-    alloc: Global,
-    code: &Option<Code>,
-    other: &Option<Code>,
-    one_in: u64,
-) -> Result<bool, AllocError> {
-    match (code, other) {
-        (Some(one), Some(two)) => {
-            let turns = guessed_turns(alloc, one.words.as_slice())?;
-            let others = guessed_turns(alloc, two.words.as_slice())?;
-            let least = if one_in == 0 { 0 } else { turns / one_in };
-            Ok(turns.saturating_add(least) < others)
-        }
-        (Some(_), None) => Ok(true),
-        (None, _) => Ok(false),
-    }
-}
-
 /// The words of one task of a phase made in this manner, where these are guessed to take fewer turns than others, by
 /// one in so many, or else those.
 fn faster_of(
@@ -284,19 +256,6 @@ fn words_by_variables(
     Ok(found)
 }
 
-/// Whether code stands under so many loops that registers may be better spent than it does.
-fn is_worth_more(alloc: Global, loops: usize, code: &Option<Code>) -> Result<bool, AllocError> {
-    match code {
-        None => Ok(true),
-        Some(own) => {
-            if loops < MANY_LOOPS {
-                return Ok(false);
-            }
-            may_hold_more(alloc, own.words.as_slice())
-        }
-    }
-}
-
 /// The words of one task of a phase, where there are some: those of pointers, or of variables where these don't fit, or
 /// are guessed to take fewer turns under many loops.
 fn words_of(
@@ -327,14 +286,6 @@ fn words_of(
     Ok(pointers)
 }
 
-/// Whether there is code, of so many words at most.
-fn is_no_longer(code: &Option<Code>, most: usize) -> bool {
-    match code {
-        None => false,
-        Some(own) => own.words.len() <= most,
-    }
-}
-
 /// The words of one task of a phase whose loops are made in parts, where there are some and they are no more than so
 /// many, or else of one whose loops aren't.
 fn words_up_to(
@@ -348,7 +299,7 @@ fn words_up_to(
     ensures { IfOk result (λ found. IfSome found (λ made. AppendsStarted [] made.words.items phase.now places.now
         ticket)) }
 {
-    if has_test(&phase.body) {
+    if has_test(&phase.body) || has_few_runs(&phase.body) {
         let parted = words_of(alloc, phase, places, ticket, true)?;
         if is_no_longer(&parted, most) {
             return Ok(parted);

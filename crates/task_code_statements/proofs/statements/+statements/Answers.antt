@@ -28,25 +28,25 @@ emit_statement-returns-in_ok-add_second-in-Sequence t c =
 pub emit_statement-returns-in_ok-emit_vectorized-in-AtOnce : goal.emit_statement-returns-in_ok-emit_vectorized-in-AtOnce
 emit_statement-returns-in_ok-emit_vectorized-in-AtOnce t c =
     vector-arm c.args.site.now.places.now c.args.site.now.scope.now c.args.context.now c.args.statement.now c.in-For.counter c.in-For.count c.in-For.kind
-    c.in-For.body c.get-in-AtOnce.result.now _ _ c.in-For.is c.get-in-AtOnce.ensures (c.way_of.ensures.at_once c.in-AtOnce.is)
+    c.in-For.body c.get-in-AtOnce.result.now _ _ c.in-For.is c.get-in-AtOnce.ensures (c.method_of.ensures.at_once c.in-AtOnce.is)
     c.in_ok-emit_vectorized-in-AtOnce.ensures
 
 pub emit_statement-returns-in_ok-emit_laid_out-in-LaidOut : goal.emit_statement-returns-in_ok-emit_laid_out-in-LaidOut
 emit_statement-returns-in_ok-emit_laid_out-in-LaidOut t c =
     for-arm c.args.site.now.places.now c.args.site.now.scope.now (Meets c.args.context.now) c.args.statement.now c.in-For.counter c.in-For.count c.in-For.kind
-    c.in-For.body c.get-in-LaidOut.result.now _ _ c.in-For.is c.get-in-LaidOut.ensures (c.way_of.ensures.laid_out c.in-LaidOut.is)
+    c.in-For.body c.get-in-LaidOut.result.now _ _ c.in-For.is c.get-in-LaidOut.ensures (c.method_of.ensures.laid_out c.in-LaidOut.is)
     c.in_ok-emit_laid_out-in-LaidOut.ensures
 
 pub emit_statement-returns-in_ok-emit_once-in-Once : goal.emit_statement-returns-in_ok-emit_once-in-Once
 emit_statement-returns-in_ok-emit_once-in-Once t c =
     for-arm c.args.site.now.places.now c.args.site.now.scope.now (Meets c.args.context.now) c.args.statement.now c.in-For.counter c.in-For.count c.in-For.kind
-    c.in-For.body c.get-in-Once.result.now _ _ c.in-For.is c.get-in-Once.ensures (c.way_of.ensures.once c.in-Once.is)
+    c.in-For.body c.get-in-Once.result.now _ _ c.in-For.is c.get-in-Once.ensures (c.method_of.ensures.once c.in-Once.is)
     c.in_ok-emit_once-in-Once.ensures
 
 pub emit_statement-returns-in_ok-emit_serial-in-InOrder : goal.emit_statement-returns-in_ok-emit_serial-in-InOrder
 emit_statement-returns-in_ok-emit_serial-in-InOrder t c =
     for-arm c.args.site.now.places.now c.args.site.now.scope.now (Meets c.args.context.now) c.args.statement.now c.in-For.counter c.in-For.count c.in-For.kind
-    c.in-For.body c.get-in-InOrder.result.now _ _ c.in-For.is c.get-in-InOrder.ensures (c.way_of.ensures.in_order c.in-InOrder.is)
+    c.in-For.body c.get-in-InOrder.result.now _ _ c.in-For.is c.get-in-InOrder.ensures (c.method_of.ensures.in_order c.in-InOrder.is)
     c.in_ok-emit_serial-in-InOrder.ensures
 
 pub emit_statement-returns-in_ok-emit_split-in-Bind : goal.emit_statement-returns-in_ok-emit_split-in-Bind
