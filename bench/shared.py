@@ -23,6 +23,12 @@ MOST_TURNS = "100000000"
 HEADERS = {b"HRV1": 32, b"HRV2": 36}
 
 
+if {"-h", "--help"} & {*sys.argv[1:]}:
+    # Each script says on its first lines what it is for and what it takes.
+    print(sys.modules["__main__"].__doc__.strip())
+    sys.exit(0)
+
+
 def script(name):
     """Another script of these folders, as a module: its folder and its name."""
     path = os.path.join(BENCH, name)
