@@ -17,10 +17,11 @@ use Rattle.hrv_engines.specs.Map.{IsMap, IsRefusedMap}
 use Rattle.hrv_engines.specs.Renew.{IsRenewal}
 use Rattle.hrv_engines.specs.Replay.{IsRefusedReplay, IsReplay}
 use Rattle.hrv_engines.specs.Run as run
+use Rattle.hrv_engines.specs.Drawn.{IsDrawnRun}
 use Rattle.hrv_engines.specs.declared.explain.TheConstants.{VERSION}
 use Rattle.hrv_refusals.specs.Explanations.{explanation}
 use Rattle.hrv_command_line.specs.CommandLine.{Asked, Replays, Debugs, Blames, Assembles, Lists, ListsAddresses, Renews, Draws, Compiles, Maps, Runs, Resumes}
-use Rattle.hrv_command_line.specs.CommandLine.{Explains, MakesLog, PrintsLog, TellsVersion}
+use Rattle.hrv_command_line.specs.CommandLine.{Explains, MakesLog, PrintsLog, RunsDrawn, TellsVersion}
 
 -- a fact of some device at this place, by its state before and after
 abbrev pub At : {S : Type 0} → (S → List ℕ) → List ℕ → (S → S → Type 0) → Type 0
@@ -105,6 +106,10 @@ module _ {R W T P : Type 0}
       run.Runs (run.IsResumedRun turns) IsRefusedReplay
       (both (image_bytes_of read_at read_failed gave ended s t) (log_bytes_of read_at read_failed gave ended x y)) (sink_of written_at write_failed stored u v)
       (sink_of printed_at print_failed printed o p) result))))
+  Does alloc (RunsDrawn image log harts turns seed every) result =
+      At read_at image (λ s t. At written_at log (λ u v. At printed_at dash (λ o p.
+      run.Runs (IsDrawnRun harts (record { seed = seed; every = every; limit = turns })) IsRefusedImage (image_bytes_of read_at read_failed gave ended s t)
+      (sink_of written_at write_failed stored u v) (sink_of printed_at print_failed printed o p) result)))
   Does alloc (Explains family code) result =
       At printed_at dash (λ o p. Writes (sink_of printed_at print_failed printed o p) (explanation family code) result)
   Does alloc TellsVersion result =

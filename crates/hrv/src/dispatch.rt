@@ -5,14 +5,16 @@ ghost use Rattle.std.specs.List.{All};
 ghost use Rattle.clap.specs.Walk.{texts};
 ghost use Rattle.hrv_command_line.specs.CommandLine.{AreWithinLimits, Assembles, Blames, Compiles, Debugs, Draws};
 ghost use Rattle.hrv_command_line.specs.CommandLine.{Explains, IsWithinLimits, Lists, ListsAddresses, MakesLog, Maps};
-ghost use Rattle.hrv_command_line.specs.CommandLine.{PrintsLog, Renews, Replays, Resumes, Runs, TellsVersion, asked_by};
+ghost use Rattle.hrv_command_line.specs.CommandLine.{PrintsLog, Renews, Replays, Resumes, Runs, RunsDrawn};
+ghost use Rattle.hrv_command_line.specs.CommandLine.{TellsVersion, asked_by};
 ghost use Rattle.hrv.specs.Dispatch.{Does};
 
-use hrv_command_line::{BlameArguments, Invocation};
+use hrv_command_line::{BlameArguments, DrawArguments, Invocation};
 use hrv_engines::{
-    Fault, Question, Resources, Sink, Source, asm_bytes, blame_bytes, compile_bytes, debug_bytes,
-    dis_addresses_bytes, dis_bytes, explain_bytes, make_log_bytes, map_bytes, picture_bytes,
-    print_log_bytes, renew_bytes, replay_bytes, resume_bytes, run_bytes, version_bytes,
+    DrawRules, Fault, Question, Resources, Sink, Source, asm_bytes, blame_bytes, compile_bytes,
+    debug_bytes, dis_addresses_bytes, dis_bytes, explain_bytes, make_log_bytes, map_bytes,
+    picture_bytes, print_log_bytes, renew_bytes, replay_bytes, resume_bytes, run_bytes,
+    run_drawn_bytes, version_bytes,
 };
 use std::alloc::{AllocError, Global};
 use std::sync::Wait;
@@ -102,6 +104,9 @@ pub fn obey<'a, R: Threads + Wait + Sync, D: Devices<'a>>(
             old,
             turns,
         } => resume(&resources, devices, image, log, old, turns),
+        Invocation::RunDrawn { image, log, draws } => {
+            run_drawn(alloc, devices, image, log, draws)
+        }
         Invocation::Explain { family, code } => explain(alloc, devices, family, code),
         Invocation::Version => tell_version(alloc, devices),
     }
@@ -397,6 +402,40 @@ fn resume<'a, R: Threads + Wait + Sync, D: Devices<'a>>(
         &mut log,
         &mut devices.printed(),
         turns,
+    )
+}
+
+/// `run IMAGE LOG --harts N --turns L --seed S --every K`
+#[inline(never)]
+fn run_drawn<'a, D: Devices<'a>>(
+    alloc: Global,
+    devices: &D,
+    image: &'a str,
+    log: &'a str,
+    draws: DrawArguments,
+) -> Result<(), Fault>
+    requires limits { AreWithinLimits draws.harts draws.turns }
+    requires every { 1 ≤ draws.every }
+    ensures { Does D.Read.place D.Read.failed D.Read.gave D.Read.ended
+        D.Written.place D.Written.failed D.Written.took
+        D.Typed.place D.Typed.failed D.Typed.gave D.Typed.ended
+        D.Printed.place D.Printed.failed D.Printed.took alloc
+        (RunsDrawn image.entry.now log.entry.now draws.harts draws.turns draws.seed draws.every) result }
+{
+    let mut image = devices.read(image);
+    let mut log = devices.written(log);
+    let rules = DrawRules {
+        seed: draws.seed,
+        every: draws.every,
+        limit: draws.turns,
+    };
+    run_drawn_bytes(
+        alloc,
+        &mut image,
+        &mut log,
+        &mut devices.printed(),
+        draws.harts as usize,
+        rules,
     )
 }
 

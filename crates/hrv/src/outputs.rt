@@ -21,9 +21,9 @@ pub fn keep_inputs<R: Files>(
     match invocation {
         Invocation::Asm { source, image } => keep(rt, alloc, image, &[*source]),
         Invocation::MakeLog { text, log } => keep(rt, alloc, log, &[*text]),
-        Invocation::Run { image, log, .. } | Invocation::Resume { image, log, .. } => {
-            keep(rt, alloc, log, &[*image])
-        }
+        Invocation::Run { image, log, .. }
+        | Invocation::Resume { image, log, .. }
+        | Invocation::RunDrawn { image, log, .. } => keep(rt, alloc, log, &[*image]),
         Invocation::Compile {
             algorithm,
             schedule,

@@ -12,8 +12,8 @@ use Rattle.clap.specs.declared.builder.value_parser.ValueParser.TheVariants.{Uns
 use Rattle.hrv_command_line.specs.CommandLine.{Asked, Assembles, Compiles, Debugs, Draws, Explains, Given, IsSpelled, IsWithinLimits, MakesLog}
 use Rattle.hrv_command_line.specs.CommandLine.{Maps, PrintsLog, Renews, Replays, TellsVersion, asked_of, blame_of, command_named, compile_of, dis_of, explain_of, files_of}
 use Rattle.hrv_command_line.specs.CommandLine.{if_known, is_version_flag, listing_of, log_of, named, named_in, nothing_given, number_or, picture_of, read, refusal_in}
-use Rattle.hrv_command_line.specs.CommandLine.{run_from, run_of, text_of, unmarked, version_of}
-use Rattle.hrv_command_line.specs.Commands.{Shape, commands, most_harts, most_turns}
+use Rattle.hrv_command_line.specs.CommandLine.{RunsDrawn, run_by, run_from, run_of, seed_in, text_of, unmarked, version_of}
+use Rattle.hrv_command_line.specs.Commands.{Shape, commands, most_every, most_harts, most_turns}
 use Rattle.hrv_command_line.specs.declared.table.OptionKind.TheVariants.{Flag}
 use Rattle.hrv_command_line.specs.declared.table.ValueCount.TheVariants.{Always}
 use Rattle.hrv_command_line.proofs.Spelling.{no_options, option_left, some_none, tell}
@@ -97,15 +97,37 @@ ran rest choices (i ∷ l ∷ []) asked e =
     by_from None h t hs ts = ((rest, refl), record { some = hs.0; few = hs.1; one = ts.0; most = ts.1 })
     by_from (Some old) h t hs ts = ((rest, refl), ts)
 
+    threaded : (h t : ℕ) (every : Bool) → (1 ≤ h) × (h ≤ most_harts) → (1 ≤ t) × (t ≤ most_turns)
+        → (if every then None else Some (run_from (text_of (codes "from") choices) i l h t)) ≡ Some asked → Holds (codes "run" ∷ rest) asked
+    threaded h t true hs ts e = some_none e
+    threaded h t false hs ts e = one_is (Holds (codes "run" ∷ rest)) e (by_from (text_of (codes "from") choices) h t hs ts)
+
+    drawn_so : (h t : ℕ) (from : Bool) (seed ks : Option ℕ) → (1 ≤ h) × (h ≤ most_harts) → (1 ≤ t) × (t ≤ most_turns)
+        → number_or 1 most_every (text_of (codes "every") choices) ≡ ks
+        → (if from then None else option_and_then (λ s. option_map (RunsDrawn i l h t s) ks) seed) ≡ Some asked → Holds (codes "run" ∷ rest) asked
+    drawn_so h t true seed ks hs ts k_is e = some_none e
+    drawn_so h t false None ks hs ts k_is e = some_none e
+    drawn_so h t false (Some s) None hs ts k_is e = some_none e
+    drawn_so h t false (Some s) (Some k) hs ts k_is e =
+        let within = bounded 1 most_every k (text_of (codes "every") choices) (omega arith) (omega arith) k_is in
+        one_is (Holds (codes "run" ∷ rest)) e
+        ((rest, refl), (record { some = hs.0; few = hs.1; one = ts.0; most = ts.1 }, within.0, within.1))
+
+    by_seed : (o : Option Text) (h t : ℕ) → (1 ≤ h) × (h ≤ most_harts) → (1 ≤ t) × (t ≤ most_turns) → run_by o choices i l h t ≡ Some asked
+        → Holds (codes "run" ∷ rest) asked
+    by_seed None h t hs ts e = threaded h t (is_some (text_of (codes "every") choices)) hs ts e
+    by_seed (Some seed) h t hs ts e =
+        drawn_so h t (is_some (text_of (codes "from") choices)) (seed_in seed) (number_or 1 most_every (text_of (codes "every") choices)) hs ts refl e
+
     by_harts : (hs ts : Option ℕ) → number_or 1 most_harts (text_of (codes "harts") choices) ≡ hs
         → number_or most_turns most_turns (text_of (codes "turns") choices) ≡ ts
-        → option_and_then (λ h. option_map (λ t. run_from (text_of (codes "from") choices) i l h t) ts) hs ≡ Some asked → Holds (codes "run" ∷ rest) asked
+        → option_and_then (λ h. option_and_then (λ t. run_by (text_of (codes "seed") choices) choices i l h t) ts) hs ≡ Some asked
+        → Holds (codes "run" ∷ rest) asked
     by_harts None ts h_is t_is e = some_none e
     by_harts (Some h) None h_is t_is e = some_none e
     by_harts (Some h) (Some t) h_is t_is e =
-        one_is (Holds (codes "run" ∷ rest)) e
-        (by_from (text_of (codes "from") choices) h t (bounded 1 most_harts h (text_of (codes "harts") choices) (omega arith) (omega arith) h_is)
-        (bounded most_turns most_turns t (text_of (codes "turns") choices) (omega arith) (omega arith) t_is))
+        by_seed (text_of (codes "seed") choices) h t (bounded 1 most_harts h (text_of (codes "harts") choices) (omega arith) (omega arith) h_is)
+        (bounded most_turns most_turns t (text_of (codes "turns") choices) (omega arith) (omega arith) t_is) e
 
 told : (rest values : List Text) (asked : Asked) → values ≡ unmarked rest → explain_of values ≡ Some asked → Holds (codes "explain" ∷ rest) asked
 told rest [] asked same e =

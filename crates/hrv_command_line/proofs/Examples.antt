@@ -13,11 +13,11 @@ use Rattle.clap.specs.ValueTests.{accepts}
 use Rattle.clap.specs.Words.{Text}
 use Rattle.clap.specs.declared.builder.value_parser.ValueParser.TheVariants.{Unsigned}
 use Rattle.hrv_command_line.specs.CommandLine.{Asked, Assembles, Blames, Compiles, Debugs, Draws, Explains, Given, IsPlainWord, Lists, ListsAddresses, MakesLog, Maps}
-use Rattle.hrv_command_line.specs.CommandLine.{PrintsLog, Renews, Replays, Resumes, Runs, TellsVersion, asked_of, choose, further, if_known, named, nothing_given, number_or, printed_in}
-use Rattle.hrv_command_line.specs.CommandLine.{read, text_of, with_choice, with_values}
-use Rattle.hrv_command_line.specs.Commands.{most_harts, most_turns}
+use Rattle.hrv_command_line.specs.CommandLine.{PrintsLog, Renews, Replays, Resumes, Runs, RunsDrawn, TellsVersion, asked_of, choose, further, if_known, named, nothing_given, number_or, printed_in}
+use Rattle.hrv_command_line.specs.CommandLine.{read, seed_in, text_of, with_choice, with_values}
+use Rattle.hrv_command_line.specs.Commands.{most_every, most_harts, most_seed, most_turns}
 use Rattle.hrv_command_line.specs.declared.table.OptionKind.{OptionKind}
-use Rattle.hrv_command_line.specs.declared.table.OptionKind.TheVariants.{Flag, Harts, Turns, Word}
+use Rattle.hrv_command_line.specs.declared.table.OptionKind.TheVariants.{Every, Flag, Harts, Seed, Turns, Word}
 use Rattle.hrv_command_line.proofs.Spelling.{chooses, gives, some_none}
 
 abbrev Choices : Type 0
@@ -220,7 +220,7 @@ address_blame image log address i l plain =
 -- ---- runs
 
 abbrev running : Choices
-running = (codes "harts", Harts) ∷ (codes "turns", Turns) ∷ (codes "from", Word) ∷ []
+running = (codes "harts", Harts) ∷ (codes "turns", Turns) ∷ (codes "from", Word) ∷ (codes "seed", Seed) ∷ (codes "every", Every) ∷ []
 
 pub plain_run : (image log : Text) → IsPlainWord image → IsPlainWord log → named (codes "run" ∷ image ∷ log ∷ []) ≡ Some (Runs image log 1 most_turns)
 plain_run image log i l = ap (asks (codes "run")) (all_on running (image ∷ log ∷ []) nothing_given (i, (l, tt)))
@@ -257,4 +257,37 @@ options_run image log harts turns h t i l hs ts =
     ap (asks (codes "run")) (files_on running image log (codes "--harts" ∷ harts ∷ codes "--turns" ∷ turns ∷ []) i l
     ∙ text_on running (codes "harts") harts (codes "--turns" ∷ turns ∷ []) given (number_plain 1 most_harts h harts hs)
     ∙ text_on running (codes "turns") turns [] (with_choice given (codes "harts") harts) (number_plain 1 most_turns t turns ts))
-    ∙ ap₂ (λ a b. option_and_then (λ x. option_map (λ y. Runs image log x y) b) a) hs ts
+    ∙ ap₂ (λ a b. option_and_then (λ x. option_and_then (λ y. Some (Runs image log x y)) b) a) hs ts
+
+-- a seed's text is a plain word
+seed_plain : (s : ℕ) (text : Text) → seed_in text ≡ Some s → IsPlainWord text
+seed_plain s [] e = tt
+seed_plain s (byte ∷ []) e = tt
+seed_plain s (byte ∷ next ∷ rest) e = λ hyphen. accepted hyphen (accepts false (Unsigned 0 most_seed) (byte ∷ next ∷ rest)) refl e
+  where
+    accepted : byte ≡ 45 → (b : Bool) → accepts false (Unsigned 0 most_seed) (byte ∷ next ∷ rest) ≡ b → (if b then Some (digits_value 10 (without_leading_plus (byte ∷ next ∷ rest))) else None) ≡ Some s → ⊥
+    accepted hyphen false is e = some_none e
+    accepted hyphen true is e =
+        let fits = accepts-Accepts false (Unsigned 0 most_seed) (45 ∷ next ∷ rest) (subst (λ b. accepts false (Unsigned 0 most_seed) (b ∷ next ∷ rest) ≡ true) hyphen is) in
+        let digit : digit_value 45 < 10 = fits.0.1.0 in
+        absurd (omega arith)
+
+pub drawn_plain : (image log seed : Text) (s : ℕ) → IsPlainWord image → IsPlainWord log → seed_in seed ≡ Some s
+    → named (codes "run" ∷ image ∷ log ∷ codes "--seed" ∷ seed ∷ []) ≡ Some (RunsDrawn image log 1 most_turns s 1)
+unfolding read
+drawn_plain image log seed s i l is =
+    let given = with_values nothing_given (image ∷ log ∷ []) in
+    ap (asks (codes "run")) (files_on running image log (codes "--seed" ∷ seed ∷ []) i l
+    ∙ text_on running (codes "seed") seed [] given (seed_plain s seed is))
+    ∙ ap (λ o. option_and_then (λ x. Some (RunsDrawn image log 1 most_turns x 1)) o) is
+
+pub drawn_every : (image log seed every : Text) (s k : ℕ) → IsPlainWord image → IsPlainWord log → seed_in seed ≡ Some s
+    → number_or 1 most_every (Some every) ≡ Some k
+    → named (codes "run" ∷ image ∷ log ∷ codes "--seed" ∷ seed ∷ codes "--every" ∷ every ∷ []) ≡ Some (RunsDrawn image log 1 most_turns s k)
+unfolding read
+drawn_every image log seed every s k i l is ks =
+    let given = with_values nothing_given (image ∷ log ∷ []) in
+    ap (asks (codes "run")) (files_on running image log (codes "--seed" ∷ seed ∷ codes "--every" ∷ every ∷ []) i l
+    ∙ text_on running (codes "seed") seed (codes "--every" ∷ every ∷ []) given (seed_plain s seed is)
+    ∙ text_on running (codes "every") every [] (with_choice given (codes "seed") seed) (number_plain 1 most_every k every ks))
+    ∙ ap₂ (λ a b. option_and_then (λ x. option_map (RunsDrawn image log 1 most_turns x) b) a) is ks

@@ -1,11 +1,12 @@
 -- Numbers of options.
-use Rattle.std.proofs.Common.{◌≡◌, ◌≤◌, ◌<◌, ◌^◌, ℕ, Bool, true, false, refl, ap, subst, Some, None}
+use Rattle.std.proofs.Common.{◌≡◌, ◌≤◌, ◌<◌, ◌^◌, ℕ, Bool, true, false, refl, ap, subst, arith, Some, None}
 use Rattle.std.specs.Str.Parse.{IsNumeral, digits_value, without_leading_plus}
 use Rattle.clap.proofs.ValueTestLemmas.{Accepts-accepts, accepts-Accepts}
 use Rattle.clap.specs.ValueTests.{accepts}
 use Rattle.clap.specs.Words.{Text}
 use Rattle.clap.specs.declared.builder.value_parser.ValueParser.TheVariants.{Unsigned}
-use Rattle.hrv_command_line.specs.CommandLine.{number_or}
+use Rattle.hrv_command_line.specs.CommandLine.{number_or, seed_in}
+use Rattle.hrv_command_line.specs.Commands.{most_seed}
 
 abbrev IsRead : Text → Type 0
 IsRead text = IsNumeral 10 (without_leading_plus text) × (digits_value 10 (without_leading_plus text) < 2 ^ 64)
@@ -26,3 +27,19 @@ untaken none most text refused = go (accepts false (Unsigned 1 most) text) refl
     go : (b : Bool) → accepts false (Unsigned 1 most) text ≡ b → None ≡ number_or none most (Some text)
     go false is = rw (is) refl
     go true is = let fits = accepts-Accepts false (Unsigned 1 most) text is in absurd (refused (fits.0, fits.1))
+
+-- a seed that is one is taken
+pub seed_taken : (seed : ℕ) (text : Text) → IsRead text → seed ≡ digits_value 10 (without_leading_plus text) → Some seed ≡ seed_in text
+seed_taken seed text read is =
+    let fits = read.1 in
+    let accepted : accepts false (Unsigned 0 most_seed) text ≡ true =
+        Accepts-accepts false (Unsigned 0 most_seed) text (read.0, read.1, omega arith, omega (arith, fits)) in
+    rw (accepted) (ap (λ n. Some n) is)
+
+-- what is no number isn't
+pub seed_untaken : (text : Text) → (IsRead text → ⊥) → None ≡ seed_in text
+seed_untaken text refused = go (accepts false (Unsigned 0 most_seed) text) refl
+  where
+    go : (b : Bool) → accepts false (Unsigned 0 most_seed) text ≡ b → None ≡ seed_in text
+    go false is = rw (is) refl
+    go true is = let fits = accepts-Accepts false (Unsigned 0 most_seed) text is in absurd (refused (fits.0, fits.1))

@@ -5,11 +5,11 @@ use Rattle.clap.specs.declared.builder.command.Command.{Command}
 use Rattle.clap.specs.declared.error.Error.{Error}
 use Rattle.clap.specs.declared.error.ErrorKind.{ErrorKind}
 use Rattle.clap.specs.declared.error.ErrorKind.TheVariants.{OutOfMemory}
-use Rattle.hrv_command_line.specs.CommandLine.{IsRefusal}
+use Rattle.hrv_command_line.specs.CommandLine.{IsRefusal, fault_beyond}
 use Rattle.hrv_command_line.specs.Commands.{Makes, hrv_app}
 use Rattle.hrv_command_line.specs.Faults.{fault_for}
 use Rattle.hrv_command_line.specs.declared.faults.CommandLineFault.{CommandLineFault}
-use Rattle.hrv_command_line.specs.declared.faults.CommandLineFault.TheVariants.{Memory, Refused, Unexplained}
+use Rattle.hrv_command_line.specs.declared.faults.CommandLineFault.TheVariants.{Memory, Refused}
 
 free : (program : Command) → Makes hrv_app program → is_simple_and_free (app_of program) ≡ true
 free program made = ap is_simple_and_free made.app
@@ -32,7 +32,7 @@ refused program words error fault made kinds is = go (subst (λ (a : App). HasKi
     ]
 
 -- `clap` finds nothing
-pub unexplained : (program : Command) (words : List Text) → Makes hrv_app program
-    → (is_simple_and_free (app_of program) ≡ true → fault_of (app_of program) words ≡ []) → IsRefusal words Unexplained
-unexplained program words made none =
-    inr (inr (refl, subst (λ (a : App). fault_of a words ≡ []) made.app (none (free program made))))
+pub beyond : (program : Command) (words : List Text) (fault : CommandLineFault) → Makes hrv_app program
+    → (is_simple_and_free (app_of program) ≡ true → fault_of (app_of program) words ≡ []) → fault ≡ fault_beyond words → IsRefusal words fault
+beyond program words fault made none is =
+    inr (inr (is, subst (λ (a : App). fault_of a words ≡ []) made.app (none (free program made))))

@@ -10,12 +10,12 @@ use Rattle.clap.specs.Words.{IsAmong, Text, fault_of, kind_of}
 use Rattle.clap.specs.ValueTests.{accepts}
 use Rattle.clap.specs.declared.builder.value_parser.ValueParser.TheVariants.{Unsigned}
 use Rattle.clap.specs.declared.error.Error.{Error}
-use Rattle.hrv_command_line.specs.Commands.{Shape, commands, hrv_app, most_harts, most_turns}
+use Rattle.hrv_command_line.specs.Commands.{Shape, commands, hrv_app, most_every, most_harts, most_seed, most_turns}
 use Rattle.hrv_command_line.specs.declared.command_lines.Invocation.{Invocation}
 use Rattle.hrv_command_line.specs.declared.command_lines.Invocation.TheVariants.{Asm, Blame, Compile, Debug, Dis, DisAddresses, Explain, MakeLog, Map, Picture, PrintLog}
-use Rattle.hrv_command_line.specs.declared.command_lines.Invocation.TheVariants.{Renew, Replay, Resume, Run, Version}
+use Rattle.hrv_command_line.specs.declared.command_lines.Invocation.TheVariants.{Renew, Replay, Resume, Run, RunDrawn, Version}
 use Rattle.hrv_command_line.specs.declared.faults.CommandLineFault.{CommandLineFault}
-use Rattle.hrv_command_line.specs.declared.faults.CommandLineFault.TheVariants.{Refused, Memory, Unexplained}
+use Rattle.hrv_command_line.specs.declared.faults.CommandLineFault.TheVariants.{Refused, Memory, Uncombined, Unexplained}
 use Rattle.hrv_command_line.specs.declared.table.OptionKind.{OptionKind}
 use Rattle.hrv_command_line.specs.declared.table.OptionKind.TheVariants.{Flag}
 
@@ -26,6 +26,7 @@ pub data Asked : Type 0 where
   Maps : (algorithm schedule : List ℕ) → Asked
   Runs : (image log : List ℕ) → (harts turns : ℕ) → Asked
   Resumes : (image log old : List ℕ) → (turns : ℕ) → Asked
+  RunsDrawn : (image log : List ℕ) → (harts turns seed every : ℕ) → Asked
   Replays : (image log : List ℕ) → Asked
   Debugs : (image log : List ℕ) → Asked
   Blames : (image log : List ℕ) → (x y address : Option (List ℕ)) → (with_turns : Bool) → Asked
@@ -44,6 +45,7 @@ asked_by (Compile algorithm schedule image inputs) = Compiles algorithm.now sche
 asked_by (Map algorithm schedule) = Maps algorithm.now schedule.now
 asked_by (Run image log harts turns) = Runs image.now log.now harts turns
 asked_by (Resume image log old turns) = Resumes image.now log.now old.now turns
+asked_by (RunDrawn image log draws) = RunsDrawn image.now log.now draws.harts draws.turns draws.seed draws.every
 asked_by (Replay image log) = Replays image.now log.now
 asked_by (Debug image log) = Debugs image.now log.now
 asked_by (Blame image log words) =
@@ -67,6 +69,7 @@ pub record AreWithinLimits (harts turns : ℕ) : Type 0 where
 abbrev pub IsWithinLimits : Asked → Type 0
 IsWithinLimits (Runs image log harts turns) = AreWithinLimits harts turns
 IsWithinLimits (Resumes image log old turns) = (1 ≤ turns) × (turns ≤ 2 ^ 40)
+IsWithinLimits (RunsDrawn image log harts turns seed every) = AreWithinLimits harts turns × (1 ≤ every) × (every ≤ 4096)
 IsWithinLimits _ = Unit {0}
 
 -- ---- words after a command's name
@@ -171,10 +174,22 @@ abbrev pub run_from : Option Text → Text → Text → ℕ → ℕ → Asked
 run_from None image log harts turns = Runs image log harts turns
 run_from (Some old) image log harts turns = Resumes image log old turns
 
+-- the seed that an option's text means
+abbrev pub seed_in : Text → Option ℕ
+seed_in text = if accepts false (Unsigned 0 most_seed) text then Some (digits_value 10 (without_leading_plus text)) else None
+
+-- Turns are drawn where a seed is given, from the image's start; else the threads say which come next, and how many at once.
+abbrev pub run_by : Option Text → List (Text × Text) → Text → Text → ℕ → ℕ → Option Asked
+run_by None choices image log harts turns =
+    if is_some (text_of (codes "every") choices) then None else Some (run_from (text_of (codes "from") choices) image log harts turns)
+run_by (Some seed) choices image log harts turns =
+    if is_some (text_of (codes "from") choices) then None
+    else option_and_then (λ s. option_map (RunsDrawn image log harts turns s) (number_or 1 most_every (text_of (codes "every") choices))) (seed_in seed)
+
 -- one hart, and all turns that a log may have, where no option says another number
 abbrev pub run_of : List (Text × Text) → List Text → Option Asked
 run_of choices (image ∷ log ∷ []) =
-    option_and_then (λ harts. option_map (λ turns. run_from (text_of (codes "from") choices) image log harts turns)
+    option_and_then (λ harts. option_and_then (λ turns. run_by (text_of (codes "seed") choices) choices image log harts turns)
     (number_or most_turns most_turns (text_of (codes "turns") choices)))
     (number_or 1 most_harts (text_of (codes "harts") choices))
 run_of choices _ = None
@@ -275,11 +290,16 @@ is_version_flag _ = false
 abbrev pub named : List Text → Option Asked
 named words = if is_version_flag words then Some TellsVersion else named_in words
 
--- Memory was refused, the error is of a kind that `clap` finds in the words, or it finds none: then there is no refusal of this family and code.
+-- why words name nothing that `clap` finds nothing in: options of a run that don't go together, or no refusal of a family and a code
+abbrev pub fault_beyond : List Text → CommandLineFault
+fault_beyond [] = Unexplained
+fault_beyond (name ∷ words) = if bytes_eq name (codes "run") then Uncombined else Unexplained
+
+-- Memory was refused, or the error is of a kind that `clap` finds in the words, or it finds none.
 abbrev pub IsRefusal : List Text → CommandLineFault → Type 0
 IsRefusal words fault = (fault ≡ Memory)
     ⊎ ((error : Error) × (fault ≡ Refused error) × IsAmong (kind_of error) (fault_of hrv_app words))
-    ⊎ ((fault ≡ Unexplained) × (fault_of hrv_app words ≡ []))
+    ⊎ ((fault ≡ fault_beyond words) × (fault_of hrv_app words ≡ []))
 
 -- ---- the same in plain words
 
@@ -311,3 +331,4 @@ IsSpelled words (Blames image log x y address with_turns) = (rest : List Text) �
 IsSpelled words (ListsAddresses image) = (rest : List Text) × (words ≡ codes "dis" ∷ rest)
 IsSpelled words (Runs image log harts turns) = (rest : List Text) × (words ≡ codes "run" ∷ rest)
 IsSpelled words (Resumes image log old turns) = (rest : List Text) × (words ≡ codes "run" ∷ rest)
+IsSpelled words (RunsDrawn image log harts turns seed every) = (rest : List Text) × (words ≡ codes "run" ∷ rest)

@@ -9,7 +9,7 @@ use Rattle.clap.specs.declared.builder.command.Command.TheViews.{out-Command}
 use Rattle.clap.specs.declared.builder.value_parser.ValueParser.TheVariants.{Unsigned}
 use Rattle.hrv_command_line.specs.declared.table.Choice.{Choice}
 use Rattle.hrv_command_line.specs.declared.table.OptionKind.{OptionKind}
-use Rattle.hrv_command_line.specs.declared.table.OptionKind.TheVariants.{Flag, Harts, Turns, Word}
+use Rattle.hrv_command_line.specs.declared.table.OptionKind.TheVariants.{Every, Flag, Harts, Seed, Turns, Word}
 use Rattle.hrv_command_line.specs.declared.table.ValueCount.{ValueCount}
 use Rattle.hrv_command_line.specs.declared.table.ValueCount.TheVariants.{Always, AnyNumber, Perhaps}
 use Rattle.hrv_command_line.specs.declared.table.CommandRow as code
@@ -17,12 +17,18 @@ use Rattle.hrv_command_line.specs.declared.table.Value.{Value}
 
 -- ---- the table
 
--- how many harts a run may have, and how many turns each
+-- how many harts a run may have, how many turns each, and how many of these at once where they are drawn; and the greatest seed
 abbrev pub most_harts : ℕ
 most_harts = 8
 
 abbrev pub most_turns : ℕ
 most_turns = 1099511627776
+
+abbrev pub most_every : ℕ
+most_every = 4096
+
+abbrev pub most_seed : ℕ
+most_seed = 18446744073709551615
 
 -- a command by its name, with its values in their order, and its options
 pub record Shape : Type 0 where
@@ -42,7 +48,7 @@ commands =
     ∷ (record {
       name = codes "run";
       values = (codes "IMAGE", Always) ∷ (codes "LOG", Always) ∷ [];
-      choices = (codes "harts", Harts) ∷ (codes "turns", Turns) ∷ (codes "from", Word) ∷ [];
+      choices = (codes "harts", Harts) ∷ (codes "turns", Turns) ∷ (codes "from", Word) ∷ (codes "seed", Seed) ∷ (codes "every", Every) ∷ [];
     })
     ∷ (record { name = codes "replay"; values = (codes "IMAGE", Always) ∷ (codes "LOG", Always) ∷ []; choices = [] })
     ∷ (record { name = codes "debug"; values = (codes "IMAGE", Always) ∷ (codes "LOG", Always) ∷ []; choices = [] })
@@ -81,6 +87,8 @@ choice_rule (name, Flag) = record (new_rule name) { long = Some name; action = S
 choice_rule (name, Word) = record (new_rule name) { long = Some name; value_names = 1 }
 choice_rule (name, Harts) = record (new_rule name) { long = Some name; value_names = 1; parser = Some (Unsigned 1 most_harts) }
 choice_rule (name, Turns) = record (new_rule name) { long = Some name; value_names = 1; parser = Some (Unsigned 1 most_turns) }
+choice_rule (name, Seed) = record (new_rule name) { long = Some name; value_names = 1; parser = Some (Unsigned 0 most_seed) }
+choice_rule (name, Every) = record (new_rule name) { long = Some name; value_names = 1; parser = Some (Unsigned 1 most_every) }
 
 abbrev pub with_value : App → Text × ValueCount → App
 with_value app value = with_rule app (value_rule value)

@@ -5,7 +5,7 @@ use Rattle.clap.specs.declared.error.Error.{Error}
 use Rattle.clap.specs.declared.error.kind.ErrorKind.{ErrorKind}
 use Rattle.clap.specs.declared.error.kind.ErrorKind.TheVariants as kinds
 use Rattle.hrv_command_line.specs.declared.faults.CommandLineFault.{CommandLineFault}
-use Rattle.hrv_command_line.specs.declared.faults.CommandLineFault.TheVariants.{Refused, NotText, Unexplained, Memory}
+use Rattle.hrv_command_line.specs.declared.faults.CommandLineFault.TheVariants.{Refused, NotText, Uncombined, Unexplained, Memory}
 
 -- an error of clap: want of memory is a fault of its own
 abbrev pub fault_for : ErrorKind → Error → CommandLineFault
@@ -16,5 +16,6 @@ fault_for _ error = Refused error
 abbrev pub status_of : CommandLineFault → ℕ
 status_of (Refused error) = 2
 status_of NotText = 2
+status_of Uncombined = 2
 status_of Unexplained = 2
 status_of Memory = 1

@@ -1,5 +1,5 @@
 //! What each command is asked for by its values and options.
-ghost use Rattle.std.specs.Prelude.{◌≡◌, ◌∷◌, ℕ, map, option_map, IfOk, Some};
+ghost use Rattle.std.specs.Prelude.{◌≡◌, ◌∷◌, ℕ, map, option_map, IfOk, None, Some};
 ghost use Rattle.clap.specs.Walk.{texts};
 ghost use Rattle.hrv_command_line.specs.CommandLine.{asked_by, asked_of, blame_of, compile_of, dis_of, explain_of};
 ghost use Rattle.hrv_command_line.specs.CommandLine.{family_in, files_of, listing_of, number_or, picture_of};
@@ -7,7 +7,7 @@ ghost use Rattle.hrv_command_line.specs.CommandLine as spec;
 ghost use Rattle.hrv_command_line.specs.CommandLine.{printed_in, refusal_in, run_from, run_of};
 ghost use Rattle.hrv_command_line.specs.inner.Readings.{chosen_of};
 
-use crate::command_lines::{BlameArguments, Invocation};
+use crate::command_lines::{BlameArguments, DrawArguments, Invocation};
 use crate::reading::{Chosen, text_of};
 use hrv_refusals::is_explained;
 use std::alloc::{AllocError, Global};
@@ -99,9 +99,65 @@ fn run_asked<'a>(values: &[&'a str], choices: &[Chosen<'a>]) -> Option<Invocatio
         [image, log] => {
             let harts = number_of("harts", choices, 1, MOST_HARTS)?;
             let turns = number_of("turns", choices, MOST_TURNS, MOST_TURNS)?;
-            Some(run_from(text_of("from", choices), image, log, harts, turns))
+            match text_of("seed", choices) {
+                None => threaded_asked(choices, image, log, harts, turns),
+                Some(seed) => drawn_asked(seed, choices, image, log, harts, turns),
+            }
         }
         _ => None,
+    }
+}
+
+// A run whose threads say which turns come next, and how many at once.
+fn threaded_asked<'a>(
+    choices: &[Chosen<'a>],
+    image: &'a str,
+    log: &'a str,
+    harts: u64,
+    turns: u64,
+) -> Option<Invocation<'a>>
+    ensures { option_map asked_by result
+        ≡ spec.run_by None (map chosen_of choices.now) image.entry.now log.entry.now harts turns }
+{
+    if text_of("every", choices).is_some() {
+        return None;
+    }
+    Some(run_from(text_of("from", choices), image, log, harts, turns))
+}
+
+// A run whose turns are drawn, from the image's start.
+fn drawn_asked<'a>(
+    seed: &str,
+    choices: &[Chosen<'a>],
+    image: &'a str,
+    log: &'a str,
+    harts: u64,
+    turns: u64,
+) -> Option<Invocation<'a>>
+    ensures { option_map asked_by result
+        ≡ spec.run_by (Some seed.now) (map chosen_of choices.now) image.entry.now log.entry.now harts turns }
+{
+    if text_of("from", choices).is_some() {
+        return None;
+    }
+    let seed = seed_in(seed)?;
+    let every = number_of("every", choices, 1, MOST_EVERY)?;
+    let draws = DrawArguments {
+        harts,
+        turns,
+        seed,
+        every,
+    };
+    Some(Invocation::RunDrawn { image, log, draws })
+}
+
+// The seed that a text means.
+fn seed_in(text: &str) -> Option<u64>
+    ensures { result ≡ spec.seed_in text.now }
+{
+    match text.parse::<u64>() {
+        Ok(seed) => Some(seed),
+        Err(_) => None,
     }
 }
 
@@ -136,6 +192,9 @@ const MOST_HARTS: u64 = 8;
 
 // How many turns a hart has at most in a log.
 const MOST_TURNS: u64 = 1 << 40;
+
+// How many turns a hart makes at most each time it is drawn.
+const MOST_EVERY: u64 = 4096;
 
 // The number of an option, from 1 to the greatest one; or the one that stands for none.
 fn number_of(name: &str, choices: &[Chosen<'_>], none: u64, most: u64) -> Option<u64>

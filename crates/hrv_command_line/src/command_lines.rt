@@ -23,6 +23,15 @@ pub struct BlameArguments<'a> {
     pub with_turns: bool,
 }
 
+/// How many harts make at most how many turns each, and how turns are drawn: from a seed, so many at once at most.
+#[derive(Clone, Copy, Debug)]
+pub struct DrawArguments {
+    pub harts: u64,
+    pub turns: u64,
+    pub seed: u64,
+    pub every: u64,
+}
+
 /// What the words of a command line ask for.
 #[derive(Debug, Drop)]
 pub enum Invocation<'a> {
@@ -100,6 +109,12 @@ pub enum Invocation<'a> {
         old: &'a str,
         turns: u64,
     },
+    /// `run IMAGE LOG --harts N --turns L --seed S --every K`
+    RunDrawn {
+        image: &'a str,
+        log: &'a str,
+        draws: DrawArguments,
+    },
     /// `explain FAMILY [CODE]`; a code that isn't given is empty.
     Explain {
         family: &'a str,
@@ -149,7 +164,7 @@ fn is_version_flag(words: &[&str]) -> bool
     }
 }
 
-// Why these words name nothing, as `clap` says it: where it has no word against them, there is no such refusal.
+// Why these words name nothing, as `clap` says it, where it has a word against them.
 #[inline(never)]
 fn refusal(alloc: Global, words: &[&str]) -> CommandLineFault
     ensures { IsRefusal (texts words.now) result }
@@ -158,8 +173,24 @@ fn refusal(alloc: Global, words: &[&str]) -> CommandLineFault
         Err(fault) => CommandLineFault::from(fault),
         Ok(program) => match program.try_get_matches_from(words) {
             Err(error) => CommandLineFault::from(error),
-            Ok(_) => CommandLineFault::Unexplained,
+            Ok(_) => fault_beyond(words),
         },
+    }
+}
+
+// Why words name nothing that `clap` has no word against.
+fn fault_beyond(words: &[&str]) -> CommandLineFault
+    ensures { result ≡ spec.fault_beyond (texts words.now) }
+{
+    match words {
+        [] => CommandLineFault::Unexplained,
+        [name, ..] => {
+            if *name == "run" {
+                CommandLineFault::Uncombined
+            } else {
+                CommandLineFault::Unexplained
+            }
+        }
     }
 }
 

@@ -15,6 +15,9 @@ pub enum CommandLineFault {
     /// A word isn't text.
     #[error("error: a word of the command line is not UTF-8")]
     NotText,
+    /// Options of a run don't go together.
+    #[error("error: --every goes with --seed, and --seed not with --from")]
+    Uncombined,
     /// There is no refusal of the family and the code that are to be explained.
     #[error("error: no refusal has this family and this code")]
     Unexplained,

@@ -5,9 +5,9 @@ ghost use Rattle.std.specs.Str.{bytes_eq};
 ghost use Rattle.clap.specs.Lexer.{usize_max};
 ghost use Rattle.hrv_command_line.specs.CommandLine.{Asked, Assembles, Blames, Compiles, Debugs, Draws, Explains};
 ghost use Rattle.hrv_command_line.specs.CommandLine.{IsPlainWord, IsSpelled, Lists, ListsAddresses, MakesLog, Maps};
-ghost use Rattle.hrv_command_line.specs.CommandLine.{PrintsLog, Renews, Replays, Resumes, Runs, TellsVersion};
-ghost use Rattle.hrv_command_line.specs.CommandLine.{named, number_or};
-ghost use Rattle.hrv_command_line.specs.Commands.{most_harts, most_turns};
+ghost use Rattle.hrv_command_line.specs.CommandLine.{PrintsLog, Renews, Replays, Resumes, Runs, RunsDrawn};
+ghost use Rattle.hrv_command_line.specs.CommandLine.{TellsVersion, named, number_or, seed_in};
+ghost use Rattle.hrv_command_line.specs.Commands.{most_every, most_harts, most_turns};
 ghost use Rattle.hrv_refusals.specs.Explanations.{is_explained};
 
 /// Which words name a replay: `replay` and two names, after `--` where one begins with `-`.
@@ -136,7 +136,7 @@ pub fn compile_is_named()
 {}
 
 /// Which words name a run: `run` and two names, after `--` where one begins with `-`; with options after them, whose
-/// texts are numbers within the limits; or with the log that it goes on from.
+/// texts are numbers within the limits; with the log that it goes on from; or with a seed.
 pub fn run_is_named()
     ensures plain { (image log : List ℕ) → IsPlainWord image → IsPlainWord log
         → named (codes "run" ∷ image ∷ log ∷ []) ≡ Some (Runs image log 1 most_turns) }
@@ -148,4 +148,10 @@ pub fn run_is_named()
         ≡ Some (Runs image log h t) }
     ensures resumed { (image log old : List ℕ) → IsPlainWord image → IsPlainWord log → IsPlainWord old
         → named (codes "run" ∷ image ∷ log ∷ codes "--from" ∷ old ∷ []) ≡ Some (Resumes image log old most_turns) }
+    ensures drawn { (image log seed : List ℕ) (s : ℕ) → IsPlainWord image → IsPlainWord log → seed_in seed ≡ Some s
+        → named (codes "run" ∷ image ∷ log ∷ codes "--seed" ∷ seed ∷ []) ≡ Some (RunsDrawn image log 1 most_turns s 1) }
+    ensures drawn_by { (image log seed every : List ℕ) (s k : ℕ) → IsPlainWord image → IsPlainWord log
+        → seed_in seed ≡ Some s → number_or 1 most_every (Some every) ≡ Some k
+        → named (codes "run" ∷ image ∷ log ∷ codes "--seed" ∷ seed ∷ codes "--every" ∷ every ∷ [])
+        ≡ Some (RunsDrawn image log 1 most_turns s k) }
 {}

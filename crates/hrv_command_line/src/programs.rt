@@ -161,5 +161,11 @@ fn choice_arg<'a>(alloc: Global, choice: &Choice<'static>) -> Arg<'a>
         OptionKind::Turns => arg
             .value_name(choice.text)
             .value_parser(clap::value_parser!(u64).range(1..=1_099_511_627_776)),
+        OptionKind::Seed => arg
+            .value_name(choice.text)
+            .value_parser(clap::value_parser!(u64)),
+        OptionKind::Every => arg
+            .value_name(choice.text)
+            .value_parser(clap::value_parser!(u64).range(1..=4096)),
     }
 }

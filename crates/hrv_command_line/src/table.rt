@@ -25,6 +25,10 @@ pub enum OptionKind {
     Harts,
     /// A number of turns.
     Turns,
+    /// A seed.
+    Seed,
+    /// A number of turns that one hart makes at once.
+    Every,
 }
 
 /// A value, named by its place after the command's name.
@@ -138,6 +142,18 @@ const ROWS: [CommandRow<'static>; 13] = [
                 kind: OptionKind::Word,
                 text: "OLD",
                 help: "The log that the run goes on from, with as many harts as that log has",
+            },
+            Choice {
+                name: "seed",
+                kind: OptionKind::Seed,
+                text: "S",
+                help: "Draws which hart makes turns, the same for one S, 0 to 18446744073709551615; not with --from",
+            },
+            Choice {
+                name: "every",
+                kind: OptionKind::Every,
+                text: "K",
+                help: "How many turns a hart makes at most each time it is drawn, 1 to 4096: one where it isn't given",
             },
         ],
     },

@@ -2,6 +2,7 @@ mod Telling
 pub mod AlgorithmFronts
 pub mod Compilations
 pub mod Drawings
+pub mod DrawnRuns
 pub mod ImageFronts
 pub mod LastTold
 pub mod LogFronts

@@ -7,6 +7,7 @@ pub mod Debug
 pub mod Devices
 pub mod Dis
 pub mod Drawing
+pub mod Drawn
 pub mod Dump
 pub mod Engine
 pub mod Faults

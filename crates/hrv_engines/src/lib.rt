@@ -7,6 +7,7 @@
 //! - [`replay`]: an image and a log of turns become a dump; [`replay_bytes`], over `specs/Replay.antt` and `Dump.antt`.
 //! - [`run`]: an image becomes a log of turns that threads made, and a dump; [`run_bytes`], and [`resume_bytes`] where
 //!   a log goes on, over `specs/Run.antt`; both by [`Resources`].
+//! - [`drawn`]: the same by one thread and a seed; [`run_drawn_bytes`], over `specs/Drawn.antt`, by [`DrawRules`].
 //! - [`debug`]: an image, a log of turns and lines of commands become a talk; [`debug_bytes`], over `specs/Debug.antt`
 //!   and `Talk.antt`.
 //! - [`blame`]: an image, a log of turns and a question become the answer who wrote data; [`blame_bytes`], over
@@ -38,6 +39,7 @@ mod debug;
 pub mod devices;
 mod dis;
 mod drawing;
+mod drawn;
 mod dumps;
 pub mod explain;
 pub mod faults;
@@ -59,6 +61,7 @@ pub use crate::debug::debug_bytes;
 pub use crate::devices::{Sink, Source};
 pub use crate::dis::{dis_addresses_bytes, dis_bytes};
 pub use crate::drawing::picture_bytes;
+pub use crate::drawn::run_drawn_bytes;
 pub use crate::explain::{explain_bytes, version_bytes};
 pub use crate::faults::{Fault, Refusal};
 pub use crate::logs::{make_log_bytes, print_log_bytes};
@@ -67,3 +70,4 @@ pub use crate::questions::{BlameFault, Question};
 pub use crate::renew::renew_bytes;
 pub use crate::replay::replay_bytes;
 pub use crate::run::{Resources, resume_bytes, run_bytes};
+pub use drawn_runs::DrawRules;

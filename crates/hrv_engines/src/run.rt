@@ -147,7 +147,7 @@ fn run_from<R: Threads + Wait + Sync>(
 }
 
 /// Writes the bytes of a log, and then a text.
-fn write_both<L: Sink, O: Sink>(
+pub(crate) fn write_both<L: Sink, O: Sink>(
     alloc: Global,
     log: &mut L,
     out: &mut O,

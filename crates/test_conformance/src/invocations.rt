@@ -85,6 +85,14 @@ fn push_asked(invocation: &Invocation, out: &mut String) -> Result<(), AllocErro
             old,
             turns,
         } => writeln!(out, "run of {image} from {old} to {log} of {turns} turns"),
+        Invocation::RunDrawn { image, log, draws } => writeln!(
+            out,
+            "run of {image} to {log} by {} harts of {} turns drawn from {} by {}",
+            draws.harts,
+            draws.turns,
+            draws.seed,
+            draws.every
+        ),
         Invocation::Explain { family, code } => writeln!(out, "explain {family} {code}"),
         Invocation::Version => writeln!(out, "version"),
     }

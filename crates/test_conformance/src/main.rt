@@ -32,6 +32,7 @@
 //! | `blame` | `image`, `log`; `words`: those after the files, one each line | who wrote what is asked about |
 //! | `run` | `image`; `turns`: how many a hart makes at most | the log of one hart, in hexadecimal, and the dump |
 //! | `resume` | `image`, `log`; `turns` | the same, from where a log of one hart ends |
+//! | `drawn` | `image`, `harts`, `turns`, `seed`, `every` | the same of a run of harts whose turns a seed draws |
 //! | `compile` | `algorithm`, `schedule`, any number of `picture` | the image but for its words, one hart's picture |
 //! | `cut` | as `compile` | whether each write that fails leaves what was written before it |
 //! | `map` | `algorithm`, `schedule` | the map, but for where code lies |
@@ -82,7 +83,7 @@ use crate::commands::{
 use crate::compilations::{push_accesses, push_compilation, push_cuts, push_map};
 use crate::failures::CaseFailure;
 use crate::invocations::push_invocation;
-use crate::runs::{push_resumption, push_run};
+use crate::runs::{push_drawn, push_resumption, push_run};
 use crate::schedules::push_schedule;
 use crate::threads::{push_rejoined, push_shared, push_threads};
 use crate::turns::push_changes;
@@ -155,6 +156,7 @@ fn push_answer(
         "blame" => push_blame(alloc, parts, out),
         "run" => push_run(rt, alloc, parts, out),
         "resume" => push_resumption(rt, alloc, parts, out),
+        "drawn" => push_drawn(alloc, parts, out),
         "compile" => push_compilation(alloc, parts, out),
         "cut" => push_cuts(alloc, parts, out),
         "map" => push_map(alloc, parts, out),

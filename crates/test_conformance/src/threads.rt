@@ -144,7 +144,7 @@ fn push_end(line: &str, out: &mut String) -> Result<(), AllocError> {
 }
 
 /// How many harts are to run.
-fn harts_of(lines: &str) -> Result<usize, CaseFailure>
+pub fn harts_of(lines: &str) -> Result<usize, CaseFailure>
     ensures some { IfOk result (λ harts. 1 ≤ harts) }
     ensures few { IfOk result (λ harts. harts ≤ 8) }
 {

@@ -4,9 +4,9 @@ ghost use Rattle.std.specs.Prelude.{◌≡◌};
 
 use crate::{Page, Tape, empty_page, tape_of};
 use hrv_engines::{
-    Fault, Question, Resources, asm_bytes, blame_bytes, compile_bytes, debug_bytes,
+    DrawRules, Fault, Question, Resources, asm_bytes, blame_bytes, compile_bytes, debug_bytes,
     dis_addresses_bytes, dis_bytes, make_log_bytes, map_bytes, picture_bytes, print_log_bytes,
-    renew_bytes, replay_bytes, resume_bytes, run_bytes,
+    renew_bytes, replay_bytes, resume_bytes, run_bytes, run_drawn_bytes,
 };
 use std::alloc::{AllocError, Global};
 use std::sync::Wait;
@@ -33,6 +33,13 @@ const RUNS: &[u8] = b"harts 2\n0 3\n1 4\n0 1\n";
 /// How many turns a run makes at most.
 const TURNS: u64 = 10_000;
 
+/// How the turns of a drawn run are drawn.
+const RULES: DrawRules = DrawRules {
+    seed: 1,
+    every: 16,
+    limit: TURNS,
+};
+
 /// A command of the program.
 #[derive(Clone, Copy, Debug)]
 pub enum TestedCommand {
@@ -43,6 +50,7 @@ pub enum TestedCommand {
     ListAddresses,
     Run,
     Resume,
+    RunDrawn,
     Replay,
     Debug,
     Blame,
@@ -53,7 +61,7 @@ pub enum TestedCommand {
 }
 
 /// All commands that want memory.
-pub const COMMANDS: [TestedCommand; 14] = [
+pub const COMMANDS: [TestedCommand; 15] = [
     TestedCommand::Assemble,
     TestedCommand::Compile,
     TestedCommand::Renew,
@@ -61,6 +69,7 @@ pub const COMMANDS: [TestedCommand; 14] = [
     TestedCommand::ListAddresses,
     TestedCommand::Run,
     TestedCommand::Resume,
+    TestedCommand::RunDrawn,
     TestedCommand::Replay,
     TestedCommand::Debug,
     TestedCommand::Blame,
@@ -140,6 +149,7 @@ impl Files {
             TestedCommand::ListAddresses => dis_addresses_bytes(alloc, image, out),
             TestedCommand::Run => run_bytes(resources, image, log, out, 1, TURNS),
             TestedCommand::Resume => resume_bytes(resources, image, old, log, out, TURNS),
+            TestedCommand::RunDrawn => run_drawn_bytes(alloc, image, log, out, 2, RULES),
             TestedCommand::Replay => replay_bytes(alloc, image, old, out),
             TestedCommand::Debug => {
                 debug_bytes(alloc, image, old, &mut tape_of("lines", LINES), out)

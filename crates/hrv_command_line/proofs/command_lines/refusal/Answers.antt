@@ -1,5 +1,5 @@
 use Rattle.clap.specs.Walk.{texts}
-use Rattle.hrv_command_line.proofs.Refusing.{refused, unexplained}
+use Rattle.hrv_command_line.proofs.Refusing.{beyond, refused}
 use Rattle.hrv_command_line.proofs.command_lines.refusal.Goals as goal
 
 pub returns-in-Err-try_get_matches_from : goal.returns-in-Err-try_get_matches_from
@@ -8,4 +8,5 @@ returns-in-Err-try_get_matches_from c =
     c.in-Err-try_get_matches_from.ensures.kinds c.from-in-Err-try_get_matches_from.ensures
 
 pub returns : goal.returns
-returns c = unexplained c.in-Ok.program (texts c.args.words.now) c.in-Ok.ensures c.in-Ok-try_get_matches_from.ensures.kinds
+returns c =
+    beyond c.in-Ok.program (texts c.args.words.now) c.fault_beyond.result c.in-Ok.ensures c.in-Ok-try_get_matches_from.ensures.kinds c.fault_beyond.ensures

@@ -1,4 +1,4 @@
-use Rattle.hrv_command_line.proofs.Examples.{marked_run, options_run, plain_run, resumed_run}
+use Rattle.hrv_command_line.proofs.Examples.{drawn_every, drawn_plain, marked_run, options_run, plain_run, resumed_run}
 use Rattle.hrv_command_line.proofs.laws.run_is_named.Goals as goal
 
 pub returns-clause-plain : goal.returns-clause-plain
@@ -12,3 +12,9 @@ returns-clause-options c = options_run
 
 pub returns-clause-resumed : goal.returns-clause-resumed
 returns-clause-resumed c = resumed_run
+
+pub returns-clause-drawn : goal.returns-clause-drawn
+returns-clause-drawn c = drawn_plain
+
+pub returns-clause-drawn_by : goal.returns-clause-drawn_by
+returns-clause-drawn_by c = drawn_every
