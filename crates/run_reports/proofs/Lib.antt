@@ -1,0 +1,5 @@
+mod Adding
+mod Counting
+mod Lines
+mod Standing
+mod Straight

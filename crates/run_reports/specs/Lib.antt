@@ -1,0 +1,3 @@
+pub mod Profile
+pub mod ProfileText
+pub mod inner
