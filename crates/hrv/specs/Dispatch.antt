@@ -14,6 +14,7 @@ use Rattle.hrv_engines.specs.Drawing.{IsDrawing, IsRefusedDrawing}
 use Rattle.hrv_engines.specs.Engine.{Performs, Writes}
 use Rattle.hrv_engines.specs.Logs.{IsLogMade, IsLogPrinted, IsRefusedLog, IsRefusedLogText}
 use Rattle.hrv_engines.specs.Map.{IsMap, IsRefusedMap}
+use Rattle.hrv_engines.specs.Profile.{IsProfiled, IsRefusedProfile}
 use Rattle.hrv_engines.specs.Renew.{IsRenewal}
 use Rattle.hrv_engines.specs.Replay.{IsRefusedReplay, IsReplay}
 use Rattle.hrv_engines.specs.Run as run
@@ -21,7 +22,7 @@ use Rattle.hrv_engines.specs.Drawn.{IsDrawnRun}
 use Rattle.hrv_engines.specs.declared.explain.TheConstants.{VERSION}
 use Rattle.hrv_refusals.specs.Explanations.{explanation}
 use Rattle.hrv_command_line.specs.CommandLine.{Asked, Replays, Debugs, Blames, Assembles, Lists, ListsAddresses, Renews, Draws, Compiles, Maps, Runs, Resumes}
-use Rattle.hrv_command_line.specs.CommandLine.{Explains, MakesLog, PrintsLog, RunsDrawn, TellsVersion}
+use Rattle.hrv_command_line.specs.CommandLine.{Explains, MakesLog, PrintsLog, Profiles, RunsDrawn, TellsVersion}
 
 -- a fact of some device at this place, by its state before and after
 abbrev pub At : {S : Type 0} → (S → List ℕ) → List ℕ → (S → S → Type 0) → Type 0
@@ -73,6 +74,11 @@ module _ {R W T P : Type 0}
       At read_at image (λ s t. At read_at log (λ u v. At printed_at dash (λ o p.
       Performs (IsBlame (record { x = x; y = y; address = address; with_turns = with_turns }))
       (IsRefusedBlame (record { x = x; y = y; address = address; with_turns = with_turns }))
+      (both (image_bytes_of read_at read_failed gave ended s t) (log_bytes_of read_at read_failed gave ended u v))
+      (sink_of printed_at print_failed printed o p) result)))
+  Does alloc (Profiles image log) result =
+      At read_at image (λ s t. At read_at log (λ u v. At printed_at dash (λ o p.
+      Performs IsProfiled IsRefusedProfile
       (both (image_bytes_of read_at read_failed gave ended s t) (log_bytes_of read_at read_failed gave ended u v))
       (sink_of printed_at print_failed printed o p) result)))
   Does alloc (PrintsLog log) result =

@@ -5,7 +5,7 @@ ghost use Rattle.std.specs.List.{All};
 ghost use Rattle.clap.specs.Walk.{texts};
 ghost use Rattle.hrv_command_line.specs.CommandLine.{AreWithinLimits, Assembles, Blames, Compiles, Debugs, Draws};
 ghost use Rattle.hrv_command_line.specs.CommandLine.{Explains, IsWithinLimits, Lists, ListsAddresses, MakesLog, Maps};
-ghost use Rattle.hrv_command_line.specs.CommandLine.{PrintsLog, Renews, Replays, Resumes, Runs, RunsDrawn};
+ghost use Rattle.hrv_command_line.specs.CommandLine.{PrintsLog, Profiles, Renews, Replays, Resumes, Runs, RunsDrawn};
 ghost use Rattle.hrv_command_line.specs.CommandLine.{TellsVersion, asked_by};
 ghost use Rattle.hrv.specs.Dispatch.{Does};
 
@@ -13,8 +13,8 @@ use hrv_command_line::{BlameArguments, DrawArguments, Invocation};
 use hrv_engines::{
     DrawRules, Fault, Question, Resources, Sink, Source, asm_bytes, blame_bytes, compile_bytes,
     debug_bytes, dis_addresses_bytes, dis_bytes, explain_bytes, make_log_bytes, map_bytes,
-    picture_bytes, print_log_bytes, renew_bytes, replay_bytes, resume_bytes, run_bytes,
-    run_drawn_bytes, version_bytes,
+    picture_bytes, print_log_bytes, profile_bytes, renew_bytes, replay_bytes, resume_bytes,
+    run_bytes, run_drawn_bytes, version_bytes,
 };
 use std::alloc::{AllocError, Global};
 use std::sync::Wait;
@@ -83,6 +83,7 @@ pub fn obey<'a, R: Threads + Wait + Sync, D: Devices<'a>>(
         Invocation::Replay { image, log } => replay(alloc, devices, image, log),
         Invocation::Debug { image, log } => debug(alloc, devices, image, log),
         Invocation::Blame { image, log, words } => blame(alloc, devices, image, log, words),
+        Invocation::Profile { image, log } => profile(alloc, devices, image, log),
         Invocation::PrintLog { log } => print_log(alloc, devices, log),
         Invocation::MakeLog { text, log } => make_log(alloc, devices, text, log),
         Invocation::Picture { algorithm, inputs } => {
@@ -248,6 +249,24 @@ fn blame<'a, D: Devices<'a>>(
         question,
         &mut devices.printed(),
     )
+}
+
+/// `profile IMAGE LOG`
+#[inline(never)]
+fn profile<'a, D: Devices<'a>>(
+    alloc: Global,
+    devices: &D,
+    image: &'a str,
+    log: &'a str,
+) -> Result<(), Fault>
+    ensures { Does D.Read.place D.Read.failed D.Read.gave D.Read.ended
+        D.Written.place D.Written.failed D.Written.took
+        D.Typed.place D.Typed.failed D.Typed.gave D.Typed.ended
+        D.Printed.place D.Printed.failed D.Printed.took alloc (Profiles image.entry.now log.entry.now) result }
+{
+    let mut image = devices.read(image);
+    let mut log = devices.read(log);
+    profile_bytes(alloc, &mut image, &mut log, &mut devices.printed())
 }
 
 /// `log LOG`

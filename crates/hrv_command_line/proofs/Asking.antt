@@ -10,7 +10,7 @@ use Rattle.clap.specs.ValueTests.{accepts}
 use Rattle.clap.specs.Words.{Text}
 use Rattle.clap.specs.declared.builder.value_parser.ValueParser.TheVariants.{Unsigned}
 use Rattle.hrv_command_line.specs.CommandLine.{Asked, Assembles, Compiles, Debugs, Draws, Explains, Given, IsSpelled, IsWithinLimits, MakesLog}
-use Rattle.hrv_command_line.specs.CommandLine.{Maps, PrintsLog, Renews, Replays, TellsVersion, asked_of, blame_of, command_named, compile_of, dis_of, explain_of, files_of}
+use Rattle.hrv_command_line.specs.CommandLine.{Maps, PrintsLog, Profiles, Renews, Replays, TellsVersion, asked_of, blame_of, command_named, compile_of, dis_of, explain_of, files_of}
 use Rattle.hrv_command_line.specs.CommandLine.{if_known, is_version_flag, listing_of, log_of, named, named_in, nothing_given, number_or, picture_of, read, refusal_in}
 use Rattle.hrv_command_line.specs.CommandLine.{RunsDrawn, run_by, run_from, run_of, seed_in, text_of, unmarked, version_of}
 use Rattle.hrv_command_line.specs.Commands.{Shape, commands, most_every, most_harts, most_turns}
@@ -195,6 +195,11 @@ at_debug rest asked a =
     files Debugs (codes "debug" ∷ rest) a.given.values asked
     (λ i l e. (ap (λ ws. codes "debug" ∷ ws) (sym (plainly (codes "debug") _ rest asked a refl refl) ∙ e), tt)) a.asks
 
+at_profile : (rest : List Text) (asked : Asked) → Asks (codes "profile") rest asked → Holds (codes "profile" ∷ rest) asked
+at_profile rest asked a =
+    files Profiles (codes "profile" ∷ rest) a.given.values asked
+    (λ i l e. (ap (λ ws. codes "profile" ∷ ws) (sym (plainly (codes "profile") _ rest asked a refl refl) ∙ e), tt)) a.asks
+
 at_log : (rest : List Text) (asked : Asked) → Asks (codes "log") rest asked → Holds (codes "log" ∷ rest) asked
 at_log rest asked a =
     logged (codes "log" ∷ rest) a.given.values asked
@@ -247,13 +252,14 @@ by_name name rest asked a =
     tell (bytes_eq name (codes "replay")) (λ same. at (codes "replay") name rest asked same (at_replay rest asked) a) (λ no_replay.
     tell (bytes_eq name (codes "debug")) (λ same. at (codes "debug") name rest asked same (at_debug rest asked) a) (λ no_debug.
     tell (bytes_eq name (codes "blame")) (λ same. at (codes "blame") name rest asked same (at_blame rest asked) a) (λ no_blame.
+    tell (bytes_eq name (codes "profile")) (λ same. at (codes "profile") name rest asked same (at_profile rest asked) a) (λ no_profile.
     tell (bytes_eq name (codes "log")) (λ same. at (codes "log") name rest asked same (at_log rest asked) a) (λ no_log.
     tell (bytes_eq name (codes "asm")) (λ same. at (codes "asm") name rest asked same (at_asm rest asked) a) (λ no_asm.
     tell (bytes_eq name (codes "dis")) (λ same. at (codes "dis") name rest asked same (at_dis rest asked) a) (λ no_dis.
     tell (bytes_eq name (codes "renew")) (λ same. at (codes "renew") name rest asked same (at_renew rest asked) a) (λ no_renew.
     tell (bytes_eq name (codes "explain")) (λ same. at (codes "explain") name rest asked same (at_explain rest asked) a) (λ no_explain.
     tell (bytes_eq name (codes "version")) (λ same. at (codes "version") name rest asked same (at_version rest asked) a) (λ no_version.
-    some_none (rw (no_picture, no_compile, no_map, no_run, no_replay, no_debug, no_blame, no_log, no_asm, no_dis, no_renew, no_explain, no_version) at a.asks))))))))))))))
+    some_none (rw (no_picture, no_compile, no_map, no_run, no_replay, no_debug, no_blame, no_profile, no_log, no_asm, no_dis, no_renew, no_explain, no_version) at a.asks)))))))))))))))
 
 -- words that name something begin with a command's name
 in_command : (words : List Text) (asked : Asked) → named_in words ≡ Some asked → Holds words asked

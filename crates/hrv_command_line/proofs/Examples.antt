@@ -13,8 +13,7 @@ use Rattle.clap.specs.ValueTests.{accepts}
 use Rattle.clap.specs.Words.{Text}
 use Rattle.clap.specs.declared.builder.value_parser.ValueParser.TheVariants.{Unsigned}
 use Rattle.hrv_command_line.specs.CommandLine.{Asked, Assembles, Blames, Compiles, Debugs, Draws, Explains, Given, IsPlainWord, Lists, ListsAddresses, MakesLog, Maps}
-use Rattle.hrv_command_line.specs.CommandLine.{PrintsLog, Renews, Replays, Resumes, Runs, RunsDrawn, TellsVersion, asked_of, choose, further, if_known, named, nothing_given, number_or, printed_in}
-use Rattle.hrv_command_line.specs.CommandLine.{read, seed_in, text_of, with_choice, with_values}
+use Rattle.hrv_command_line.specs.CommandLine.{PrintsLog, Profiles, Renews, Replays, Resumes, Runs, RunsDrawn, TellsVersion, asked_of, choose, further, if_known, named, nothing_given, number_or, printed_in, read, seed_in, text_of, with_choice, with_values}
 use Rattle.hrv_command_line.specs.Commands.{most_every, most_harts, most_seed, most_turns}
 use Rattle.hrv_command_line.specs.declared.table.OptionKind.{OptionKind}
 use Rattle.hrv_command_line.specs.declared.table.OptionKind.TheVariants.{Every, Flag, Harts, Seed, Turns, Word}
@@ -93,6 +92,12 @@ plain_debug a b a_plain b_plain = ap (asks (codes "debug")) (all_on [] (a ∷ b 
 
 pub marked_debug : (a b : Text) → named (codes "debug" ∷ codes "--" ∷ a ∷ b ∷ []) ≡ Some (Debugs a b)
 marked_debug a b = ap (asks (codes "debug")) (marked_on [] (a ∷ b ∷ []))
+
+pub plain_profile : (a b : Text) → IsPlainWord a → IsPlainWord b → named (codes "profile" ∷ a ∷ b ∷ []) ≡ Some (Profiles a b)
+plain_profile a b a_plain b_plain = ap (asks (codes "profile")) (all_on [] (a ∷ b ∷ []) nothing_given (a_plain, (b_plain, tt)))
+
+pub marked_profile : (a b : Text) → named (codes "profile" ∷ codes "--" ∷ a ∷ b ∷ []) ≡ Some (Profiles a b)
+marked_profile a b = ap (asks (codes "profile")) (marked_on [] (a ∷ b ∷ []))
 
 pub plain_log : (log : Text) → IsPlainWord log → named (codes "log" ∷ log ∷ []) ≡ Some (PrintsLog log)
 plain_log log is = ap (asks (codes "log")) (all_on [] (log ∷ []) nothing_given (is, tt))

@@ -13,7 +13,7 @@ use Rattle.clap.specs.declared.error.Error.{Error}
 use Rattle.hrv_command_line.specs.Commands.{Shape, commands, hrv_app, most_every, most_harts, most_seed, most_turns}
 use Rattle.hrv_command_line.specs.declared.command_lines.Invocation.{Invocation}
 use Rattle.hrv_command_line.specs.declared.command_lines.Invocation.TheVariants.{Asm, Blame, Compile, Debug, Dis, DisAddresses, Explain, MakeLog, Map, Picture, PrintLog}
-use Rattle.hrv_command_line.specs.declared.command_lines.Invocation.TheVariants.{Renew, Replay, Resume, Run, RunDrawn, Version}
+use Rattle.hrv_command_line.specs.declared.command_lines.Invocation.TheVariants.{Profile, Renew, Replay, Resume, Run, RunDrawn, Version}
 use Rattle.hrv_command_line.specs.declared.faults.CommandLineFault.{CommandLineFault}
 use Rattle.hrv_command_line.specs.declared.faults.CommandLineFault.TheVariants.{Refused, Memory, Uncombined, Unexplained}
 use Rattle.hrv_command_line.specs.declared.table.OptionKind.{OptionKind}
@@ -30,6 +30,7 @@ pub data Asked : Type 0 where
   Replays : (image log : List ℕ) → Asked
   Debugs : (image log : List ℕ) → Asked
   Blames : (image log : List ℕ) → (x y address : Option (List ℕ)) → (with_turns : Bool) → Asked
+  Profiles : (image log : List ℕ) → Asked
   PrintsLog : (log : List ℕ) → Asked
   MakesLog : (text log : List ℕ) → Asked
   Assembles : (source image : List ℕ) → Asked
@@ -50,6 +51,7 @@ asked_by (Replay image log) = Replays image.now log.now
 asked_by (Debug image log) = Debugs image.now log.now
 asked_by (Blame image log words) =
     Blames image.now log.now (option_map (λ s. s.now) words.x) (option_map (λ s. s.now) words.y) (option_map (λ s. s.now) words.address) words.with_turns
+asked_by (Profile image log) = Profiles image.now log.now
 asked_by (PrintLog log) = PrintsLog log.now
 asked_by (MakeLog text log) = MakesLog text.now log.now
 asked_by (Asm source image) = Assembles source.now image.now
@@ -262,12 +264,13 @@ asked_of name given = if bytes_eq name (codes "picture") then picture_of given.v
     else (if bytes_eq name (codes "replay") then files_of Replays given.values
     else (if bytes_eq name (codes "debug") then files_of Debugs given.values
     else (if bytes_eq name (codes "blame") then blame_of given.choices given.values
+    else (if bytes_eq name (codes "profile") then files_of Profiles given.values
     else (if bytes_eq name (codes "log") then log_of given.values
     else (if bytes_eq name (codes "asm") then files_of Assembles given.values
     else (if bytes_eq name (codes "dis") then dis_of given.choices given.values
     else (if bytes_eq name (codes "renew") then files_of Renews given.values
     else (if bytes_eq name (codes "explain") then explain_of given.values
-    else (if bytes_eq name (codes "version") then version_of given.values else None))))))))))))
+    else (if bytes_eq name (codes "version") then version_of given.values else None)))))))))))))
 
 -- the command of a name
 abbrev pub command_named : Text → List Shape → Option Shape
@@ -316,6 +319,7 @@ IsPlainWord _ = Unit {0}
 abbrev pub IsSpelled : List Text → Asked → Type 0
 IsSpelled words (Replays image log) = unmarked words ≡ codes "replay" ∷ image ∷ log ∷ []
 IsSpelled words (Debugs image log) = unmarked words ≡ codes "debug" ∷ image ∷ log ∷ []
+IsSpelled words (Profiles image log) = unmarked words ≡ codes "profile" ∷ image ∷ log ∷ []
 IsSpelled words (PrintsLog log) = unmarked words ≡ codes "log" ∷ log ∷ []
 IsSpelled words (MakesLog text log) = unmarked words ≡ codes "log" ∷ text ∷ log ∷ []
 IsSpelled words (Assembles source image) = unmarked words ≡ codes "asm" ∷ source ∷ image ∷ []

@@ -57,6 +57,7 @@ commands =
       values = (codes "IMAGE", Always) ∷ (codes "LOG", Always) ∷ (codes "X", Perhaps) ∷ (codes "Y", Perhaps) ∷ [];
       choices = (codes "address", Word) ∷ (codes "turns", Flag) ∷ [];
     })
+    ∷ (record { name = codes "profile"; values = (codes "IMAGE", Always) ∷ (codes "LOG", Always) ∷ []; choices = [] })
     ∷ (record { name = codes "log"; values = (codes "FILE", Always) ∷ (codes "LOG", Perhaps) ∷ []; choices = [] })
     ∷ (record { name = codes "asm"; values = (codes "SOURCE", Always) ∷ (codes "IMAGE", Always) ∷ []; choices = [] })
     ∷ (record { name = codes "dis"; values = (codes "IMAGE", Always) ∷ []; choices = (codes "addresses", Flag) ∷ [] })

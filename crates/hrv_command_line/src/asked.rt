@@ -31,6 +31,7 @@ pub(crate) fn asked_for<'a>(
         "replay" => Ok(replay_asked(values)),
         "debug" => Ok(debug_asked(values)),
         "blame" => Ok(blame_asked(values, choices)),
+        "profile" => Ok(profile_asked(values)),
         "log" => Ok(log_asked(values)),
         "asm" => Ok(asm_asked(values)),
         "dis" => Ok(dis_asked(values, choices)),
@@ -261,6 +262,16 @@ fn blame_asked<'a>(values: &[&'a str], choices: &[Chosen<'a>]) -> Option<Invocat
         with_turns,
     };
     Some(Invocation::Blame { image, log, words })
+}
+
+// What `profile` is asked for.
+fn profile_asked<'a>(values: &[&'a str]) -> Option<Invocation<'a>>
+    ensures { option_map asked_by result ≡ files_of spec.Profiles (texts values.now) }
+{
+    match values {
+        [image, log] => Some(Invocation::Profile { image, log }),
+        _ => None,
+    }
 }
 
 // What `log` is asked for.

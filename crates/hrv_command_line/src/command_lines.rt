@@ -69,6 +69,11 @@ pub enum Invocation<'a> {
         log: &'a str,
         words: BlameArguments<'a>,
     },
+    /// `profile IMAGE LOG`
+    Profile {
+        image: &'a str,
+        log: &'a str,
+    },
     /// `log LOG`
     PrintLog {
         log: &'a str,

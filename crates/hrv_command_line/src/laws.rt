@@ -5,8 +5,8 @@ ghost use Rattle.std.specs.Str.{bytes_eq};
 ghost use Rattle.clap.specs.Lexer.{usize_max};
 ghost use Rattle.hrv_command_line.specs.CommandLine.{Asked, Assembles, Blames, Compiles, Debugs, Draws, Explains};
 ghost use Rattle.hrv_command_line.specs.CommandLine.{IsPlainWord, IsSpelled, Lists, ListsAddresses, MakesLog, Maps};
-ghost use Rattle.hrv_command_line.specs.CommandLine.{PrintsLog, Renews, Replays, Resumes, Runs, RunsDrawn};
-ghost use Rattle.hrv_command_line.specs.CommandLine.{TellsVersion, named, number_or, seed_in};
+ghost use Rattle.hrv_command_line.specs.CommandLine.{PrintsLog, Profiles, Renews, Replays, Resumes};
+ghost use Rattle.hrv_command_line.specs.CommandLine.{Runs, RunsDrawn, TellsVersion, named, number_or, seed_in};
 ghost use Rattle.hrv_command_line.specs.Commands.{most_every, most_harts, most_turns};
 ghost use Rattle.hrv_refusals.specs.Explanations.{is_explained};
 
@@ -40,6 +40,14 @@ pub fn blame_is_named()
     ensures address { (image log address : List ℕ) → IsPlainWord image → IsPlainWord log → IsPlainWord address
         → named (codes "blame" ∷ image ∷ log ∷ codes "--address" ∷ address ∷ [])
         ≡ Some (Blames image log None None (Some address) false) }
+{}
+
+/// Which words name a profile: `profile` and two names, after `--` where one begins with `-`.
+pub fn profile_is_named()
+    ensures plain { (image log : List ℕ) → IsPlainWord image → IsPlainWord log
+        → named (codes "profile" ∷ image ∷ log ∷ []) ≡ Some (Profiles image log) }
+    ensures marked { (image log : List ℕ)
+        → named (codes "profile" ∷ codes "--" ∷ image ∷ log ∷ []) ≡ Some (Profiles image log) }
 {}
 
 /// Which words name the printing of a log and the making of one: `log` and a name, or two names, after `--` where one

@@ -70,7 +70,7 @@ const INPUTS: Value<'static> = Value {
     help: "The inputs' pictures, in the order of the algorithm's lines",
 };
 
-const ROWS: [CommandRow<'static>; 13] = [
+const ROWS: [CommandRow<'static>; 14] = [
     CommandRow {
         name: "picture",
         about: "Draws the picture that an algorithm defines",
@@ -230,6 +230,23 @@ const ROWS: [CommandRow<'static>; 13] = [
                 help: "Gives for each pixel the number of the turn, modulo 2147483648, in place of its hart",
             },
         ],
+    },
+    CommandRow {
+        name: "profile",
+        about: "Says at which words of an image the harts made a log's turns, and how often",
+        values: &[
+            Value {
+                name: "IMAGE",
+                need: ValueCount::Always,
+                help: "The image that was run",
+            },
+            Value {
+                name: "LOG",
+                need: ValueCount::Always,
+                help: "The log of its turns",
+            },
+        ],
+        choices: &[],
     },
     CommandRow {
         name: "log",

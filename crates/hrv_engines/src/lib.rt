@@ -5,6 +5,8 @@
 //!   `specs/Dis.antt`.
 //! - [`renew`]: an image is stored in the second format; [`renew_bytes`], over `specs/Renew.antt`.
 //! - [`replay`]: an image and a log of turns become a dump; [`replay_bytes`], over `specs/Replay.antt` and `Dump.antt`.
+//! - [`profile`]: an image and a log of turns become a text of where the turns go; [`profile_bytes`], over
+//!   `specs/Profile.antt`.
 //! - [`run`]: an image becomes a log of turns that threads made, and a dump; [`run_bytes`], and [`resume_bytes`] where
 //!   a log goes on, over `specs/Run.antt`; both by [`Resources`].
 //! - [`drawn`]: the same by one thread and a seed; [`run_drawn_bytes`], over `specs/Drawn.antt`, by [`DrawRules`].
@@ -47,6 +49,7 @@ pub mod laws;
 mod logs;
 mod mapping;
 mod pictures;
+mod profile;
 mod questions;
 mod renew;
 mod replay;
@@ -66,6 +69,7 @@ pub use crate::explain::{explain_bytes, version_bytes};
 pub use crate::faults::{Fault, Refusal};
 pub use crate::logs::{make_log_bytes, print_log_bytes};
 pub use crate::mapping::map_bytes;
+pub use crate::profile::profile_bytes;
 pub use crate::questions::{BlameFault, Question};
 pub use crate::renew::renew_bytes;
 pub use crate::replay::replay_bytes;

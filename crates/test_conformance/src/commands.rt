@@ -10,8 +10,8 @@ use crate::invocations::words_of;
 use hrv_command_line::{Invocation, command};
 use hrv_engines::{
     Fault, Question, asm_bytes, blame_bytes, debug_bytes, dis_addresses_bytes, dis_bytes,
-    explain_bytes, make_log_bytes, picture_bytes, print_log_bytes, renew_bytes, replay_bytes,
-    version_bytes,
+    explain_bytes, make_log_bytes, picture_bytes, print_log_bytes, profile_bytes, renew_bytes,
+    replay_bytes, version_bytes,
 };
 use std::alloc::{AllocError, Global};
 use std::thread::Threads;
@@ -121,6 +121,24 @@ pub fn push_replay(alloc: Global, parts: &[Part], out: &mut String) -> Result<()
     let log = bytes_of(alloc, log.named("log")?)?;
     let mut page = devices.page(alloc)?;
     let answered = replay_bytes(
+        alloc,
+        &mut devices.tape("image", &image)?,
+        &mut devices.tape("log", &log)?,
+        &mut page,
+    );
+    push_answer(answered, &page, out)
+}
+
+/// Where the turns of a log go.
+pub fn push_profile(alloc: Global, parts: &[Part], out: &mut String) -> Result<(), CaseFailure> {
+    let (parts, devices) = devices_of(parts);
+    let [image, log] = parts else {
+        return Err(CaseFailure::Malformed("not two parts"));
+    };
+    let image = bytes_of(alloc, image.named("image")?)?;
+    let log = bytes_of(alloc, log.named("log")?)?;
+    let mut page = devices.page(alloc)?;
+    let answered = profile_bytes(
         alloc,
         &mut devices.tape("image", &image)?,
         &mut devices.tape("log", &log)?,

@@ -51,6 +51,7 @@ fn push_asked(invocation: &Invocation, out: &mut String) -> Result<(), AllocErro
             push_given(&[words.x, words.y, words.address], out)?;
             writeln!(out, "{}", if words.with_turns { " with turns" } else { "" })
         }
+        Invocation::Profile { image, log } => writeln!(out, "profile of {image} by {log}"),
         Invocation::PrintLog { log } => writeln!(out, "log {log}"),
         Invocation::MakeLog { text, log } => writeln!(out, "log of {text} to {log}"),
         Invocation::Picture { algorithm, inputs } => {

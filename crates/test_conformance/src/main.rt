@@ -28,6 +28,7 @@
 //! | `runs` | `log`: lines in hexadecimal | the log's text |
 //! | `log` | `text`: that of a log | the log's bytes, in hexadecimal |
 //! | `replay` | `image`, `log`: lines in hexadecimal | the dump |
+//! | `profile` | `image`, `log` | where the turns go |
 //! | `debug` | `image`, `log`; `lines` | the talk |
 //! | `blame` | `image`, `log`; `words`: those after the files, one each line | who wrote what is asked about |
 //! | `run` | `image`; `turns`: how many a hart makes at most | the log of one hart, in hexadecimal, and the dump |
@@ -78,7 +79,7 @@ use crate::algorithms::{push_reading, push_verdict};
 use crate::assemblies::{push_listing, push_object};
 use crate::commands::{
     push_addresses, push_blame, push_drawing, push_explained, push_image, push_lines, push_log,
-    push_renewal, push_replay, push_runs, push_talk,
+    push_profile, push_renewal, push_replay, push_runs, push_talk,
 };
 use crate::compilations::{push_accesses, push_compilation, push_cuts, push_map};
 use crate::failures::CaseFailure;
@@ -152,6 +153,7 @@ fn push_answer(
         "runs" => push_runs(alloc, parts, out),
         "log" => push_log(alloc, parts, out),
         "replay" => push_replay(alloc, parts, out),
+        "profile" => push_profile(alloc, parts, out),
         "debug" => push_talk(alloc, parts, out),
         "blame" => push_blame(alloc, parts, out),
         "run" => push_run(rt, alloc, parts, out),

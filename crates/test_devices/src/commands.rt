@@ -6,7 +6,7 @@ use crate::{Page, Tape, empty_page, tape_of};
 use hrv_engines::{
     DrawRules, Fault, Question, Resources, asm_bytes, blame_bytes, compile_bytes, debug_bytes,
     dis_addresses_bytes, dis_bytes, make_log_bytes, map_bytes, picture_bytes, print_log_bytes,
-    renew_bytes, replay_bytes, resume_bytes, run_bytes, run_drawn_bytes,
+    profile_bytes, renew_bytes, replay_bytes, resume_bytes, run_bytes, run_drawn_bytes,
 };
 use std::alloc::{AllocError, Global};
 use std::sync::Wait;
@@ -54,6 +54,7 @@ pub enum TestedCommand {
     Replay,
     Debug,
     Blame,
+    Profile,
     PrintLog,
     MakeLog,
     Map,
@@ -73,6 +74,7 @@ pub const COMMANDS: [TestedCommand; 15] = [
     TestedCommand::Replay,
     TestedCommand::Debug,
     TestedCommand::Blame,
+    TestedCommand::Profile,
     TestedCommand::PrintLog,
     TestedCommand::MakeLog,
     TestedCommand::Map,
@@ -155,6 +157,7 @@ impl Files {
                 debug_bytes(alloc, image, old, &mut tape_of("lines", LINES), out)
             }
             TestedCommand::Blame => blame_bytes(alloc, image, old, PIXELS, out),
+            TestedCommand::Profile => profile_bytes(alloc, image, old, out),
             TestedCommand::PrintLog => print_log_bytes(alloc, old, out),
             TestedCommand::MakeLog => make_log_bytes(alloc, &mut tape_of("turns", RUNS), out),
             TestedCommand::Map => map_bytes(alloc, &mut algorithm(), &mut schedule(), out),
