@@ -29,6 +29,14 @@ picture 1 1
 2
 """
 
+PROFILE = """hart 0 turns 4 idle 0
+hart 1 turns 4 idle 0
+2 1 1 0x00010000 lui x5,0x00200
+2 1 1 0x00010004 addi x6,x0,1
+2 1 1 0x00010008 amoadd.w x7,x6,(x5)
+2 1 1 0x0001000c ecall
+"""
+
 # Four turns of one hart, and none.
 RUN_LOG = bytes.fromhex("48524c31010000000100000000000000000400000000000000")
 NO_TURN = bytes.fromhex("48524c31010000000000000000000000")
@@ -207,6 +215,10 @@ def replays(file, _):
     for calls in range(8):
         settings = [f"image 7 {calls}", "page 9 0"]
         replay.case(file, f"read {calls} of image fails, and each write", settings, ["refused file image"])
+
+
+def profiles(file, _):
+    Command("profile", [("image", COUNTER), ("log", TURNS)], PROFILE).failing(file)
 
 
 def drawings(file, _):

@@ -96,10 +96,12 @@ def commands(file, _):
         file.case("renew", f"renew: {name}", [("image", digits(image))], why)
         file.case("run", f"run: {name}", [("image", digits(image)), turns], why)
         file.case("resume", f"resume: {name}", [("image", digits(image)), ("log", digits(TURNS)), turns], why)
+        file.case("profile", f"profile: {name}", [("image", digits(image)), ("log", digits(TURNS))], why)
         file.case("debug", f"debug: {name}", [("image", digits(image)), ("log", digits(TURNS)), lines], why)
     for name, log in (*huge_logs(), *resized(TURNS)):
         why = replays.replay(COUNTER, log)
         if why[0].startswith("refused"):
             parts = [("image", digits(COUNTER)), ("log", digits(log))]
             file.case("resume", f"resume: a log: {name}", parts + [("turns", ["100"])], why)
+            file.case("profile", f"profile: a log: {name}", parts, why)
             file.case("debug", f"debug: a log: {name}", parts + [("lines", ["next"])], why)
