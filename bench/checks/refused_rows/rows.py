@@ -139,6 +139,9 @@ def machine_rows():
         yield Row(f"from a log {name}", ["run", "image", "log", "--from", "old"], {"image": COUNTER, "old": held},
             f"log {fault}")
         yield Row(f"a log {name}", ["log", "log"], {"log": held}, f"log {fault}")
+        yield Row(f"a log {name}", ["profile", "image", "log"], both | {"log": held}, f"log {fault}")
+    yield Row("a profile of two harts", ["profile", "image", "log"], both)
+    yield Row("a profile of no turn", ["profile", "image", "log"], {"image": COUNTER, "log": log(2)})
     for name, text, fault in BAD_LOG_TEXTS:
         yield Row(f"a text {name}", ["log", "text", "made"], {"text": text, "made": b"old"}, f"turns {fault}")
     yield Row("two harts as a text", ["log", "log"], {"log": TURNS})
