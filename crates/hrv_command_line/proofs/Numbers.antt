@@ -33,7 +33,7 @@ pub seed_taken : (seed : ℕ) (text : Text) → IsRead text → seed ≡ digits_
 seed_taken seed text read is =
     let fits = read.1 in
     let accepted : accepts false (Unsigned 0 most_seed) text ≡ true =
-        Accepts-accepts false (Unsigned 0 most_seed) text (read.0, read.1, omega arith, omega (arith, fits)) in
+    Accepts-accepts false (Unsigned 0 most_seed) text (read.0, read.1, omega arith, omega (arith, fits)) in
     rw (accepted) (ap (λ n. Some n) is)
 
 -- what is no number isn't

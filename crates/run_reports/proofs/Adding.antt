@@ -5,8 +5,8 @@ use Rattle.std.specs.List.{All}
 use Rattle.std.specs.Prelude.{get_or, slice_get, slice_index, slice_set}
 use Rattle.std.proofs.Math.Seq.{take-add}
 use Rattle.std.proofs.lemmas.Bool.{cases_eq}
-use Rattle.std.proofs.lemmas.List.{get_or-replicate, get_or-set_same, length-replicate, replicate-append-replicate, length-set, take-append-le, take-replicate}
-use Rattle.std.proofs.lemmas.Option.{get_or_from_slice_get, slice_get-get_or, slice_get_within}
+use Rattle.std.proofs.lemmas.List.{get_or-set_same, length-replicate, replicate-append-replicate, length-set, take-append-le, take-replicate}
+use Rattle.std.proofs.lemmas.Option.{slice_get-get_or}
 use Rattle.memory.specs.Access.{text_start}
 use Rattle.hart_core.specs.declared.harts.Status.TheVariants.{Running}
 use Rattle.multi_hart.specs.Run.{KeepsShape, State, hart_at, run}
@@ -16,7 +16,7 @@ use Rattle.turn_log.specs.RunAt.{Stand}
 use Rattle.turn_log.specs.TurnLog.{most_turns}
 use Rattle.run_reports.specs.Profile.{IsHartProfile, IsProfile, is_idle, is_made, is_made_at}
 use Rattle.run_reports.specs.declared.profiles.HartProfile.{HartProfile}
-use Rattle.run_reports.specs.inner.Counting.{AreAdded, AreFew, HasRoom, IsAdded, IsUncounted}
+use Rattle.run_reports.specs.inner.Counting.{AreAdded, AreFew, HasRoom, IsAdded}
 use Rattle.run_reports.proofs.Counting.{at-other, at-resting, idle-other, idle-resting, made-other, made-resting, where-append, where-few, where-none}
 use Rattle.run_reports.proofs.Standing.{idle-none, made-all}
 

@@ -89,10 +89,7 @@ fn push_asked(invocation: &Invocation, out: &mut String) -> Result<(), AllocErro
         Invocation::RunDrawn { image, log, draws } => writeln!(
             out,
             "run of {image} to {log} by {} harts of {} turns drawn from {} by {}",
-            draws.harts,
-            draws.turns,
-            draws.seed,
-            draws.every
+            draws.harts, draws.turns, draws.seed, draws.every
         ),
         Invocation::Explain { family, code } => writeln!(out, "explain {family} {code}"),
         Invocation::Version => writeln!(out, "version"),

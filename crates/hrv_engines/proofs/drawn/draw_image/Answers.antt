@@ -11,7 +11,7 @@ pub dump-requires-clause-fits : goal.dump-requires-clause-fits
 dump-requires-clause-fits c =
     let none = ap (λ (l : LogState). l.turns) c.new-log.ensures in
     let out = subst (λ (ts : List ℕ). RunsOut c.args.rules.limit c.in_ok-machine.machine ts c.draw_run.new.machine c.draw_run.new.log.turns) none
-        c.in_ok-draw_run.ensures.runs_out
+    c.in_ok-draw_run.ensures.runs_out
     in
     output-fits c.in_ok-read.read c.args.harts c.draw_run.new.log.turns c.draw_run.new.machine c.output-output.result
     (is-after c.in_ok-read.read c.args.harts c.args.rules.limit c.in_ok-machine.machine c.draw_run.new.machine c.draw_run.new.log
