@@ -1,15 +1,17 @@
 -- A drawn run's log and dump.
 use Rattle.std.proofs.Common.{◌≡◌, ◌≢◌, ◌+◌, ◌<◌, ◌≤◌, ℕ, Bool, true, false, true≢false, List, [], length, refl, sym, ap, ◌∙◌, subst, arith}
-use Rattle.std.specs.Prelude.{Ok, Option}
+use Rattle.std.proofs.lemmas.Bool.{and_parts, leb-true}
+use Rattle.std.specs.Prelude.{Ok, Option, nat_le}
+use Rattle.memory.specs.Access.{most_bytes, most_words}
 use Rattle.hart_core.specs.declared.harts.Status.{Status}
 use Rattle.hart_core.specs.declared.harts.Status.TheVariants.{Running}
 use Rattle.multi_hart.specs.Run.{State, hart_at, run}
-use Rattle.multi_hart.proofs.TurnByTurn.{length-opening_harts}
+use Rattle.multi_hart.proofs.TurnByTurn.{length-opening_harts, shape-run}
 use Rattle.turn_log.specs.TurnLog.{LogState, IsLog, count_of, most_turns}
 use Rattle.turn_log.specs.LogSpelling.{spelled}
 use Rattle.drawn_runs.specs.Drawing.{RunsOut, drawn_run, is_running}
 use Rattle.drawn_runs.specs.declared.drawing.DrawRules.{DrawRules}
-use Rattle.loader.specs.Image.{ImageContents}
+use Rattle.loader.specs.Image.{ImageContents, IsImage}
 use Rattle.loader.specs.Loading.{machine_of}
 use Rattle.loader.specs.Spelling.{image_of}
 use Rattle.loader.specs.declared.outputs.Output.{Output}
@@ -24,6 +26,17 @@ pub is-after : (image : ImageContents) (harts limit : ℕ) (old new : State) (lo
     → RunsOut limit old [] new log.turns → new ≡ state_after image harts log.turns
 is-after image harts limit old new log opened out =
     out.leave ∙ ap (λ (s : State). run s out.made) opened ∙ ap (run (machine_of image harts)) (sym out.are_after)
+
+-- data after any turns are within the machine's limits
+pub data-fits : (image : ImageContents) (harts : ℕ) (turns : List ℕ) (machine : State) → machine ≡ state_after image harts turns → IsImage image
+    → length machine.memory ≤ most_bytes
+data-fits image harts turns machine is rules =
+    let bytes : length machine.memory ≡ length image.bytes =
+    ap (λ (s : State). length s.memory) is ∙ (shape-run (machine_of image harts) turns).bytes in
+    let few : length image.bytes ≤ most_bytes =
+    leb-true (length image.bytes) most_bytes
+    (and_parts (nat_le (length image.words) most_words) (nat_le (length image.bytes) most_bytes) rules.limits).1 in
+    subst (λ (n : ℕ). n ≤ most_bytes) (sym bytes) few
 
 -- a run whose turns are drawn is one that threads may make too
 pub is-run-of : (image : ImageContents) (harts limit : ℕ) (old new : State) (log : LogState) → old ≡ machine_of image harts → log.harts ≡ harts
