@@ -286,6 +286,7 @@ def thread_rows(stored):
             yield Row(f"{name}, {harts} harts", ["run", "image", "log", "--harts", harts, "--turns", LIMIT],
                 {"image": stored[name]})
     old = log(2, (0, 1), (1, 1), (0, 1))
+    yield Row("turns that a seed draws", ["run", "image", "log", "--harts", "2", "--seed", "2", "--turns", "40"], {"image": COUNTER})
     yield Row("from three turns", ["run", "image", "log", "--from", "old", "--turns", LIMIT],
         {"image": COUNTER, "old": old})
 
