@@ -1,6 +1,6 @@
 //! What the words ask for, done by the engine of the command over the devices that they name.
 
-ghost use Rattle.std.specs.Prelude.{◌≡◌, codes, map, option_map, IfOk};
+ghost use Rattle.std.specs.Prelude.{◌≡◌, ◌≤◌, codes, map, option_map, IfOk};
 ghost use Rattle.std.specs.List.{All};
 ghost use Rattle.clap.specs.Walk.{texts};
 ghost use Rattle.hrv_command_line.specs.CommandLine.{AreWithinLimits, Assembles, Blames, Compiles, Debugs, Draws};
