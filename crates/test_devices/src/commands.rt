@@ -62,7 +62,7 @@ pub enum TestedCommand {
 }
 
 /// All commands that want memory.
-pub const COMMANDS: [TestedCommand; 15] = [
+pub const COMMANDS: [TestedCommand; 16] = [
     TestedCommand::Assemble,
     TestedCommand::Compile,
     TestedCommand::Renew,
