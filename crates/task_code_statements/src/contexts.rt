@@ -46,20 +46,33 @@ impl Holding {
     }
 }
 
+/// Which loops of a task are made in parts, or laid out, though the schedule doesn't ask for it.
+#[derive(Clone, Copy, Debug, PartialEq, Eq)]
+pub enum Parting {
+    None,
+    /// Those whose tests of split loops fall away in first iterations.
+    Tests,
+    /// Also rows of few lane groups.
+    TestsAndRows,
+}
+
 /// How the loops of a task are made.
 #[derive(Clone, Copy, Debug, PartialEq, Eq)]
 pub struct Manner {
     pub holding: Holding,
     /// Whether they are made in parts, so that tests of split loops fall away in first iterations.
     pub is_parted: bool,
+    /// Whether all rows of few lane groups are laid out.
+    pub has_rows: bool,
 }
 
 impl Holding {
-    /// The same in loops that are made in parts, or not.
-    pub fn made(self, is_parted: bool) -> Manner {
+    /// The same in loops that are made in such parts.
+    pub fn made(self, parting: Parting) -> Manner {
         Manner {
             holding: self,
-            is_parted,
+            is_parted: parting != Parting::None,
+            has_rows: parting == Parting::TestsAndRows,
         }
     }
 }

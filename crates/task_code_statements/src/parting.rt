@@ -65,21 +65,35 @@ struct Passing {
     some: u32,
 }
 
-/// A loop of whose tests it is asked, the loops inside around them, and whether they stand around all that it does.
+/// A loop of whose tests it is asked, the loops inside around them, whether they stand around all that it does, and
+/// whether a test counts that last lanes alone fail, which costs little: it leaves a number of lanes.
 #[derive(Clone, Copy, Debug)]
 struct Asked<'a> {
     own: Bound,
     inside: &'a [Bound],
     is_around: bool,
+    by_lanes: bool,
 }
 
 impl<'a> Asked<'a> {
+    /// A loop as it counts here.
+    fn counted(&self, own: Bound, kind: LoopKind) -> Bound {
+        if is_at_once(kind) && !self.by_lanes {
+            return Bound {
+                counter: own.counter,
+                count: 1,
+            };
+        }
+        own
+    }
+
     /// After other statements.
     fn beside(&self) -> Asked<'a> {
         Asked {
             own: self.own,
             inside: self.inside,
             is_around: false,
+            by_lanes: self.by_lanes,
         }
     }
 
@@ -105,18 +119,6 @@ impl<'a> Asked<'a> {
             some: found.some.min(some),
         }
     }
-}
-
-/// A loop as it counts where it is asked how many iterations pass: that last lanes fail a test costs little, since it
-/// leaves a number of lanes.
-fn counted(own: Bound, kind: LoopKind) -> Bound {
-    if is_at_once(kind) {
-        return Bound {
-            counter: own.counter,
-            count: 1,
-        };
-    }
-    own
 }
 
 /// A test inside a loop: how its value goes up with the loop's iterations and, at most, with those of loops inside.
@@ -199,11 +201,12 @@ fn left_by_tests(
                 count: *count,
             };
             let inner = in_loop(alloc, context, own)?;
-            let more = and_one(alloc, asked.inside, counted(own, *kind))?;
+            let more = and_one(alloc, asked.inside, asked.counted(own, *kind))?;
             let next = Asked {
                 own: asked.own,
                 inside: more.as_slice(),
                 is_around: asked.is_around,
+                by_lanes: asked.by_lanes,
             };
             left_by_tests(alloc, &inner, &next, within.get(), found)
         }
@@ -283,7 +286,7 @@ fn is_row_of_runs(
     Ok(!has_names)
 }
 
-/// How many first iterations are a loop by the tests inside; a row of few runs is laid out.
+/// How many first iterations are a loop by the tests inside; a row of few runs may be laid out.
 fn tested_part(
     alloc: Global,
     context: &Context,
@@ -293,7 +296,8 @@ fn tested_part(
     if !context.manner.is_parted {
         return Ok(own.count);
     }
-    if is_row_of_runs(alloc, context, own, body)? {
+    let is_row = is_row_of_runs(alloc, context, own, body)?;
+    if is_row && context.manner.has_rows {
         return Ok(0);
     }
     if !has_test(body) {
@@ -303,6 +307,7 @@ fn tested_part(
         own,
         inside: &[],
         is_around: true,
+        by_lanes: is_row,
     };
     let every = Passing {
         all: own.count,
@@ -312,6 +317,9 @@ fn tested_part(
     let found = left_by_tests(alloc, &inner, &asked, body, every)?;
     if found.all == own.count {
         return Ok(own.count);
+    }
+    if is_row {
+        return Ok(0);
     }
     if found.all.saturating_add(1) < found.some {
         return Ok(found.some);

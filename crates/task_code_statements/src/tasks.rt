@@ -7,7 +7,7 @@ ghost use Rattle.task_code_statements.specs.Drawing.{Begins, StaysMet};
 ghost use Rattle.task_code_statements.specs.Starts.{AppendsStarted};
 ghost use Rattle.task_code_statements.specs.Tasks.{AppendsTask, restored};
 
-use crate::contexts::{Context, Holding, Manner, in_loop, nothing_known, with_number};
+use crate::contexts::{Context, Holding, Manner, Parting, in_loop, nothing_known, with_number};
 use crate::costs::{ANY, MUCH, is_faster, is_no_longer, is_worth_more};
 use crate::mentions::mentioned_variables;
 use crate::parting::{has_few_runs, has_test};
@@ -239,19 +239,19 @@ fn words_by_variables(
     phase: &Phase,
     places: &Places,
     ticket: u32,
-    is_parted: bool,
+    parting: Parting,
 ) -> Result<Option<Code>, AllocError>
     requires { ticket + 4 < 2 ^ 32 }
     ensures { IfOk result (λ found. IfSome found (λ made. AppendsStarted [] made.words.items phase.now places.now
         ticket)) }
 {
-    let outer = Holding::OuterVariables.made(is_parted);
+    let outer = Holding::OuterVariables.made(parting);
     let one = tried_words(alloc, phase, places, ticket, outer)?;
-    let all = Holding::Variables.made(is_parted);
+    let all = Holding::Variables.made(parting);
     let two = faster_of(alloc, phase, places, ticket, all, one, ANY)?;
-    let plain = Holding::VariablesWithoutNames.made(is_parted);
+    let plain = Holding::VariablesWithoutNames.made(parting);
     let three = faster_of(alloc, phase, places, ticket, plain, two, ANY)?;
-    let alone = Holding::OuterVariablesAlone.made(is_parted);
+    let alone = Holding::OuterVariablesAlone.made(parting);
     let found = faster_of(alloc, phase, places, ticket, alone, three, MUCH)?;
     Ok(found)
 }
@@ -263,7 +263,7 @@ fn words_of(
     phase: &Phase,
     places: &Places,
     ticket: u32,
-    is_parted: bool,
+    parting: Parting,
 ) -> Result<Option<Code>, AllocError>
     requires { ticket + 4 < 2 ^ 32 }
     ensures { IfOk result (λ found. IfSome found (λ made. AppendsStarted [] made.words.items phase.now places.now
@@ -274,12 +274,12 @@ fn words_of(
         phase,
         places,
         ticket,
-        Holding::Pointers.made(is_parted),
+        Holding::Pointers.made(parting),
     )?;
     if !is_worth_more(alloc, depth(&phase.body), &pointers)? {
         return Ok(pointers);
     }
-    let variables = words_by_variables(alloc, phase, places, ticket, is_parted)?;
+    let variables = words_by_variables(alloc, phase, places, ticket, parting)?;
     if is_faster(alloc, &variables, &pointers, ANY)? {
         return Ok(variables);
     }
@@ -287,7 +287,7 @@ fn words_of(
 }
 
 /// The words of one task of a phase whose loops are made in parts, where there are some and they are no more than so
-/// many, or else of one whose loops aren't.
+/// many, or else of one whose loops aren't. Rows are laid out where pointers suffice for that.
 fn words_up_to(
     alloc: Global,
     phase: &Phase,
@@ -299,13 +299,21 @@ fn words_up_to(
     ensures { IfOk result (λ found. IfSome found (λ made. AppendsStarted [] made.words.items phase.now places.now
         ticket)) }
 {
-    if has_test(&phase.body) || has_few_runs(&phase.body) {
-        let parted = words_of(alloc, phase, places, ticket, true)?;
+    if has_few_runs(&phase.body) {
+        let manner = Holding::Pointers.made(Parting::TestsAndRows);
+        let rows = tried_words(alloc, phase, places, ticket, manner)?;
+        let is_made_anew = is_worth_more(alloc, depth(&phase.body), &rows)?;
+        if !is_made_anew && is_no_longer(&rows, most) {
+            return Ok(rows);
+        }
+    }
+    if has_test(&phase.body) {
+        let parted = words_of(alloc, phase, places, ticket, Parting::Tests)?;
         if is_no_longer(&parted, most) {
             return Ok(parted);
         }
     }
-    let found = words_of(alloc, phase, places, ticket, false)?;
+    let found = words_of(alloc, phase, places, ticket, Parting::None)?;
     Ok(found)
 }
 
