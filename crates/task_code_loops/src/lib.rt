@@ -9,13 +9,15 @@
 //! - [`bounds`]: whether a form stays below an extent, so that it needs no test (`specs/Bounds.antt`).
 //! - [`known`]: loop variables that are sums of others, or numbers, and sums without them (`specs/Known.antt`).
 //! - [`sums`]: what operations make of sums, where it is a sum again (`specs/Sums.antt`).
-//! - [`wanted`]: which forms a body wants in registers, and [`uses`]: how often it uses them, guesses.
+//! - [`wanted`]: which forms a body wants in registers, `gathering`: those of stores, and [`uses`]: how often it uses
+//!   them, guesses.
 //! - [`laws`]: what is begun and ended is a loop; code after other code, and iterations that are laid out.
 #![tactic(auto)]
 
 pub mod beginning;
 pub mod bounds;
 pub mod ending;
+mod gathering;
 pub mod guards;
 mod holding;
 pub mod known;

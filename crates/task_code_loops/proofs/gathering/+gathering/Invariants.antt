@@ -1,6 +1,6 @@
 -- The size of the expression; some of these are made of itself.
 use Rattle.std.proofs.Common.{suc, ◌*◌}
-use Rattle.task_code_loops.proofs.wanted.+gathering.Given as goal
+use Rattle.task_code_loops.proofs.gathering.+gathering.Given as goal
 
 abbrev pub decreases-gather_expr : goal.decreases-gather_expr
 decreases-gather_expr l = suc (suc (3 * goal.size-gather_expr l))
