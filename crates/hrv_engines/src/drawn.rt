@@ -17,10 +17,10 @@ use loader::read_image;
 use std::alloc::Global;
 use turn_log::TurnLog;
 
-/// Reads an image, runs it by 1 to 8 harts until each has stopped or has made `rules.limit` turns, and writes the log of
-/// the turns and then the dump. Numbers that follow from the seed say which hart makes the next turns, so that a run of
-/// one seed is the same each time. The whole image is read before the first turn, the whole log is written before the
-/// dump, and nothing is written where memory is wanting. It needs no thread.
+/// Reads an image, runs it by 1 to 8 harts until each has stopped or has made `rules.limit` turns, and writes the log
+/// of the turns and then the dump. Numbers that follow from the seed say which hart makes the next turns, so that a run
+/// of one seed is the same each time. The whole image is read before the first turn, the whole log is written before
+/// the dump, and nothing is written where memory is wanting. It needs no thread.
 pub fn run_drawn_bytes<I: Source, L: Sink, O: Sink>(
     alloc: Global,
     image: &mut I,
