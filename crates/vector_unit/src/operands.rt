@@ -11,6 +11,7 @@ ghost use Rattle.vector_unit.specs.Operands.{pair_of};
 ghost use Rattle.vector_unit.specs.inner.Parts.{operand_part};
 
 use crate::states::VectorState;
+use lane_merging::merged_register;
 use lanes::{LaneKernels, LaneKind, Lanes, active};
 use rv_insn::{Imm5, ShiftAmount, VReg, VectorInsn};
 
@@ -159,8 +160,6 @@ impl VectorState {
         ensures { result ≡ register_of K.width (merged (active (part * N) N self.now.vl vm (register self.now 0))
             new.now before.now) }
     {
-        let mask = &self.registers[0];
-        let merged = before.merge_active(new, part * N, self.vl as usize, vm, mask);
-        merged.to_register()
+        merged_register(before, new, part, self.vl as usize, vm, &self.registers[0])
     }
 }
