@@ -7,8 +7,8 @@ use Rattle.std.specs.Prelude.{ℕ, List, [], map, Option, Some, None}
 use Rattle.rv_insn.specs.declared.vector_instructions.VectorInsn.{VectorInsn}
 use Rattle.rv_insn.specs.declared.vector_instructions.VectorInsn.TheVariants as v
 use Rattle.rv_insn.specs.declared.vector_operations.ElementWidth.{ElementWidth}
-use Rattle.rv_insn.specs.declared.vector_operations.ElementWidth.TheVariants as widths
-use Rattle.memory.specs.Access.{Size, Byte, Half, Word, Kind, NoAccess, Reads, Writes, Access, access_at}
+use Rattle.memory.specs.Access.{Kind, NoAccess, Reads, Writes, Access}
+pub use Rattle.memory_accesses.specs.Elements.{accesses_at, size_of}
 use Rattle.vector_unit.specs.Vector.{asked_by, configured, vector_after, scalar_given}
 use Rattle.vector_unit.specs.declared.configuration.RequestedLength.{RequestedLength}
 use Rattle.vector_unit.specs.declared.configuration.RequestedLength.TheVariants.{AtMost}
@@ -19,16 +19,6 @@ abbrev pub vector_kind : VectorInsn → Kind
 vector_kind (v.LoadElements w vd rs1 addressing vm) = Reads
 vector_kind (v.StoreElements w vs3 rs1 addressing vm) = Writes
 vector_kind insn = NoAccess
-
--- the size of an element
-abbrev pub size_of : ElementWidth → Size
-size_of widths.Bits8 = Byte
-size_of widths.Bits16 = Half
-size_of widths.Bits32 = Word
-
--- elements of one width at these addresses
-abbrev pub accesses_at : ElementWidth → List ℕ → List Access
-accesses_at w at = map (access_at (size_of w)) at
 
 abbrev pub accesses_of : Option ElementWidth → List ℕ → List Access
 accesses_of None at = []

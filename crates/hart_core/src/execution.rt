@@ -11,7 +11,8 @@ use crate::accesses::{load, store};
 use crate::harts::{Hart, Status};
 use crate::meanings::Meaning;
 use crate::scalars::target;
-use memory::{Bytes, read_for_amo, write_u32};
+use memory::Bytes;
+use memory_accesses::add_to_word;
 use rv_encoding::decode;
 use rv_insn::{Imm12, Insn, LoadOp, Outcome, Reg, StoreOp, Trap, VectorInsn};
 
@@ -257,9 +258,8 @@ impl Hart {
         ensures text { M.text memory.new ≡ M.text memory.old }
     {
         let address = self.register(rs1);
-        let old = read_for_amo(memory, address)?;
-        write_u32(memory, address, old.wrapping_add(self.register(rs2)))?;
-        Ok(self.give(rd, old))
+        let before = add_to_word(memory, address, self.register(rs2))?;
+        Ok(self.give(rd, before))
     }
 
     /// Jumps, with the address of the next instruction in `rd`; where the target traps, no link is

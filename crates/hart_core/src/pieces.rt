@@ -12,9 +12,9 @@ ghost use Rattle.hart_core.specs.VectorRows.{accesses_at, size_of};
 ghost use Rattle.hart_core.specs.HartState.{register, vectors_of, with_vectors};
 ghost use Rattle.hart_core.specs.inner.Pieces.{addresses_from, IsPiece, LiesInData};
 
-use crate::element_accesses::bytes_of;
 use crate::harts::Hart;
 use memory::Bytes;
+use memory_accesses::bytes_of;
 use rv_insn::{ElementWidth, VReg};
 use vector_unit::{Spacing, VectorState};
 

@@ -12,11 +12,12 @@ ghost use Rattle.hart_core.specs.inner.Pieces.{accesses_of, is_access};
 ghost use Rattle.hart_core.specs.HartState.{register, advanced, vectors_of, with_vectors};
 ghost use Rattle.hart_core.specs.Turn.{fault, IsDone};
 
-use crate::element_accesses::{check_stores, read_numbers, write_numbers};
+use crate::element_accesses::read_numbers;
 use crate::harts::Hart;
 use crate::pieces::{RegisterGroup, is_piece, store_group};
 use crate::runs::is_run;
 use memory::Bytes;
+use memory_accesses::store_elements;
 use rv_insn::{Addressing, ElementWidth, Outcome, Reg, Trap, VReg, VectorInsn};
 use vector_unit::{Numbers, RequestedLength, Spacing};
 
@@ -392,9 +393,8 @@ impl Hart {
             spacing,
         } = access;
         let addresses = self.addresses(spacing, vm, rs1);
-        check_stores(width, memory, addresses.as_slice())?;
         let numbers = self.vectors().active_numbers(width, vs3, vm);
-        write_numbers(width, memory, addresses.as_slice(), numbers.as_slice());
+        store_elements(width, memory, addresses.as_slice(), numbers.as_slice())?;
         self.advance();
         Ok(())
     }

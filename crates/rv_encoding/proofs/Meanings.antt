@@ -9,8 +9,8 @@ use Rattle.rv_insn.specs.declared.instructions.Insn.TheVariants.{Lui, Auipc, Jal
 use Rattle.rv_insn.specs.declared.instructions.Insn.TheVariants.{Vector}
 use Rattle.rv_insn.specs.declared.operations.ShiftOp.{ShiftOp}
 use Rattle.rv_insn.specs.VectorTable.{vector_table}
-use Rattle.rv_encoding.specs.Operations.{branch_funct3, branch_of, load_funct3, load_of, store_funct3, store_of, alu_imm_funct3, alu_imm_of, shift_funct3}
-use Rattle.rv_encoding.specs.Operations.{shift_funct7, shift_of, alu_funct3, alu_funct7, alu_of, key_in}
+use Rattle.operation_keys.specs.Operations.{branch_funct3, branch_of, load_funct3, load_of, store_funct3, store_of, alu_imm_funct3, alu_imm_of, shift_funct3}
+use Rattle.operation_keys.specs.Operations.{shift_funct7, shift_of, alu_funct3, alu_funct7, alu_of, key_in}
 use Rattle.rv_encoding.specs.Formats.{Stands, shape_of, StandsFor}
 use Rattle.rv_encoding.specs.Decoding.{part, rd_of, rs1_of, rs2_of, i_immediate_of, s_immediate_of, b_offset_of, with_op, op_imm_from, op_imm_in, decoded}
 use Rattle.rv_encoding.proofs.Formats.{u_made, j_made, i_made, s_made, b_made, r_made, amo_made, whole_made, bit_of-flag, u_case, j_case, i_case, s_case}

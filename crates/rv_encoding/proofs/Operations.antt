@@ -10,8 +10,8 @@ use Rattle.rv_insn.specs.declared.operations.AluOp.{AluOp}
 use Rattle.rv_insn.specs.Encoding.{fixed, span}
 use Rattle.rv_insn.specs.Table.{scalar_table, r_type, i_type, s_type, b_type, u_type, j_type, amo_type, whole_word, all_branches, all_loads, all_stores}
 use Rattle.rv_insn.specs.Table.{all_alu_imms, all_shifts, all_alus}
-use Rattle.rv_encoding.specs.Operations.{key_in, branch_funct3, branch_of, load_funct3, load_of, store_funct3, store_of, alu_imm_funct3, alu_imm_of}
-use Rattle.rv_encoding.specs.Operations.{shift_funct3, shift_funct7, shift_of, alu_funct3, alu_funct7, alu_of}
+use Rattle.operation_keys.specs.Operations.{key_in, branch_funct3, branch_of, load_funct3, load_of, store_funct3, store_of, alu_imm_funct3, alu_imm_of}
+use Rattle.operation_keys.specs.Operations.{shift_funct3, shift_funct7, shift_of, alu_funct3, alu_funct7, alu_of}
 use Rattle.rv_encoding.proofs.Lists.{both_true, find_passes}
 
 -- ---- branches

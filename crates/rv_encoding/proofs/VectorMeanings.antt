@@ -14,9 +14,9 @@ use Rattle.rv_encoding.specs.Formats.{Stands, StandsFor, vector_shape_of}
 use Rattle.rv_encoding.specs.Decoding.{part, rd_of, rs1_of, rs2_of, vector_immediate_of, vtype10_of, vtype11_of, vm_of, with_op, op_or, merge_in, opivv_in}
 use Rattle.rv_encoding.specs.Decoding.{opivx_in, opivi_in, opmvv_in, opmvx_in, config_in, vector_in, addressing_in, with_both, vector_load_in, vector_store_in}
 use Rattle.rv_encoding.specs.Decoding.{decoded}
-use Rattle.rv_encoding.specs.Operations.{arithmetic_vv_funct6, arithmetic_vv_of, arithmetic_vx_funct6, arithmetic_vx_of, arithmetic_vi_funct6, arithmetic_vi_of}
-use Rattle.rv_encoding.specs.Operations.{shift_vi_funct6, shift_vi_of, compare_vv_funct6, compare_vv_of, compare_vx_funct6, compare_vx_of, compare_vi_funct6}
-use Rattle.rv_encoding.specs.Operations.{compare_vi_of, multiply_funct6, multiply_of, reduction_funct6, reduction_of, width_funct3, width_of}
+use Rattle.operation_keys.specs.Operations.{arithmetic_vv_funct6, arithmetic_vv_of, arithmetic_vx_funct6, arithmetic_vx_of, arithmetic_vi_funct6, arithmetic_vi_of}
+use Rattle.operation_keys.specs.Operations.{shift_vi_funct6, shift_vi_of, compare_vv_funct6, compare_vv_of, compare_vx_funct6, compare_vx_of, compare_vi_funct6}
+use Rattle.operation_keys.specs.Operations.{compare_vi_of, multiply_funct6, multiply_of, reduction_funct6, reduction_of, width_funct3, width_of}
 use Rattle.rv_encoding.proofs.Bits.{parts_read}
 use Rattle.rv_encoding.proofs.Formats.{bit_of-flag}
 use Rattle.rv_encoding.proofs.VectorFormats.{registers_made, immediate_made, merge_made, merge_immediate_made, move_made, move_immediate_made, to_scalar_made}

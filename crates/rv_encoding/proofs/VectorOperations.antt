@@ -14,9 +14,9 @@ use Rattle.rv_insn.specs.declared.vector_operations.ElementWidth.{ElementWidth}
 use Rattle.rv_insn.specs.Encoding.{in_parts, fixed, span}
 use Rattle.rv_insn.specs.VectorTable.{vector_table, all_arithmetic_vvs, all_arithmetic_vxs, all_arithmetic_vis, all_shift_vis, all_compare_vvs, all_compare_vxs}
 use Rattle.rv_insn.specs.VectorTable.{all_compare_vis, all_multiplies, all_reductions, all_widths}
-use Rattle.rv_encoding.specs.Operations.{key_in, arithmetic_vv_funct6, arithmetic_vv_of, arithmetic_vx_funct6, arithmetic_vx_of, arithmetic_vi_funct6}
-use Rattle.rv_encoding.specs.Operations.{arithmetic_vi_of, shift_vi_funct6, shift_vi_of, compare_vv_funct6, compare_vv_of, compare_vx_funct6, compare_vx_of}
-use Rattle.rv_encoding.specs.Operations.{compare_vi_funct6, compare_vi_of, multiply_funct6, multiply_of, reduction_funct6, reduction_of, width_funct3, width_of}
+use Rattle.operation_keys.specs.Operations.{key_in, arithmetic_vv_funct6, arithmetic_vv_of, arithmetic_vx_funct6, arithmetic_vx_of, arithmetic_vi_funct6}
+use Rattle.operation_keys.specs.Operations.{arithmetic_vi_of, shift_vi_funct6, shift_vi_of, compare_vv_funct6, compare_vv_of, compare_vx_funct6, compare_vx_of}
+use Rattle.operation_keys.specs.Operations.{compare_vi_funct6, compare_vi_of, multiply_funct6, multiply_of, reduction_funct6, reduction_of, width_funct3, width_of}
 use Rattle.rv_encoding.proofs.Lists.{find_passes}
 
 -- ---- an operation on two vector registers

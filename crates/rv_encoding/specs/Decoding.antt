@@ -10,8 +10,8 @@ use Rattle.rv_insn.specs.declared.vector_instructions.VectorInsn.TheVariants as 
 use Rattle.rv_insn.specs.declared.vector_instructions.Addressing.{Addressing}
 use Rattle.rv_insn.specs.declared.vector_instructions.Addressing.TheVariants as addressings
 use Rattle.rv_insn.specs.declared.vector_operations.ElementWidth.{ElementWidth}
-use Rattle.rv_encoding.specs.Operations.{arithmetic_vv_of, arithmetic_vx_of, arithmetic_vi_of, shift_vi_of, compare_vv_of, compare_vx_of, compare_vi_of}
-use Rattle.rv_encoding.specs.Operations.{multiply_of, reduction_of, width_of, branch_of, load_of, store_of, alu_imm_of, shift_of, alu_of}
+use Rattle.operation_keys.specs.Operations.{arithmetic_vv_of, arithmetic_vx_of, arithmetic_vi_of, shift_vi_of, compare_vv_of, compare_vx_of, compare_vi_of}
+use Rattle.operation_keys.specs.Operations.{multiply_of, reduction_of, width_of, branch_of, load_of, store_of, alu_imm_of, shift_of, alu_of}
 use Rattle.rv_insn.specs.declared.operations.AluImmOp.{AluImmOp}
 
 -- the number in so many bits of the word, from the bit `low` up

@@ -15,9 +15,9 @@ use Rattle.rv_insn.specs.VectorTable as fields
 use Rattle.rv_insn.specs.VectorTable.{v_row, opivv_type, opmvv_type, opivi_type, opivi_shift_type, opivx_type, opmvx_type, merge_vv_type, merge_vi_type}
 use Rattle.rv_insn.specs.VectorTable.{merge_vx_type, move_vv_type, move_vi_type, move_vx_type, to_scalar_type, from_scalar_type, numbers_type, extend_type}
 use Rattle.rv_insn.specs.VectorTable.{vsetvli_type, vsetivli_type, vsetvl_type, unit_type, strided_type, indexed_type}
-use Rattle.rv_encoding.specs.Operations.{arithmetic_vv_funct6, arithmetic_vx_funct6, arithmetic_vi_funct6, shift_vi_funct6, compare_vv_funct6}
-use Rattle.rv_encoding.specs.Operations.{compare_vx_funct6, compare_vi_funct6, multiply_funct6, reduction_funct6, width_funct3, branch_funct3, load_funct3}
-use Rattle.rv_encoding.specs.Operations.{store_funct3, alu_imm_funct3, shift_funct3, shift_funct7, alu_funct3, alu_funct7}
+use Rattle.operation_keys.specs.Operations.{arithmetic_vv_funct6, arithmetic_vx_funct6, arithmetic_vi_funct6, shift_vi_funct6, compare_vv_funct6}
+use Rattle.operation_keys.specs.Operations.{compare_vx_funct6, compare_vi_funct6, multiply_funct6, reduction_funct6, width_funct3, branch_funct3, load_funct3}
+use Rattle.operation_keys.specs.Operations.{store_funct3, alu_imm_funct3, shift_funct3, shift_funct7, alu_funct3, alu_funct7}
 
 -- the row's fixed bits hold in the word, and these are the numbers at its fields' places
 unfoldable pub Stands : ℕ → Row → List ℤ → Type 0

@@ -1,3 +1,3 @@
 pub mod Decoding
 pub mod Formats
-pub mod Operations
+pub use Rattle.operation_keys.specs.Operations

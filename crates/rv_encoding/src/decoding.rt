@@ -10,9 +10,9 @@ use crate::fields::{
     b_offset, flag, funct3, funct5, funct7, i_immediate, j_offset, opcode, rd, rs1, rs2,
     s_immediate, shift_amount, u_immediate,
 };
-use crate::keys::{alu_imm_op, alu_op, branch_op, load_op, shift_op, store_op};
 use crate::opcodes;
 use crate::vector_decoding::vector;
+use operation_keys::{alu_imm_op, alu_op, branch_op, load_op, shift_op, store_op};
 use rv_insn::Insn;
 
 fn branch(word: u32) -> Option<Insn>

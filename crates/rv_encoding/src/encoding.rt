@@ -5,17 +5,17 @@ ghost use Rattle.rv_insn.specs.Table.{Means};
 ghost use Rattle.rv_insn.specs.Encoding.{bit_of};
 ghost use Rattle.rv_insn.specs.Table.{r_type, i_type, s_type, b_type, u_type, j_type, amo_type, whole_word};
 ghost use Rattle.rv_encoding.specs.Formats.{Stands, StandsFor};
-ghost use Rattle.rv_encoding.specs.Operations.{store_funct3 as store_key, shift_funct3 as shift_key};
-ghost use Rattle.rv_encoding.specs.Operations.{shift_funct7 as shift_second_key, alu_funct3 as alu_key};
-ghost use Rattle.rv_encoding.specs.Operations.{alu_funct7 as alu_second_key};
+ghost use Rattle.operation_keys.specs.Operations.{store_funct3 as store_key, shift_funct3 as shift_key};
+ghost use Rattle.operation_keys.specs.Operations.{shift_funct7 as shift_second_key, alu_funct3 as alu_key};
+ghost use Rattle.operation_keys.specs.Operations.{alu_funct7 as alu_second_key};
 
-use crate::keys::{
-    alu_funct3, alu_funct7, alu_imm_funct3, branch_funct3, load_funct3, shift_funct3, shift_funct7,
-    store_funct3,
-};
 use crate::opcodes;
 use crate::packing::{digits_12, digits_20, pack_b, pack_i, pack_j, pack_r, pack_s, pack_u};
 use crate::vector_encoding::vector_word;
+use operation_keys::{
+    alu_funct3, alu_funct7, alu_imm_funct3, branch_funct3, load_funct3, shift_funct3, shift_funct7,
+    store_funct3,
+};
 use rv_insn::{
     AluOp, BranchOffset, Imm12, Imm20, Insn, JumpOffset, Reg, ShiftAmount, ShiftOp, StoreOp,
 };

@@ -15,13 +15,11 @@
 mod decoding;
 mod encoding;
 mod fields;
-mod keys;
 mod laws;
 mod opcodes;
 mod packing;
 mod vector_decoding;
 mod vector_encoding;
-mod vector_keys;
 
 pub use crate::decoding::decode;
 pub use crate::encoding::encode;

@@ -10,7 +10,7 @@ use crate::fields::{
     vs1, vs2, vtype10, vtype11,
 };
 use crate::opcodes;
-use crate::vector_keys::{
+use operation_keys::{
     arithmetic_vi_op, arithmetic_vv_op, arithmetic_vx_op, compare_vi_op, compare_vv_op,
     compare_vx_op, multiply_op, reduction_op, shift_vi_op, width_of,
 };

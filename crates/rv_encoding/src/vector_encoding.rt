@@ -12,7 +12,7 @@ ghost use Rattle.rv_encoding.specs.Formats.{offset_shape, access_shape, operands
 
 use crate::opcodes;
 use crate::packing::{VectorFields, digits_5, pack_i, pack_r, pack_v};
-use crate::vector_keys::{
+use operation_keys::{
     arithmetic_vi_funct6, arithmetic_vv_funct6, arithmetic_vx_funct6, compare_vi_funct6,
     compare_vv_funct6, compare_vx_funct6, multiply_funct6, reduction_funct6, shift_vi_funct6,
     width_funct3,

@@ -1,8 +1,8 @@
 use Rattle.std.proofs.Common.{◌≡◌, length}
 use Rattle.std.specs.Prelude.{None}
 use Rattle.memory.specs.Access.{put, Writes, first_fault, spread, touched}
-use Rattle.hart_core.specs.VectorRows.{accesses_at}
-use Rattle.hart_core.proofs.element_accesses.write_numbers.Given as goal
+use Rattle.memory_accesses.specs.Elements.{accesses_at}
+use Rattle.memory_accesses.proofs.elements.write_numbers.Given as goal
 
 -- those that are left, put into what stands now, give what all give
 abbrev pub invariant-loop-addresses : goal.invariant-loop-addresses

@@ -1,11 +1,11 @@
 //! The keys that tell the operations of a group apart: the fields funct3 and funct7 of their rows.
 
 ghost use Rattle.std.specs.Prelude.{◌≡◌, ◌<◌, ◌^◌};
-ghost use Rattle.rv_encoding.specs.Operations.{branch_funct3 as branch_key, branch_of, load_funct3 as load_key};
-ghost use Rattle.rv_encoding.specs.Operations.{load_of, store_funct3 as store_key, store_of};
-ghost use Rattle.rv_encoding.specs.Operations.{alu_imm_funct3 as alu_imm_key, alu_imm_of, shift_funct3 as shift_key};
-ghost use Rattle.rv_encoding.specs.Operations.{shift_funct7 as shift_second_key, shift_of, alu_funct3 as alu_key};
-ghost use Rattle.rv_encoding.specs.Operations.{alu_funct7 as alu_second_key, alu_of};
+ghost use Rattle.operation_keys.specs.Operations.{branch_funct3 as branch_key, branch_of, load_funct3 as load_key};
+ghost use Rattle.operation_keys.specs.Operations.{load_of, store_funct3 as store_key, store_of};
+ghost use Rattle.operation_keys.specs.Operations.{alu_imm_funct3 as alu_imm_key, alu_imm_of, shift_funct3 as shift_key};
+ghost use Rattle.operation_keys.specs.Operations.{shift_funct7 as shift_second_key, shift_of, alu_funct3 as alu_key};
+ghost use Rattle.operation_keys.specs.Operations.{alu_funct7 as alu_second_key, alu_of};
 
 use rv_insn::{AluImmOp, AluOp, BranchOp, LoadOp, ShiftOp, StoreOp};
 

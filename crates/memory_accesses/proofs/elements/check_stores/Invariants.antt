@@ -1,7 +1,7 @@
 use Rattle.std.proofs.Common.{◌≡◌, length}
 use Rattle.memory.specs.Access.{Writes, first_fault}
-use Rattle.hart_core.specs.VectorRows.{accesses_at}
-use Rattle.hart_core.proofs.element_accesses.check_stores.Given as goal
+use Rattle.memory_accesses.specs.Elements.{accesses_at}
+use Rattle.memory_accesses.proofs.elements.check_stores.Given as goal
 
 -- the first fault of those that are left is the first of all
 abbrev pub invariant-loop-rest : goal.invariant-loop-rest

@@ -2,7 +2,7 @@
 //! rows, or the width of a load or store.
 
 ghost use Rattle.std.specs.Prelude.{◌≡◌, ◌<◌, ◌^◌};
-ghost use Rattle.rv_encoding.specs.Operations as keys;
+ghost use Rattle.operation_keys.specs.Operations as keys;
 
 use rv_insn::{
     ArithmeticViOp, ArithmeticVvOp, ArithmeticVxOp, CompareViOp, CompareVvOp, CompareVxOp,
