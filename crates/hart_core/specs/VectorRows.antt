@@ -3,7 +3,7 @@
 -- RISC-V Vector Extension 1.0, chapters 6 "Configuration-Setting Instructions" and 7 "Vector Loads and Stores", section 16.1 "Integer
 -- Scalar Move Instructions". That a misaligned element is a trap (chapter 8 leaves it open), that a fault of one element leaves all as it
 -- was, and that elements are touched in rising order, is this project's own.
-use Rattle.std.specs.Prelude.{ℕ, List, [], map, Option, Some, None}
+use Rattle.std.specs.Prelude.{ℕ, List, [], Option, Some, None}
 use Rattle.rv_insn.specs.declared.vector_instructions.VectorInsn.{VectorInsn}
 use Rattle.rv_insn.specs.declared.vector_instructions.VectorInsn.TheVariants as v
 use Rattle.rv_insn.specs.declared.vector_operations.ElementWidth.{ElementWidth}
