@@ -1,5 +1,5 @@
 -- The lines of words that are listed one after the other, each with its address.
-use Rattle.std.proofs.Common.{◌≡◌, ◌∙◌, ℕ, refl, sym, ap, List, [], ◌∷◌, ◌++◌, ◌+◌, ◌-◌, ◌*◌, ◌<◌, ◌≤◌, suc, arith, drop, get_or, take, length, length-append}
+use Rattle.std.proofs.Common.{◌≡◌, ◌∙◌, ℕ, refl, sym, ap, List, [], ◌∷◌, ◌++◌, ◌+◌, ◌-◌, ◌*◌, ◌<◌, ◌≤◌, arith, drop, get_or, take, length, length-append}
 use Rattle.std.proofs.Common.{append-nil, append_assoc, subst}
 use Rattle.std.proofs.Math.Seq.{take-length}
 use Rattle.disassembler.specs.Listing.{addressed_line, addressed_listing}
