@@ -1,3 +1,5 @@
+use Rattle.std.proofs.Common.{arith}
+use Rattle.std.proofs.lemmas.Grind.{common_steps}
 use Rattle.std.proofs.Common.{sym, ◌∙◌, refl, ap}
 use Rattle.picture.specs.Evaluated.{judged}
 use Rattle.picture.proofs.Outputs.{output_from_table}
@@ -13,3 +15,6 @@ returns g c =
           (rw output at table.bounds.height_is)
           (rw output at (sym c.new.ensures.value ∙ c.unwrap-picture.ensures)) (rw c.unwrap-picture.ensures at c.new.ensures.rules),
     )
+
+pub unwrap-picture-requires : goal.unwrap-picture-requires
+unwrap-picture-requires g c = grind (arith, common_steps)

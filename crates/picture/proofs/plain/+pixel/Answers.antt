@@ -1,3 +1,4 @@
+use Rattle.std.proofs.lemmas.Grind.{common_steps}
 use Rattle.std.proofs.Common.{◌≡◌, ◌<◌, ◌+◌, ◌-◌, ◌^◌, Some, sym, ap, subst, ◌∙◌, refl, arith}
 use Rattle.std.specs.Prelude.{slice_get}
 use Rattle.halide_pipeline.specs.Expressions.{nodes}
@@ -421,3 +422,23 @@ index_value-value-requires t c =
     let less = less_size c.args.scene.now c.args.own 0 0 (nodes c.in-Some.index + 6) (all_nodes c.args.scene.now.funcs.now + 7)
     (omega (arith, c.requires.short, part)) in
     (rw c.decreases at less, (c.requires.tables, (tt, omega (arith, c.requires.short, part))))
+
+pub after-returns : goal.after-returns
+unfolding after
+after-returns t c = grind (arith, common_steps)
+
+pub after-returns-then-number-eq0 : goal.after-returns-then-number-eq0
+unfolding after
+after-returns-then-number-eq0 t c = grind (arith, common_steps)
+
+pub stage-returns : goal.stage-returns
+unfolding stage
+stage-returns t c = grind (arith, common_steps)
+
+pub stage-returns-in_default-get : goal.stage-returns-in_default-get
+unfolding stage
+stage-returns-in_default-get t c = grind (arith, common_steps)
+
+pub stage-returns-then-updates-eq0 : goal.stage-returns-then-updates-eq0
+unfolding stage
+stage-returns-then-updates-eq0 t c = grind (arith, common_steps)
