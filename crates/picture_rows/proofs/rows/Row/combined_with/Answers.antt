@@ -1,3 +1,5 @@
+use Rattle.std.proofs.Common.{arith}
+use Rattle.std.proofs.lemmas.Grind.{common_steps}
 use Rattle.picture_rows.proofs.Steps.{step-adds, step-subtracts}
 use Rattle.picture_rows.proofs.BetweenBounds.{step-maximum, step-minimum, clamped-minimum}
 use Rattle.picture_rows.proofs.rows.Row.combined_with.Goals as goal
@@ -17,3 +19,6 @@ returns-in-Step-Minimum c = step-minimum _ c.in-Step-Minimum.first c.args.second
 pub returns-in-Clamped-Minimum : goal.returns-in-Clamped-Minimum
 returns-in-Clamped-Minimum c =
     clamped-minimum _ c.args.second _ c.in-Clamped-Minimum.clamp _ _ c.in-Clamped-Minimum.is-0 c.in-Clamped-Minimum.is-1 c.minimum.ensures
+
+pub returns-in_ok-values-in_default : goal.returns-in_ok-values-in_default
+returns-in_ok-values-in_default c = grind (arith, common_steps)

@@ -1,0 +1,6 @@
+use Rattle.std.proofs.Common.{arith}
+use Rattle.std.proofs.lemmas.Grind.{common_steps}
+use Rattle.picture_rows.proofs.rows.Row.chosen.Goals as goal
+
+pub returns-in_ok-others-in_default : goal.returns-in_ok-others-in_default
+returns-in_ok-others-in_default c = grind (arith, common_steps)
