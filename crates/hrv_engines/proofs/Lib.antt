@@ -10,6 +10,7 @@ pub mod MarkRows
 pub mod Numbers
 pub mod PictureFronts
 pub mod Pixels
+pub mod PrintedPictures
 pub mod Printing
 pub mod Runs
 pub mod Sources

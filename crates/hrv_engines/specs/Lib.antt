@@ -13,6 +13,7 @@ pub mod Engine
 pub mod Faults
 pub mod Logs
 pub mod Map
+pub mod PrintedPictures
 pub mod Profile
 pub mod Refusals
 pub mod Renew

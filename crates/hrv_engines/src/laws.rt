@@ -12,6 +12,12 @@ ghost use Rattle.halide_parser_syntax.specs.declared.faults.ParseFault.{ParseFau
 ghost use Rattle.halide_parser.specs.Parsing.{parsed};
 ghost use Rattle.halide_pipeline.specs.Contents.{PictureContents};
 ghost use Rattle.picture.specs.Reading.{picture_of};
+ghost use Rattle.turn_log.specs.TurnLog.{LogState};
+ghost use Rattle.hrv_engines.specs.Compile.{IsCompilation, Texts};
+ghost use Rattle.hrv_engines.specs.Dump.{hart_texts};
+ghost use Rattle.hrv_engines.specs.PrintedPictures.{EndsFinished, EndsWithDrawing};
+ghost use Rattle.hrv_engines.specs.Replay.{IsReplay, replayed};
+ghost use Rattle.hrv_engines.specs.Run.{IsRunFrom};
 ghost use Rattle.hrv_engines.specs.Devices.{most_algorithm_bytes, most_image_bytes, most_picture_bytes};
 
 /// More bytes than an image has are refused, and whatever begins with them with the same fault.
@@ -45,4 +51,21 @@ pub fn long_pictures_are_refused_by_their_front()
 pub fn logs_are_refused_by_their_front()
     ensures { (front rest : List ℕ) (fault : LogFault) → fault ≢ Truncated → log_of front ≡ Err fault
         → log_of (front ++ rest) ≡ Err fault }
+{}
+
+/// Where all harts of a compiled image have finished at a log's end, the text that `replay` prints of the image and the
+/// log is what it says of the harts and then, byte for byte, what `picture` prints of the same algorithm and pictures;
+/// and so is the text that a run prints which leaves this log. So a schedule changes speed and never pixels, from the
+/// texts that a user writes to the text that a user reads.
+pub fn printed_pictures_are_drawn()
+    ensures replayed { (alloc : Global) (texts : Texts) (image_bytes log_bytes text : List ℕ) (image : ImageContents)
+        (log : LogState) → IsCompilation alloc texts image_bytes → EndsFinished image_bytes log_bytes image log
+        → IsReplay (image_bytes, log_bytes) text
+        → EndsWithDrawing alloc (texts.0.0, texts.1)
+        (hart_texts (replayed image log) log.turns (length (replayed image log).harts)) text }
+    ensures ran { (alloc : Global) (texts : Texts) (image_bytes log_bytes text : List ℕ) (image : ImageContents)
+        (log old : LogState) (limit : ℕ) → IsCompilation alloc texts image_bytes
+        → EndsFinished image_bytes log_bytes image log → IsRunFrom image image_bytes old limit log_bytes text
+        → EndsWithDrawing alloc (texts.0.0, texts.1)
+        (hart_texts (replayed image log) log.turns (length (replayed image log).harts)) text }
 {}
