@@ -1,9 +1,10 @@
 -- The text of a record is read as that record.
-use Rattle.std.proofs.Common.{◌≡◌, ◌≢◌, ℕ, zero, suc, ◌^◌, ◌<◌, ◌≤◌, ◌/◌, ◌%◌, ◌*◌, true, List, [], ◌∷◌, ◌++◌, length, codes}
-use Rattle.std.proofs.Common.{Option, Some, Result, Ok, nat_eq, slice_index, refl, ap, subst, ◌∙◌, arith}
+use Rattle.std.proofs.Common.{◌≡◌, ◌≢◌, ℕ, zero, suc, ◌+◌, ◌^◌, ◌<◌, ◌≤◌, ◌/◌, ◌%◌, ◌*◌, true, List, [], ◌∷◌, ◌++◌, length, codes}
+use Rattle.std.proofs.Common.{Option, Some, Result, Ok, nat_eq, slice_index, refl, sym, ap, subst, ◌∙◌, arith}
 use Rattle.std.specs.Fmt.{decimal}
 use Rattle.std.specs.List.{list_all, prefix_len, starts_with}
 use Rattle.std.proofs.Math.Seq.{take-append_seam, drop-append_seam}
+use Rattle.std.proofs.lemmas.Bool.{eqb-true}
 use Rattle.std.proofs.lemmas.Bool.Decides.{nat_tests}
 use Rattle.std.proofs.lemmas.List.{append_assoc, append-nil}
 use Rattle.hex.specs.Hex.{IsBytes, decode_pairs, decode_sized, encode_lower, encode_with, lower_digits}
@@ -11,6 +12,7 @@ use Rattle.hex.proofs.HexLemmas.{IsDigits-lower_digits, decode_pairs-encode_with
 use Rattle.line_text.specs.Lines.{◌>>=◌, decimal_number, first_line, is_digit, is_in_line}
 use Rattle.line_text.proofs.Numerals.{decimal_digits, decimal_value}
 use Rattle.line_text.proofs.SpanLaws.{prefix_len-front}
+use Rattle.rv_insn.specs.Trap.{trap_number}
 use Rattle.rv_insn.specs.declared.outcomes.Trap.TheVariants as traps
 use Rattle.run_records.specs.declared.faults.RecordError.{RecordError}
 use Rattle.run_records.specs.declared.faults.RecordFault.{RecordFault}
@@ -18,7 +20,7 @@ use Rattle.run_records.specs.declared.faults.RecordFault.TheVariants as faults
 use Rattle.run_records.specs.declared.records.Ending.{Ending}
 use Rattle.run_records.specs.declared.records.Ending.TheVariants.{Finished, Limit, Trapped}
 use Rattle.run_records.specs.RecordText.{Contents, IsRecord, are_visible, at_end, behind_heading, behind_name, digest_in, digest_item, ending_in, ending_item}
-use Rattle.run_records.specs.RecordText.{ending_text, headed, if_decoded, item, most_limit, number_in, number_item, record_in, record_text, trap_of}
+use Rattle.run_records.specs.RecordText.{ending_text, headed, if_decoded, item, most_limit, number_in, number_item, record_in, record_text, same_ending, trap_of}
 use Rattle.run_records.specs.RecordText.{with_meaning, with_value, word_in, word_item}
 
 -- ---- a line is read back
@@ -114,6 +116,23 @@ ending_back (Trapped traps.LoadOutside) = refl
 ending_back (Trapped traps.StoreMisaligned) = refl
 ending_back (Trapped traps.StoreOutside) = refl
 ending_back (Trapped traps.Breakpoint) = refl
+
+one_ending : (first second : Ending) → Some first ≡ Some second → first ≡ second
+one_ending first second e = cc
+
+pub endings_are_one : (first second : Ending) → same_ending first second ≡ true → first ≡ second
+endings_are_one Finished Finished same = refl
+endings_are_one Finished Limit same = absurd cc
+endings_are_one Finished (Trapped other) same = absurd cc
+endings_are_one Limit Finished same = absurd cc
+endings_are_one Limit Limit same = refl
+endings_are_one Limit (Trapped other) same = absurd cc
+endings_are_one (Trapped first) Finished same = absurd cc
+endings_are_one (Trapped first) Limit same = absurd cc
+endings_are_one (Trapped first) (Trapped second) same =
+    let number : trap_number first ≡ trap_number second = eqb-true (trap_number first) (trap_number second) same in
+    one_ending (Trapped first) (Trapped second)
+    (sym (ending_back (Trapped first)) ∙ ap (λ n. ending_in (codes "trap " ++ (48 + n) ∷ [])) number ∙ ending_back (Trapped second))
 
 -- ---- all lines
 

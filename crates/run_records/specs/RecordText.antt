@@ -1,7 +1,7 @@
 -- The record of a run as a text: eight lines, each a name, a space and a value. Of what is read the last one needs no line feed.
 -- This project's own.
 use Rattle.std.specs.Prelude.{◌≡◌, ◌≢◌, ℕ, ◌+◌, ◌≤◌, ◌==◌, ◌&&◌, ◌||◌, not, nat_eq, nat_lt, if◌then◌else◌}
-use Rattle.std.specs.Prelude.{Bool, true, List, [], ◌∷◌, ◌++◌, length, drop, min, codes, Option, Some, None, Result, Ok, Err}
+use Rattle.std.specs.Prelude.{Bool, true, false, List, [], ◌∷◌, ◌++◌, length, drop, min, codes, Option, Some, None, Result, Ok, Err}
 use Rattle.std.specs.Fmt.{decimal}
 use Rattle.std.specs.List.{list_all, prefix_len, starts_with}
 use Rattle.std.specs.Str.{bytes_eq}
@@ -42,6 +42,13 @@ contents_of r = record {
 -- the most turns that a hart may be given
 abbrev pub most_limit : ℕ
 most_limit = 1099511627776
+
+-- whether two runs ended in the same way
+abbrev pub same_ending : Ending → Ending → Bool
+same_ending Finished Finished = true
+same_ending Limit Limit = true
+same_ending (Trapped first) (Trapped second) = trap_number first == trap_number second
+same_ending _ _ = false
 
 -- ---- the text of a record
 

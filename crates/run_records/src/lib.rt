@@ -2,8 +2,8 @@
 //!
 //! - [`records`]: which program made a run of which image, how long each hart might go on, and how it ended
 //!   ([`RunRecord`]).
-//! - [`writing`]: a record as lines ([`push_record`]), and [`reading`]: the record of such lines ([`read_record`]), over
-//!   `specs/RecordText.antt`.
+//! - [`writing`]: a record as lines ([`push_record`]), with digests as digits ([`digits_of`]); [`reading`]: the record
+//!   of such lines ([`read_record`]), over `specs/RecordText.antt`.
 //! - [`faults`]: why a text is no record ([`RecordFault`]).
 //! - [`laws`]: that the text of a record is read as that record.
 #![tactic(auto)]
@@ -19,4 +19,4 @@ pub mod writing;
 pub use crate::faults::{RecordError, RecordFault};
 pub use crate::reading::read_record;
 pub use crate::records::{Ending, MOST_LIMIT, RunRecord};
-pub use crate::writing::push_record;
+pub use crate::writing::{digits_of, push_record};

@@ -1,5 +1,8 @@
 //! The record of a run.
 
+ghost use Rattle.std.specs.Prelude.{◌≡◌};
+ghost use Rattle.run_records.specs.RecordText.{same_ending};
+
 use rv_insn::Trap;
 
 /// How a run ended.
@@ -11,6 +14,19 @@ pub enum Ending {
     Limit,
     /// Of the harts that trapped, the one with the least number trapped so.
     Trapped(Trap),
+}
+
+impl Ending {
+    /// Whether two runs ended in the same way.
+    pub fn is_same(self, other: Ending) -> bool
+        ensures { result ≡ same_ending self other }
+    {
+        match (self, other) {
+            (Ending::Finished, Ending::Finished) | (Ending::Limit, Ending::Limit) => true,
+            (Ending::Trapped(first), Ending::Trapped(second)) => first.number() == second.number(),
+            _ => false,
+        }
+    }
 }
 
 /// What is kept of a run beside its log.

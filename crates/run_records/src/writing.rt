@@ -42,13 +42,20 @@ fn push_number(text: &mut Vec<u8>, name: &[u8], number: u64) -> Result<(), Alloc
     push_item(text, name, buffer.format(number).as_bytes())
 }
 
-/// Appends a line whose value is a digest, by hexadecimal digits.
+/// Appends a line whose value is a digest.
 fn push_digest(text: &mut Vec<u8>, name: &[u8], digest: &[u8; 32]) -> Result<(), AllocError>
     ensures { OnOk result (text.new.items ≡ text.old.items ++ (name.now ++ encode_lower digest.now ++ 10 ∷ [])) }
 {
+    push_item(text, name, &digits_of(digest))
+}
+
+/// The hexadecimal digits of a digest, with small letters.
+pub fn digits_of(digest: &[u8; 32]) -> [u8; 64]
+    ensures { result ≡ encode_lower digest.now }
+{
     let mut digits = [0; 64];
     hex::encode_to_slice(digest.as_slice(), &mut digits).unwrap();
-    push_item(text, name, &digits)
+    digits
 }
 
 /// Appends the line `ending finished`, `ending limit` or `ending trap K`.
