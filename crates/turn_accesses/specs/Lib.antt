@@ -1,0 +1,2 @@
+pub mod Accesses
+pub mod inner

@@ -1,0 +1,20 @@
+//! What the next turn of a hart touches, known before the turn.
+//!
+//! - [`values`]: the numbers that a turn loads, stores, or both ([`Accesses`]), over `specs/Accesses.antt`.
+//! - [`turns`]: those of a hart's next turn, none where it rests or traps ([`next_accesses`]).
+//! - `numbers`: whether numbers may be touched at addresses.
+//! - [`tables`]: the instructions of a text that touch memory, found once ([`accesses_of`], [`access_at`]).
+//! - [`spans`]: between which bytes accesses lie ([`Span`]).
+#![tactic(auto)]
+
+mod numbers;
+pub mod spans;
+pub mod tables;
+pub mod turns;
+pub mod values;
+
+pub use crate::numbers::Sizes;
+pub use crate::spans::{Span, span_of};
+pub use crate::tables::{access_at, accesses_of};
+pub use crate::turns::next_accesses;
+pub use crate::values::{AccessKind, Accesses};

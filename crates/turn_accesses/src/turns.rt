@@ -1,0 +1,148 @@
+//! What the next turn of a hart touches.
+
+ghost use Rattle.std.specs.Prelude.{◌≡◌, ◌≤◌, ℕ, List, length, map, None, false, true, IfSome, OnSome};
+ghost use Rattle.memory.specs.Access.{most_words};
+ghost use Rattle.vector_unit.specs.Accesses.{addresses_by, spacing_of};
+ghost use Rattle.vector_unit.specs.Vector.{is_refused};
+ghost use Rattle.hart_core.specs.HartState.{register, vectors_of};
+ghost use Rattle.hart_core.specs.Scalar.{load_size, store_size};
+ghost use Rattle.hart_core.specs.Turn.{fault, judged, next_of};
+ghost use Rattle.hart_core.specs.VectorRows.{size_of};
+ghost use Rattle.multi_hart.specs.Run.{reads, writes};
+ghost use Rattle.rv_insn.specs.declared.instructions.Insn.TheVariants as insns;
+ghost use Rattle.turn_accesses.specs.Accesses.{access_in, reads_in, writes_in};
+
+use crate::numbers::{Sizes, elements_touched, number_touched};
+use crate::tables::access_at;
+use crate::values::{AccessKind, Accesses};
+use hart_core::{Hart, Status};
+use rv_insn::{Addressing, ElementWidth, Insn, LoadOp, Reg, StoreOp, VectorInsn};
+use vector_unit::Numbers;
+
+/// What the next turn of a hart touches, over so many bytes of data and a text of which it is known which words touch
+/// memory.
+#[inline(always)]
+pub fn next_accesses(hart: &Hart, insns: &[Option<Insn>], bytes: usize) -> Accesses
+    requires { length insns.now ≤ most_words }
+    ensures reads { (text : List ℕ) → insns.now ≡ map access_in text → reads_in result
+        ≡ reads (next_of text bytes hart.now) hart.now }
+    ensures writes { (text : List ℕ) → insns.now ≡ map access_in text → writes_in result
+        ≡ writes (next_of text bytes hart.now) hart.now }
+{
+    let Status::Running = hart.status() else {
+        return Accesses::Nothing;
+    };
+    let sizes = Sizes {
+        words: insns.len(),
+        bytes,
+    };
+    match access_at(insns, hart.pc()) {
+        Some(insn) => touched_by(hart, insn, sizes),
+        None => Accesses::Nothing,
+    }
+}
+
+/// What an instruction touches that is due in the hart's state: nothing where it traps.
+#[inline(always)]
+fn touched_by(hart: &Hart, insn: &Insn, sizes: Sizes) -> Accesses
+    requires { sizes.words ≤ most_words }
+    ensures reads { reads_in result
+        ≡ reads (judged insn.now (fault sizes.words sizes.bytes insn.now hart.now)) hart.now }
+    ensures writes { writes_in result
+        ≡ writes (judged insn.now (fault sizes.words sizes.bytes insn.now hart.now)) hart.now }
+{
+    match *insn {
+        Insn::Load { op, rs1, imm, .. } => {
+            let address = hart.address(rs1, imm);
+            number_touched(AccessKind::Loads, address, width_loaded(op), sizes)
+        }
+        Insn::Store { op, rs1, imm, .. } => {
+            let address = hart.address(rs1, imm);
+            number_touched(AccessKind::Stores, address, width_stored(op), sizes)
+        }
+        Insn::AmoaddW { rs1, .. } => {
+            let address = hart.register(rs1);
+            number_touched(AccessKind::Adds, address, ElementWidth::Bits32, sizes)
+        }
+        Insn::Vector(ref vector) => touched_by_vector(hart, vector, sizes),
+        _ => Accesses::Nothing,
+    }
+}
+
+/// The same of a vector instruction.
+fn touched_by_vector(hart: &Hart, insn: &VectorInsn, sizes: Sizes) -> Accesses
+    requires { sizes.words ≤ most_words }
+    ensures reads { reads_in result ≡ reads (judged (insns.Vector insn.now)
+        (fault sizes.words sizes.bytes (insns.Vector insn.now) hart.now)) hart.now }
+    ensures writes { writes_in result ≡ writes (judged (insns.Vector insn.now)
+        (fault sizes.words sizes.bytes (insns.Vector insn.now) hart.now)) hart.now }
+{
+    match *insn {
+        VectorInsn::LoadElements {
+            width,
+            rs1,
+            addressing,
+            vm,
+            ..
+        } => match addresses_of(hart, insn, width, addressing, vm, rs1) {
+            Some(addresses) => elements_touched(AccessKind::Loads, addresses, width, sizes),
+            None => Accesses::Nothing,
+        },
+        VectorInsn::StoreElements {
+            width,
+            rs1,
+            addressing,
+            vm,
+            ..
+        } => match addresses_of(hart, insn, width, addressing, vm, rs1) {
+            Some(addresses) => elements_touched(AccessKind::Stores, addresses, width, sizes),
+            None => Accesses::Nothing,
+        },
+        _ => Accesses::Nothing,
+    }
+}
+
+/// The addresses of the active elements that lie so, where the instruction is legal in the hart's state.
+fn addresses_of(
+    hart: &Hart,
+    insn: &VectorInsn,
+    width: ElementWidth,
+    addressing: Addressing,
+    vm: bool,
+    rs1: Reg,
+) -> Option<Numbers>
+    ensures some { IfSome result (λ addresses. addresses ≡ addresses_by (vectors_of hart.now)
+        (spacing_of width addressing (register hart.now)) vm (register hart.now rs1)) }
+    ensures legal { OnSome result (is_refused insn.now (vectors_of hart.now) ≡ false) }
+    ensures none { result ≡ None → is_refused insn.now (vectors_of hart.now) ≡ true }
+{
+    if hart.vectors().refuses(insn) {
+        return None;
+    }
+    let spacing = hart.spacing(width, addressing);
+    Some(hart.addresses(spacing, vm, rs1))
+}
+
+/// How wide a load's number is.
+#[inline(always)]
+fn width_loaded(op: LoadOp) -> ElementWidth
+    ensures { size_of result ≡ load_size op }
+{
+    match op {
+        LoadOp::Lb | LoadOp::Lbu => ElementWidth::Bits8,
+        LoadOp::Lh | LoadOp::Lhu => ElementWidth::Bits16,
+        LoadOp::Lw => ElementWidth::Bits32,
+    }
+}
+
+/// How wide a store's number is.
+#[inline(always)]
+fn width_stored(op: StoreOp) -> ElementWidth
+    ensures { size_of result ≡ store_size op }
+{
+    match op {
+        StoreOp::Sb => ElementWidth::Bits8,
+        StoreOp::Sh => ElementWidth::Bits16,
+        StoreOp::Sw => ElementWidth::Bits32,
+    }
+}
