@@ -1,0 +1,4 @@
+mod Passing
+mod Sharing
+mod Told
+mod Turning

@@ -1,0 +1,4 @@
+pub mod Laws
+pub mod RaceText
+pub mod Races
+pub mod inner
