@@ -1,3 +1,5 @@
+pub mod Counting
 pub mod Fitting
 pub mod Spanning
 pub mod Standing
+pub mod Walking

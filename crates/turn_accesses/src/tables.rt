@@ -18,7 +18,7 @@ pub fn accesses_of(alloc: Global, words: &[u32]) -> Result<Vec<Option<Insn>>, Al
 }
 
 /// The instruction that a word means, if that touches memory.
-fn access_of(word: u32) -> Option<Insn>
+pub(crate) fn access_of(word: u32) -> Option<Insn>
     ensures { result ≡ access_in word }
 {
     match decode(word) {
