@@ -1,4 +1,5 @@
 mod Passing
+mod Quieting
 mod Sharing
 mod Told
 mod Turning

@@ -15,7 +15,7 @@ use Rattle.turn_accesses.specs.Accesses.{Covers, meet}
 use Rattle.turn_accesses.specs.declared.spans.Span.{Span}
 use Rattle.turn_accesses.proofs.Spanning.{apart_spans, meet_swapped}
 use Rattle.race_reports.specs.Races.{race_in, shared_by}
-use Rattle.race_reports.specs.inner.Watching.{AreApart, AreSpans, IsApartFrom, IsSpan}
+use Rattle.race_reports.specs.inner.Watching.{AreApart, AreSpans, IsApartFrom, IsSpan, JustTurned}
 use Rattle.race_reports.proofs.Sharing.{finds_none}
 use Rattle.race_reports.proofs.Told.{AllApart, none_told, tells_none}
 
@@ -64,13 +64,31 @@ get-set_same [] i y below = absurd (omega (arith, below))
 get-set_same (x ∷ xs) zero y below = refl
 get-set_same (x ∷ xs) (suc i) y below = get-set_same xs i y (omega (arith, below))
 
--- a span for each hart after a turn, where that of its own hart is found anew
+-- a span for each hart, where that of one is found anew
+pub own_span : (state : State) (hart : ℕ) (spans : List Span) (span : Span) → hart < length state.harts → AreSpans state spans
+    → IsSpan state (hart_at state hart) span → AreSpans state (slice_set spans hart span)
+own_span state hart spans span below are own = record {
+  as_many = (let many = are.as_many in omega (arith, length-set spans hart span, many));
+  each = λ number one got. by_number number one got (cases_eq hart number);
+}
+  where
+    by_number : (number : ℕ) (one : Span) → slice_get (slice_set spans hart span) number ≡ Some one → (hart ≡ number) ⊎ (hart ≢ number)
+        → IsSpan state (hart_at state number) one
+    by_number number one got (inl same) =
+        let here : slice_get (slice_set spans hart span) hart ≡ Some span = get-set_same spans hart span (omega (arith, below, are.as_many)) in
+        let equal : Some span ≡ Some one = sym here ∙ ap (slice_get (slice_set spans hart span)) same ∙ got in
+        let one_is : span ≡ one = cc in
+        subst (λ (n : ℕ). IsSpan state (hart_at state n) one) same (subst (λ (s : Span). IsSpan state (hart_at state hart) s) one_is own)
+    by_number number one got (inr differ) = are.each number one (sym (slice_get-set_other spans hart number span differ) ∙ got)
+
+-- the same after a turn of that hart
 pub spans_after : (state after : State) (hart : ℕ) (spans : List Span) (span : Span) → after ≡ turn state hart → hart < length state.harts
     → AreSpans state spans → IsSpan after (hart_at after hart) span → AreSpans after (slice_set spans hart span)
 spans_after state after hart spans span is below are own =
     subst (λ (s : State). AreSpans s (slice_set spans hart span)) (sym is) (record {
       as_many = (let shape = shape-turn state hart in
-          omega (arith, length-set spans hart span, are.as_many, shape.harts));
+          let many = are.as_many in
+          omega (arith, length-set spans hart span, many, shape.harts));
       each = λ number one got. by_number number one got (cases_eq hart number);
     })
   where
@@ -207,3 +225,9 @@ apart_by_lookup words state spans hart number d e are below within apart =
     looked_up [] i x inside = absurd (omega (arith, inside))
     looked_up (y ∷ xs) zero x inside = refl
     looked_up (y ∷ xs) (suc i) x inside = looked_up xs i x (omega (arith, inside))
+
+pub spans_turned : (words : List ℕ) (state : State) (spans : List Span) (hart : ℕ) (span : Span) → JustTurned words state spans hart
+    → IsSpan state (hart_at state hart) span → AreSpans state (slice_set spans hart span)
+spans_turned words state spans hart span known own =
+    subst (λ (ss : List Span). AreSpans state ss) (known.others span)
+    (spans_after known.before state hart known.were span known.turned known.there known.spans_were own)

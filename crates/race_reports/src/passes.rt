@@ -2,10 +2,11 @@
 
 ghost use Rattle.std.specs.Prelude.{◌≡◌, ◌≤◌, ◌<◌, ℕ, None, length, map, replicate, take, IfOk, IfSome};
 ghost use Rattle.memory.specs.Access.{most_words};
-ghost use Rattle.multi_hart.specs.Run.{KeepsShape, run, turn};
+ghost use Rattle.multi_hart.specs.Run.{hart_at, run, turn};
 ghost use Rattle.turn_accesses.specs.Accesses.{access_in};
+ghost use Rattle.turn_accesses.specs.Quiet.{AreCounts, IsQuietFrom};
 ghost use Rattle.race_reports.specs.Races as spec;
-ghost use Rattle.race_reports.specs.inner.Watching.{AreClear, AreSpans};
+ghost use Rattle.race_reports.specs.inner.Watching.{AreClear, AreSpans, JustTurned};
 
 use crate::found::{FirstRace, RacingTurns};
 use crate::harts::race_in;
@@ -14,7 +15,7 @@ use hart_core::Status;
 use multi_hart::Machine;
 use rv_insn::Insn;
 use std::alloc::{AllocError, Global};
-use turn_accesses::{Span, accesses_of};
+use turn_accesses::{Span, accesses_of, quiet_at, quiets_of};
 use turn_log::TurnLog;
 
 /// Makes the turns of a log on a machine whose text has these words, up to the first place at which two harts race
@@ -34,20 +35,24 @@ pub fn first_race(
         ≡ run machine.old (take race.place log.now.turns))) }
 {
     let insns = accesses_of(alloc, words)?;
+    let quiets = quiets_of(alloc, words)?;
     let mut spans = spans_of(alloc, machine, &insns)?;
-    Ok(pass(machine, &insns, but, log, &mut spans))
+    Ok(pass(machine, &insns, &quiets, but, log, &mut spans))
 }
 
-/// The same, where it is known which words of text touch memory, and what each hart's next turn does.
+/// The same, where it is known which words of text touch memory and how many don't from each on, and what each hart's
+/// next turn does.
 fn pass(
     machine: &mut Machine,
     insns: &[Option<Insn>],
+    quiets: &[u32],
     but: &[u32],
     log: &TurnLog,
     spans: &mut [Span],
 ) -> Option<FirstRace>
     requires meant { insns.now ≡ map access_in machine.old.text }
     requires few { length insns.now ≤ most_words }
+    requires quiet { AreCounts machine.old.text quiets.now }
     requires harts { length machine.old.harts ≡ log.now.harts }
     requires spans { AreSpans machine.old spans.old }
     ensures race { result ≡ spec.first_race but.now 0 machine.old log.now.turns }
@@ -61,7 +66,7 @@ fn pass(
     }
     let mut place = 0;
     'runs: while let Some((hart, count)) = log.run_at(place) {
-        let stretch = pass_run(machine, insns, but, spans, hart, count);
+        let stretch = pass_run(machine, insns, quiets, but, spans, hart, count);
         place += stretch.made;
         if let Some(turns) = stretch.race {
             return Some(FirstRace { place, turns });
@@ -83,6 +88,7 @@ struct Stretch {
 fn pass_run(
     machine: &mut Machine,
     insns: &[Option<Insn>],
+    quiets: &[u32],
     but: &[u32],
     spans: &mut [Span],
     hart: usize,
@@ -91,6 +97,7 @@ fn pass_run(
     requires there { hart < length machine.old.harts }
     requires meant { insns.now ≡ map access_in machine.old.text }
     requires few { length insns.now ≤ most_words }
+    requires quiet { AreCounts machine.old.text quiets.now }
     requires spans { AreSpans machine.old spans.old }
     requires clear { spec.race_in but.now machine.old ≡ None }
     ensures within { result.made ≤ count }
@@ -102,7 +109,7 @@ fn pass_run(
 {
     let mut made = 0;
     'turns: while made < count {
-        let some = pass_some(machine, insns, but, spans, hart, count - made);
+        let some = pass_some(machine, insns, quiets, but, spans, hart, count - made);
         made += some.made;
         if let Some(turns) = some.race {
             return Stretch {
@@ -114,11 +121,13 @@ fn pass_run(
     Stretch { made, race: None }
 }
 
-/// Makes some turns of one hart: all that are left where it doesn't run, since they change nothing, or else one.
+/// Makes some turns of one hart: all that are left where it doesn't run, since they change nothing; all over words that
+/// touch no memory; or else one.
 #[inline(always)]
 fn pass_some(
     machine: &mut Machine,
     insns: &[Option<Insn>],
+    quiets: &[u32],
     but: &[u32],
     spans: &mut [Span],
     hart: usize,
@@ -127,6 +136,7 @@ fn pass_some(
     requires there { hart < length machine.old.harts }
     requires meant { insns.now ≡ map access_in machine.old.text }
     requires few { length insns.now ≤ most_words }
+    requires quiet { AreCounts machine.old.text quiets.now }
     requires spans { AreSpans machine.old spans.old }
     requires clear { spec.race_in but.now machine.old ≡ None }
     requires some { 1 ≤ most }
@@ -144,8 +154,44 @@ fn pass_some(
             race: None,
         };
     };
+    let quiet = u64::from(quiet_at(quiets, machine.pc(hart)));
+    if quiet > 0 {
+        return pass_quiet(machine, insns, but, spans, hart, quiet, most);
+    }
     let race = step(machine, insns, but, spans, hart);
     Stretch { made: 1, race }
+}
+
+/// Makes turns of one hart over so many words at most that touch no memory: no hart races between them that didn't
+/// before.
+#[inline(always)]
+fn pass_quiet(
+    machine: &mut Machine,
+    insns: &[Option<Insn>],
+    but: &[u32],
+    spans: &mut [Span],
+    hart: usize,
+    quiet: u64,
+    most: u64,
+) -> Stretch
+    requires there { hart < length machine.old.harts }
+    requires meant { insns.now ≡ map access_in machine.old.text }
+    requires few { length insns.now ≤ most_words }
+    requires spans { AreSpans machine.old spans.old }
+    requires clear { spec.race_in but.now machine.old ≡ None }
+    requires quiet { IsQuietFrom machine.old.text (hart_at machine.old hart).pc quiet }
+    requires some { 1 ≤ quiet }
+    requires most { 1 ≤ most }
+    ensures some { 1 ≤ result.made }
+    ensures within { result.made ≤ most }
+    ensures state { machine.new ≡ run machine.old (replicate result.made hart) }
+    ensures spans { AreSpans machine.new spans.new }
+    ensures clear { AreClear but.now machine.old hart result.made }
+    ensures race { result.race ≡ spec.race_in but.now machine.new }
+{
+    let made = machine.step_on(hart, quiet.min(most)).made;
+    let race = look(machine, insns, but, spans, hart);
+    Stretch { made, race }
 }
 
 /// Makes a turn, and says which harts race after it.
@@ -166,6 +212,26 @@ fn step(
     ensures race { result ≡ spec.race_in but.now machine.new }
 {
     let _ = machine.turn(hart);
+    look(machine, insns, but, spans, hart)
+}
+
+/// Says which harts race after a turn of a hart, and between which bytes its next turn touches memory.
+#[inline(always)]
+fn look(
+    machine: &Machine,
+    insns: &[Option<Insn>],
+    but: &[u32],
+    spans: &mut [Span],
+    hart: usize,
+) -> Option<RacingTurns>
+    requires there { hart < length machine.now.harts }
+    requires meant { insns.now ≡ map access_in machine.now.text }
+    requires few { length insns.now ≤ most_words }
+    requires as_many { length spans.old ≡ length machine.now.harts }
+    requires turned { JustTurned but.now machine.now spans.old hart }
+    ensures spans { AreSpans machine.now spans.new }
+    ensures race { result ≡ spec.race_in but.now machine.now }
+{
     spans[hart] = next_span(machine, insns, hart);
     if is_apart(machine, insns, but, spans, hart, 0) {
         return None;

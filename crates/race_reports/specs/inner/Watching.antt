@@ -1,8 +1,8 @@
 -- What is known of turns that may race. This project's own.
-use Rattle.std.specs.Prelude.{◌≡◌, ◌≢◌, ℕ, ◌≤◌, ◌<◌, List, length, replicate, slice_get, Some, None}
+use Rattle.std.specs.Prelude.{◌≡◌, ◌≢◌, ℕ, ◌≤◌, ◌<◌, List, length, replicate, slice_get, slice_set, Some, None}
 use Rattle.hart_core.specs.HartState.{HartState}
 use Rattle.hart_core.specs.Turn.{next_of}
-use Rattle.multi_hart.specs.Run.{State, hart_at, reads, run, writes}
+use Rattle.multi_hart.specs.Run.{State, hart_at, reads, run, turn, writes}
 use Rattle.turn_accesses.specs.Accesses.{Covers}
 use Rattle.turn_accesses.specs.declared.spans.Span.{Span}
 use Rattle.race_reports.specs.Races.{race_in, shared_by}
@@ -29,3 +29,13 @@ IsApartFrom words state hart number =
 -- turns of a hart without a race in a state before them, or between two of them
 abbrev pub AreClear : List ℕ → State → ℕ → ℕ → Type 0
 AreClear words state hart made = (k : ℕ) → k < made → race_in words (run state (replicate k hart)) ≡ None
+
+-- the state is the one after a turn of the hart, before which nothing raced, and the spans but the hart's own are known from there
+pub record JustTurned (words : List ℕ) (state : State) (spans : List Span) (hart : ℕ) : Type 0 where
+  pub before : State
+  pub there : hart < length before.harts
+  pub clear : race_in words before ≡ None
+  pub turned : state ≡ turn before hart
+  pub were : List Span
+  pub spans_were : AreSpans before were
+  pub others : (span : Span) → slice_set were hart span ≡ slice_set spans hart span

@@ -1,5 +1,6 @@
-use Rattle.std.proofs.Common.{◌≡◌, ◌∙◌, ap, arith, subst, sym}
-use Rattle.multi_hart.specs.Run.{State}
+use Rattle.std.proofs.Common.{◌≡◌, ◌≤◌, ◌∙◌, ℕ, ap, arith, subst, sym}
+use Rattle.multi_hart.specs.Run.{State, hart_at}
+use Rattle.turn_accesses.specs.Quiet.{IsQuietFrom}
 use Rattle.multi_hart.proofs.Resting.{run-staying, turn-resting}
 use Rattle.race_reports.specs.Races.{race_in}
 use Rattle.race_reports.specs.inner.Watching.{AreSpans}
@@ -19,3 +20,13 @@ returns-in_default c =
       clear = λ k below. ap (race_in but) (run-staying old c.args.hart k stays) ∙ c.requires.clear;
       race = sym (ap (race_in but) same ∙ c.requires.clear);
     }
+
+pub pass_quiet-requires-clause-quiet : goal.pass_quiet-requires-clause-quiet
+pass_quiet-requires-clause-quiet c =
+    let now = c.args.machine.now in
+    let wide = c.from-quiet.ensures in
+    let some : 1 ≤ c.quiet_at.result = omega arith in
+    let same : c.quiet_at.result ≡ c.from-quiet.result = omega (arith, wide) in
+    let pc : ℕ = (hart_at now c.args.hart).pc in
+    subst (λ (n : ℕ). IsQuietFrom now.text pc n) same
+    (subst (λ (at_pc : ℕ). IsQuietFrom now.text at_pc c.quiet_at.result) c.pc.ensures (c.quiet_at.ensures now.text c.requires.quiet some))

@@ -1,29 +1,22 @@
-use Rattle.std.proofs.Common.{◌≡◌, None, subst, sym}
-use Rattle.multi_hart.specs.Run.{State}
-use Rattle.race_reports.specs.Races.{race_in}
-use Rattle.race_reports.specs.inner.Watching.{IsApartFrom}
-use Rattle.race_reports.proofs.Turning.{clear_after, spans_after}
+use Rattle.std.proofs.Common.{◌≡◌, ap, arith, length, refl}
+use Rattle.multi_hart.specs.Run.{State, turn}
+use Rattle.multi_hart.proofs.TurnByTurn.{shape-turn}
 use Rattle.race_reports.proofs.passes.step.Goals as goal
 
-pub is_apart-requires-clause-spans : goal.is_apart-requires-clause-spans
-is_apart-requires-clause-spans c =
-    spans_after c.args.machine.now c.turn.new.self c.args.hart c.args.spans.now c.next_span.result c.turn.ensures.state c.requires.there c.requires.spans
-    c.next_span.ensures
+pub look-requires-clause-turned : goal.look-requires-clause-turned
+look-requires-clause-turned c = record {
+  before = c.args.machine.now;
+  there = c.requires.there;
+  clear = c.requires.clear;
+  turned = c.turn.ensures.state;
+  were = c.args.spans.now;
+  spans_were = c.requires.spans;
+  others = λ span. refl;
+}
 
-pub returns-then-is_apart-clause-spans : goal.returns-then-is_apart-clause-spans
-returns-then-is_apart-clause-spans c =
-    spans_after c.args.machine.now c.turn.new.self c.args.hart c.args.spans.now c.next_span.result c.turn.ensures.state c.requires.there c.requires.spans
-    c.next_span.ensures
-
-pub returns-clause-spans : goal.returns-clause-spans
-returns-clause-spans c =
-    spans_after c.args.machine.now c.turn.new.self c.args.hart c.args.spans.now c.next_span.result c.turn.ensures.state c.requires.there c.requires.spans
-    c.next_span.ensures
-
-pub returns-then-is_apart-clause-race : goal.returns-then-is_apart-clause-race
-returns-then-is_apart-clause-race c =
-    let but = c.args.but.now in
-    let state = c.turn.ensures.state in
-    sym (subst (λ (s : State). race_in but s ≡ None) (sym state)
-    (clear_after but c.args.machine.now c.args.hart c.requires.clear
-    (subst (λ (s : State). IsApartFrom but s c.args.hart 0) state (c.is_apart.ensures c.if-is_apart.true))))
+pub look-requires-clause-as_many : goal.look-requires-clause-as_many
+look-requires-clause-as_many c =
+    let many = c.requires.spans.as_many in
+    let shape = shape-turn c.args.machine.now c.args.hart in
+    let after : length c.turn.new.self.harts ≡ length (turn c.args.machine.now c.args.hart).harts = ap (λ (s : State). length s.harts) c.turn.ensures.state in
+    omega (arith, many, shape.harts, after)
