@@ -10,7 +10,7 @@ ghost use Rattle.race_reports.specs.inner.Watching.{AreClear, AreSpans, JustTurn
 
 use crate::found::{FirstRace, RacingTurns};
 use crate::harts::race_in;
-use crate::watches::{is_apart, next_span, spans_of};
+use crate::watches::{is_apart, span_at, spans_of};
 use hart_core::Status;
 use multi_hart::Machine;
 use rv_insn::Insn;
@@ -232,7 +232,7 @@ fn look(
     ensures spans { AreSpans machine.now spans.new }
     ensures race { result ≡ spec.race_in but.now machine.now }
 {
-    spans[hart] = next_span(machine, insns, hart);
+    spans[hart] = span_at(machine, insns, hart);
     if is_apart(machine, insns, but, spans, hart, 0) {
         return None;
     }

@@ -11,7 +11,7 @@ use crate::pairs::shared_by;
 use multi_hart::Machine;
 use rv_insn::Insn;
 use std::alloc::{AllocError, Global};
-use turn_accesses::{Span, next_accesses, span_of};
+use turn_accesses::{Span, next_accesses, next_span};
 
 /// Between which bytes the next turn of each hart touches memory.
 pub(crate) fn spans_of(
@@ -25,20 +25,20 @@ pub(crate) fn spans_of(
 {
     let mut spans = Vec::new(alloc);
     for hart in 0..machine.harts() {
-        spans.push(next_span(machine, insns, hart))?;
+        spans.push(span_at(machine, insns, hart))?;
     }
     Ok(spans)
 }
 
 /// Between which bytes the next turn of a hart touches memory.
 #[inline(always)]
-pub(crate) fn next_span(machine: &Machine, insns: &[Option<Insn>], hart: usize) -> Span
+pub(crate) fn span_at(machine: &Machine, insns: &[Option<Insn>], hart: usize) -> Span
     requires there { hart < length machine.now.harts }
     requires meant { insns.now ≡ map access_in machine.now.text }
     requires few { length insns.now ≤ most_words }
     ensures { IsSpan machine.now (hart_at machine.now hart) result }
 {
-    span_of(&next_accesses(machine.hart(hart), insns, machine.data().len()))
+    next_span(machine.hart(hart), insns, machine.data().len())
 }
 
 /// Whether the next turn of a hart races with that of no other hart from a number on, outside these words.

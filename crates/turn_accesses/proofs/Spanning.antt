@@ -1,5 +1,5 @@
 -- Between which bytes numbers lie.
-use Rattle.std.proofs.Common.{◌≡◌, ◌∙◌, ◌+◌, ◌<◌, ◌≤◌, ◌||◌, ◌&&◌, ◌==◌, ◌⊎◌, inl, inr, ℕ, Bool, false, true, refl, sym, ap, arith, List, [], ◌∷◌, ◌++◌, append-nil}
+use Rattle.std.proofs.Common.{◌≡◌, ◌∙◌, ◌+◌, ◌<◌, ◌≤◌, ◌||◌, ◌&&◌, ◌==◌, ◌⊎◌, inl, inr, ℕ, Bool, false, true, refl, sym, ap, subst, arith, List, [], ◌∷◌, ◌++◌, append-nil, Option, Some, None}
 use Rattle.std.specs.Prelude.{if◌then◌else◌, nat_lt}
 use Rattle.std.proofs.lemmas.Bool.{lt-ltb}
 use Rattle.std.proofs.lemmas.Bool.Decides.{nat_tests}
@@ -8,7 +8,9 @@ use Rattle.rv_insn.specs.declared.vector_operations.ElementWidth.{ElementWidth}
 use Rattle.rv_insn.specs.declared.vector_operations.ElementWidth.TheVariants as widths
 use Rattle.hart_core.specs.VectorRows.{accesses_at, size_of}
 use Rattle.multi_hart.specs.Run.{is_in}
+use Rattle.rv_insn.specs.declared.outcomes.Trap.{Trap}
 use Rattle.turn_accesses.specs.Accesses.{Covers, kind_in, meet}
+use Rattle.turn_accesses.specs.inner.Fitting.{if_fits}
 use Rattle.turn_accesses.specs.declared.values.AccessKind.{AccessKind}
 use Rattle.turn_accesses.specs.declared.values.AccessKind.TheVariants.{Adds, Loads, Stores}
 use Rattle.turn_accesses.specs.declared.spans.Span.{Span}
@@ -129,3 +131,13 @@ pub in_one : (place address : ℕ) (width : ElementWidth) → is_in place (touch
     → (address ≤ place) × (place < address + bytes_in (size_of width))
 in_one place address width is =
     in_number place address width (sym (ap (is_in place) (append-nil (places_of (access_at (size_of width) address)))) ∙ is)
+
+pub covers_if_fits : (span : Span) (f : Option Trap) (read written : List ℕ) → Covers span read written → Covers span (if_fits f read) (if_fits f written)
+covers_if_fits span None read written covers = covers
+covers_if_fits span (Some trap) read written covers = covers_nothing span
+
+-- the same bytes under other names
+pub covers_same : (span : Span) (read written read' written' : List ℕ) → read' ≡ read → written' ≡ written → Covers span read written
+    → Covers span read' written'
+covers_same span read written read' written' reads_same writes_same covers =
+    subst (λ (r : List ℕ). Covers span r written') (sym reads_same) (subst (λ (w : List ℕ). Covers span read w) (sym writes_same) covers)

@@ -1,17 +1,24 @@
 -- What a hart's next turn touches, by the word that it stands at.
-use Rattle.std.proofs.Common.{◌≡◌, ◌≢◌, ◌∙◌, ℕ, false, refl, ap, List, [], length, Option, Some, None}
+use Rattle.std.proofs.Common.{◌≡◌, ◌≢◌, ◌∙◌, ℕ, false, refl, ap, List, [], ◌∷◌, length, Option, Some, None}
 use Rattle.std.specs.Prelude.{option_and_then}
 use Rattle.rv_insn.specs.declared.instructions.Insn.{Insn}
 use Rattle.rv_insn.specs.declared.outcomes.Trap.{Trap}
 use Rattle.rv_encoding.specs.Decoding.{decoded}
-use Rattle.memory.specs.Access.{fetched}
+use Rattle.memory.specs.Access.{fetched, first_fault, or_else, read_by, touched, written_by}
+use Rattle.rv_insn.specs.declared.vector_operations.ElementWidth.{ElementWidth}
+use Rattle.hart_core.specs.Scalar.{accesses, kind_of}
+use Rattle.hart_core.specs.VectorRows.{accesses_at}
 use Rattle.hart_core.specs.HartState.{HartState}
 use Rattle.hart_core.specs.Turn.{Next, Rests, Traps, due, fault, if_running, judged, meant, next_of}
 use Rattle.hart_core.specs.declared.harts.Status.{Status}
 use Rattle.hart_core.specs.declared.harts.Status.TheVariants.{Running, Finished, Trapped}
 use Rattle.multi_hart.specs.Run.{reads, writes}
-use Rattle.turn_accesses.specs.Accesses.{access_in, if_access, is_access}
-use Rattle.turn_accesses.proofs.Fitting.{access_none, access_some, quiet_reads, quiet_writes}
+use Rattle.turn_accesses.specs.Accesses.{Covers, access_in, if_access, is_access, kind_in}
+use Rattle.turn_accesses.specs.inner.Fitting.{if_fits, read_if_fit, written_if_fit}
+use Rattle.turn_accesses.specs.declared.spans.Span.{Span}
+use Rattle.turn_accesses.specs.declared.values.AccessKind.{AccessKind}
+use Rattle.turn_accesses.proofs.Spanning.{covers_same}
+use Rattle.turn_accesses.proofs.Fitting.{access_none, access_some, plain_reads, plain_writes, quiet_reads, quiet_writes}
 
 -- ---- a hart that doesn't run
 
@@ -78,3 +85,21 @@ pub no_access_writes : (text : List ℕ) (bytes : ℕ) (hart : HartState) → op
     → writes (next_of text bytes hart) hart ≡ []
 no_access_writes text bytes hart is =
     by_status text bytes hart (λ n. writes n hart) is refl (λ trap. refl) (λ insn isnt. quiet_writes (length text) bytes insn hart isnt) hart.status
+
+-- ---- an instruction that touches one number
+
+pub one_number : (span : Span) (words bytes : ℕ) (insn : Insn) (hart : HartState) (kind : AccessKind) (width : ElementWidth) (address : ℕ)
+    → fault words bytes insn hart ≡ or_else (first_fault words bytes (kind_of insn) (accesses insn hart)) None → kind_of insn ≡ kind_in kind
+    → accesses insn hart ≡ accesses_at width (address ∷ [])
+    → ((f : Option Trap) → Covers span (if_fits f (touched (read_by (kind_in kind) (accesses_at width (address ∷ [])))))
+    (if_fits f (touched (written_by (kind_in kind) (accesses_at width (address ∷ []))))))
+    → Covers span (reads (judged insn (fault words bytes insn hart)) hart) (writes (judged insn (fault words bytes insn hart)) hart)
+one_number span words bytes insn hart kind width address plain kind_is accesses_are covers =
+    let number = accesses_at width (address ∷ []) in
+    let f = first_fault words bytes (kind_in kind) number in
+    covers_same span (read_if_fit words bytes (kind_in kind) number) (written_if_fit words bytes (kind_in kind) number)
+    (reads (judged insn (fault words bytes insn hart)) hart) (writes (judged insn (fault words bytes insn hart)) hart)
+    (plain_reads words bytes insn hart plain ∙ ap (λ k. read_if_fit words bytes k (accesses insn hart)) kind_is
+    ∙ ap (read_if_fit words bytes (kind_in kind)) accesses_are)
+    (plain_writes words bytes insn hart plain ∙ ap (λ k. written_if_fit words bytes k (accesses insn hart)) kind_is
+    ∙ ap (written_if_fit words bytes (kind_in kind)) accesses_are) (covers f)

@@ -1,10 +1,12 @@
 //! Between which bytes accesses lie.
 
-ghost use Rattle.std.specs.Prelude.{◌≡◌, ◌≤◌, ◌<◌, ℕ, false, true};
-ghost use Rattle.memory.specs.Access.{touched};
+ghost use Rattle.std.specs.Prelude.{◌≡◌, ◌≤◌, ◌<◌, ◌∷◌, [], ℕ, Option, false, true};
+ghost use Rattle.rv_insn.specs.declared.outcomes.Trap.{Trap};
+ghost use Rattle.memory.specs.Access.{read_by, touched, written_by};
 ghost use Rattle.hart_core.specs.VectorRows.{accesses_at};
 ghost use Rattle.multi_hart.specs.Run.{is_in};
-ghost use Rattle.turn_accesses.specs.Accesses.{Covers, meet, reads_in, writes_in};
+ghost use Rattle.turn_accesses.specs.Accesses.{Covers, kind_in, meet, reads_in, writes_in};
+ghost use Rattle.turn_accesses.specs.inner.Fitting.{if_fits};
 
 use crate::numbers::bytes_of;
 use crate::values::{AccessKind, Accesses};
@@ -57,6 +59,33 @@ pub fn span_of(accesses: &Accesses) -> Span
             addresses,
             width,
         } => around(addresses.as_slice(), *width, may_store(*kind)),
+    }
+}
+
+/// The span of no byte.
+#[inline(always)]
+pub(crate) fn nowhere() -> Span
+    ensures { Covers result [] [] }
+{
+    Span {
+        first: 0,
+        end: 0,
+        stores: false,
+    }
+}
+
+/// Between which bytes a number lies that is touched, also where that makes a trap.
+#[inline(always)]
+pub(crate) fn number_span(kind: AccessKind, address: u32, width: ElementWidth) -> Span
+    ensures { (f : Option Trap) → Covers result
+        (if_fits f (touched (read_by (kind_in kind) (accesses_at width (address ∷ [])))))
+        (if_fits f (touched (written_by (kind_in kind) (accesses_at width (address ∷ []))))) }
+{
+    let first = u64::from(address);
+    Span {
+        first,
+        end: first + u64::from(bytes_of(width)),
+        stores: may_store(kind),
     }
 }
 

@@ -10,9 +10,10 @@ ghost use Rattle.hart_core.specs.Turn.{fault, judged, next_of};
 ghost use Rattle.hart_core.specs.VectorRows.{size_of};
 ghost use Rattle.multi_hart.specs.Run.{reads, writes};
 ghost use Rattle.rv_insn.specs.declared.instructions.Insn.TheVariants as insns;
-ghost use Rattle.turn_accesses.specs.Accesses.{access_in, reads_in, writes_in};
+ghost use Rattle.turn_accesses.specs.Accesses.{Covers, access_in, reads_in, writes_in};
 
 use crate::numbers::{Sizes, elements_touched, number_touched};
+use crate::spans::{Span, nowhere, number_span, span_of};
 use crate::tables::access_at;
 use crate::values::{AccessKind, Accesses};
 use hart_core::{Hart, Status};
@@ -145,4 +146,59 @@ fn width_stored(op: StoreOp) -> ElementWidth
         StoreOp::Sh => ElementWidth::Bits16,
         StoreOp::Sw => ElementWidth::Bits32,
     }
+}
+
+/// Between which bytes the next turn of a hart touches memory, over so many bytes of data and a text of which it is
+/// known which words touch memory. No list is made where it touches one number.
+#[inline(always)]
+pub fn next_span(hart: &Hart, insns: &[Option<Insn>], bytes: usize) -> Span
+    requires { length insns.now ≤ most_words }
+    ensures { (text : List ℕ) → insns.now ≡ map access_in text → Covers result (reads (next_of text bytes hart.now)
+        hart.now) (writes (next_of text bytes hart.now) hart.now) }
+{
+    let Status::Running = hart.status() else {
+        return nowhere();
+    };
+    let sizes = Sizes {
+        words: insns.len(),
+        bytes,
+    };
+    match access_at(insns, hart.pc()) {
+        Some(insn) => span_touched(hart, insn, sizes),
+        None => nowhere(),
+    }
+}
+
+/// Between which bytes an instruction touches memory that is due in the hart's state.
+#[inline(always)]
+fn span_touched(hart: &Hart, insn: &Insn, sizes: Sizes) -> Span
+    requires { sizes.words ≤ most_words }
+    ensures { Covers result (reads (judged insn.now (fault sizes.words sizes.bytes insn.now hart.now)) hart.now)
+        (writes (judged insn.now (fault sizes.words sizes.bytes insn.now hart.now)) hart.now) }
+{
+    match *insn {
+        Insn::Load { op, rs1, imm, .. } => {
+            number_span(AccessKind::Loads, hart.address(rs1, imm), width_loaded(op))
+        }
+        Insn::Store { op, rs1, imm, .. } => {
+            number_span(AccessKind::Stores, hart.address(rs1, imm), width_stored(op))
+        }
+        Insn::AmoaddW { rs1, .. } => {
+            number_span(AccessKind::Adds, hart.register(rs1), ElementWidth::Bits32)
+        }
+        Insn::Vector(ref vector) => vector_span(hart, vector, sizes),
+        _ => nowhere(),
+    }
+}
+
+/// The same of a vector instruction.
+#[inline(never)]
+fn vector_span(hart: &Hart, insn: &VectorInsn, sizes: Sizes) -> Span
+    requires { sizes.words ≤ most_words }
+    ensures { Covers result (reads (judged (insns.Vector insn.now)
+        (fault sizes.words sizes.bytes (insns.Vector insn.now) hart.now)) hart.now)
+        (writes (judged (insns.Vector insn.now)
+        (fault sizes.words sizes.bytes (insns.Vector insn.now) hart.now)) hart.now) }
+{
+    span_of(&touched_by_vector(hart, insn, sizes))
 }

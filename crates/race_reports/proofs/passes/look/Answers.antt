@@ -7,15 +7,15 @@ use Rattle.race_reports.proofs.passes.look.Goals as goal
 
 pub is_apart-requires-clause-spans : goal.is_apart-requires-clause-spans
 is_apart-requires-clause-spans c =
-    spans_turned c.args.but.now c.args.machine.now c.args.spans.now c.args.hart c.next_span.result c.requires.turned c.next_span.ensures
+    spans_turned c.args.but.now c.args.machine.now c.args.spans.now c.args.hart c.span_at.result c.requires.turned c.span_at.ensures
 
 pub returns-then-is_apart-clause-spans : goal.returns-then-is_apart-clause-spans
 returns-then-is_apart-clause-spans c =
-    spans_turned c.args.but.now c.args.machine.now c.args.spans.now c.args.hart c.next_span.result c.requires.turned c.next_span.ensures
+    spans_turned c.args.but.now c.args.machine.now c.args.spans.now c.args.hart c.span_at.result c.requires.turned c.span_at.ensures
 
 pub returns-clause-spans : goal.returns-clause-spans
 returns-clause-spans c =
-    spans_turned c.args.but.now c.args.machine.now c.args.spans.now c.args.hart c.next_span.result c.requires.turned c.next_span.ensures
+    spans_turned c.args.but.now c.args.machine.now c.args.spans.now c.args.hart c.span_at.result c.requires.turned c.span_at.ensures
 
 pub returns-then-is_apart-clause-race : goal.returns-then-is_apart-clause-race
 returns-then-is_apart-clause-race c =
