@@ -1,5 +1,6 @@
 pub mod Counting
 pub mod Fitting
+pub mod Running
 pub mod Spanning
 pub mod Standing
 pub mod Walking

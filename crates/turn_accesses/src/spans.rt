@@ -89,6 +89,20 @@ pub(crate) fn number_span(kind: AccessKind, address: u32, width: ElementWidth) -
     }
 }
 
+/// The span of so many bytes.
+#[inline(always)]
+pub(crate) fn span_from(first: u64, end: u64, kind: AccessKind) -> Span
+    ensures first { result.first ≡ first }
+    ensures end { result.end ≡ end }
+    ensures stores { result.stores ≡ false → kind ≡ AccessKind.Loads }
+{
+    Span {
+        first,
+        end,
+        stores: may_store(kind),
+    }
+}
+
 /// Whether numbers are stored.
 #[inline(always)]
 fn may_store(kind: AccessKind) -> bool

@@ -1,19 +1,20 @@
 //! What the next turn of a hart touches.
 
-ghost use Rattle.std.specs.Prelude.{◌≡◌, ◌≤◌, ℕ, List, length, map, None, false, true, IfSome, OnSome};
-ghost use Rattle.memory.specs.Access.{most_words};
+ghost use Rattle.std.specs.Prelude.{◌≡◌, ◌≤◌, ℕ, Bool, List, length, map, None, false, true, IfSome, OnSome};
+ghost use Rattle.memory.specs.Access.{most_words, read_by, touched, written_by};
 ghost use Rattle.vector_unit.specs.Accesses.{addresses_by, spacing_of};
 ghost use Rattle.vector_unit.specs.Vector.{is_refused};
 ghost use Rattle.hart_core.specs.HartState.{register, vectors_of};
 ghost use Rattle.hart_core.specs.Scalar.{load_size, store_size};
 ghost use Rattle.hart_core.specs.Turn.{fault, judged, next_of};
-ghost use Rattle.hart_core.specs.VectorRows.{size_of};
+ghost use Rattle.hart_core.specs.VectorRows.{accesses_at, size_of};
+ghost use Rattle.vector_unit.specs.declared.accesses.Spacing.TheVariants.{UnitStride};
 ghost use Rattle.multi_hart.specs.Run.{reads, writes};
 ghost use Rattle.rv_insn.specs.declared.instructions.Insn.TheVariants as insns;
-ghost use Rattle.turn_accesses.specs.Accesses.{Covers, access_in, reads_in, writes_in};
+ghost use Rattle.turn_accesses.specs.Accesses.{Covers, access_in, kind_in, reads_in, writes_in};
 
-use crate::numbers::{Sizes, elements_touched, number_touched};
-use crate::spans::{Span, nowhere, number_span, span_of};
+use crate::numbers::{Sizes, bytes_of, elements_touched, number_touched};
+use crate::spans::{Span, nowhere, number_span, span_from, span_of};
 use crate::tables::access_at;
 use crate::values::{AccessKind, Accesses};
 use hart_core::{Hart, Status};
@@ -200,5 +201,42 @@ fn vector_span(hart: &Hart, insn: &VectorInsn, sizes: Sizes) -> Span
         (writes (judged (insns.Vector insn.now)
         (fault sizes.words sizes.bytes (insns.Vector insn.now) hart.now)) hart.now) }
 {
+    if let VectorInsn::LoadElements {
+        width,
+        rs1,
+        addressing: Addressing::UnitStride,
+        ..
+    } = *insn
+        && let Some(span) = run_span(hart, AccessKind::Loads, width, rs1)
+    {
+        return span;
+    }
+    if let VectorInsn::StoreElements {
+        width,
+        rs1,
+        addressing: Addressing::UnitStride,
+        ..
+    } = *insn
+        && let Some(span) = run_span(hart, AccessKind::Stores, width, rs1)
+    {
+        return span;
+    }
     span_of(&touched_by_vector(hart, insn, sizes))
+}
+
+/// Between which bytes elements lie that stand one after the other, where they don't pass the last address.
+#[inline(always)]
+fn run_span(hart: &Hart, kind: AccessKind, width: ElementWidth, rs1: Reg) -> Option<Span>
+    ensures { IfSome result (λ span. (vm : Bool) → Covers span
+        (touched (read_by (kind_in kind) (accesses_at width (addresses_by (vectors_of hart.now) (UnitStride width) vm
+        (register hart.now rs1)))))
+        (touched (written_by (kind_in kind) (accesses_at width (addresses_by (vectors_of hart.now) (UnitStride width) vm
+        (register hart.now rs1)))))) }
+{
+    let first = u64::from(hart.register(rs1));
+    let end = first + u64::from(hart.vectors().count()) * u64::from(bytes_of(width));
+    if end > 1 << 32 {
+        return None;
+    }
+    Some(span_from(first, end, kind))
 }
