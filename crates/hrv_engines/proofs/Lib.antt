@@ -1,8 +1,11 @@
 mod Telling
 pub mod AlgorithmFronts
 pub mod Compilations
+pub mod DigestLines
+pub mod DigestedFiles
 pub mod Drawings
 pub mod DrawnRuns
+pub mod TrapsBelow
 pub mod ImageFronts
 pub mod LastTold
 pub mod LogFronts
@@ -12,6 +15,7 @@ pub mod PictureFronts
 pub mod Pixels
 pub mod PrintedPictures
 pub mod Printing
+pub mod Recordings
 pub mod Runs
 pub mod Sources
 pub mod Splits
@@ -19,4 +23,5 @@ pub mod Steps
 pub mod StopsFound
 pub mod TalkSteps
 pub mod TextFronts
+pub mod Verdicts
 pub mod WholeTexts

@@ -16,12 +16,12 @@ use Rattle.hrv_engines.proofs.Steps.{passed, reads_not}
 
 -- ---- lists
 
-get-set_same : {X : Type 0} (xs : List X) (i : ℕ) (x y : X) → slice_get xs i ≡ Some x → slice_get (set xs i y) i ≡ Some y
+pub get-set_same : {X : Type 0} (xs : List X) (i : ℕ) (x y : X) → slice_get xs i ≡ Some x → slice_get (set xs i y) i ≡ Some y
 get-set_same [] i x y e = cc
 get-set_same (z ∷ xs) zero x y e = refl
 get-set_same (z ∷ xs) (suc i) x y e = get-set_same xs i x y e
 
-get-set_other : {X : Type 0} (xs : List X) (i j : ℕ) (y : X) → (i ≡ j → ⊥) → slice_get (set xs i y) j ≡ slice_get xs j
+pub get-set_other : {X : Type 0} (xs : List X) (i j : ℕ) (y : X) → (i ≡ j → ⊥) → slice_get (set xs i y) j ≡ slice_get xs j
 get-set_other [] i j y other = refl
 get-set_other (x ∷ xs) zero zero y other = absurd (other refl)
 get-set_other (x ∷ xs) zero (suc j) y other = refl

@@ -50,6 +50,11 @@ abbrev pub Performs : {I X : Type 0} → (I → List ℕ → Type 0) → (I → 
 Performs means refuses sources sink (Ok done) = Answered means sources.gave sink.took × sources.well × sink.well
 Performs means refuses sources sink (Err fault) = GaveUp means refuses sources sink fault
 
+-- The same of an engine that answers a value beside the output: the inputs mean both.
+abbrev pub PerformsAs : {I X : Type 0} → (X → I → List ℕ → Type 0) → (I → Refusal → Type 0) → Sources I → Taken → Result X Fault → Type 0
+PerformsAs means refuses sources sink (Ok value) = Answered (means value) sources.gave sink.took × sources.well × sink.well
+PerformsAs {I} {X} means refuses sources sink (Err fault) = GaveUp (λ inputs output. (value : X) × means value inputs output) refuses sources sink fault
+
 -- ---- its three steps
 
 -- why inputs were not all read

@@ -5,6 +5,7 @@ pub mod Commands
 pub mod Compile
 pub mod Debug
 pub mod Devices
+pub mod Digests
 pub mod Dis
 pub mod Drawing
 pub mod Drawn
@@ -15,10 +16,14 @@ pub mod Logs
 pub mod Map
 pub mod PrintedPictures
 pub mod Profile
+pub mod Races
+pub mod Recorded
+pub mod Records
 pub mod Refusals
 pub mod Renew
 pub mod Replay
 pub mod Run
 pub mod Talk
 pub mod TalkSoFar
+pub mod Verify
 pub mod inner

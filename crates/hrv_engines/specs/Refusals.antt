@@ -1,7 +1,8 @@
 -- A lower crate's fault as an engine's: want of memory is one fault for all.
 -- This project's own.
 use Rattle.log_reports.specs.declared.faults.LogTextFault.{LogTextFault}
-use Rattle.hrv_engines.specs.declared.faults.Refusal.TheVariants.{Load, Log, LogText, Asm, Parse, Picture, Input, Compile}
+use Rattle.run_records.specs.declared.faults.RecordError.{RecordError}
+use Rattle.hrv_engines.specs.declared.faults.Refusal.TheVariants.{Load, Log, LogText, Record, Asm, Parse, Picture, Input, Compile}
 use Rattle.hrv_engines.specs.declared.faults.Fault.{Fault}
 use Rattle.hrv_engines.specs.declared.faults.Fault.TheVariants.{Refused, Memory, Thread}
 use Rattle.loader.specs.declared.faults.LoadFault.{LoadFault}
@@ -33,6 +34,9 @@ fault_of_log fault = Refused (Log fault)
 abbrev pub fault_of_log_text : LocatedError LogTextFault → Fault
 fault_of_log_text located.Memory = Memory
 fault_of_log_text (located.Fault line fault) = Refused (LogText line fault)
+
+abbrev pub fault_of_record : RecordError → Fault
+fault_of_record error = Refused (Record error.line error.fault)
 
 abbrev pub fault_of_drive : DriveFault → Fault
 fault_of_drive drive.OutOfMemory = Memory

@@ -1,2 +1,3 @@
+pub mod Found
 pub mod Fronts
 pub mod MarkRows

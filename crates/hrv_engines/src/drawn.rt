@@ -5,11 +5,13 @@ ghost use Rattle.std.specs.String.{string_bytes};
 ghost use Rattle.hrv_engines.specs.Devices.{image_bytes_of, sink_of};
 ghost use Rattle.hrv_engines.specs.Dis.{IsRefusedImage};
 ghost use Rattle.hrv_engines.specs.Drawn.{IsDrawnRun};
+ghost use Rattle.hrv_engines.specs.Records.{EndsSo};
 ghost use Rattle.hrv_engines.specs.Run.{Runs, Unrun};
 ghost use Rattle.hrv_engines.specs.declared.faults.Fault.TheVariants.{Thread};
 
 use crate::devices::{Sink, Source, read_image_bytes};
 use crate::dumps::dump;
+use crate::endings::{RunEnd, ending_of};
 use crate::faults::Fault;
 use crate::run::write_both;
 use drawn_runs::{DrawRules, draw_run};
@@ -42,22 +44,23 @@ pub fn run_drawn_bytes<I: Source, L: Sink, O: Sink>(
     ensures threads { result ≢ Err Thread }
 {
     let image_bytes = read_image_bytes(alloc, image)?;
-    let (log_bytes, text) = draw_image(alloc, image_bytes, harts, rules)?;
+    let (log_bytes, text, _) = draw_image(alloc, image_bytes, harts, rules)?;
     write_both(alloc, log, out, &log_bytes, text.as_bytes())
 }
 
-/// The bytes of the log of a drawn run of an image, and the dump at the end. The image's bytes are let go as soon as
-/// they are read.
-fn draw_image(
+/// The bytes of the log of a drawn run of an image, the dump at the end, and how it ended. The image's bytes are let go
+/// as soon as they are read.
+pub(crate) fn draw_image(
     alloc: Global,
     image: Vec<u8>,
     harts: usize,
     rules: DrawRules,
-) -> Result<(Vec<u8>, String), Fault>
+) -> Result<(Vec<u8>, String, RunEnd), Fault>
     requires some { 1 ≤ harts }
     requires few { harts ≤ 8 }
     requires every { 1 ≤ rules.every }
     ensures ok { IfOk result (λ made. IsDrawnRun harts rules image.items made.0.items (string_bytes made.1)) }
+    ensures ended { IfOk result (λ made. EndsSo image.items made.0.items made.2) }
     ensures err { IfErr result (Unrun IsRefusedImage image.items) }
     ensures threads { result ≢ Err Thread }
 {
@@ -71,5 +74,9 @@ fn draw_image(
     let mut bytes = Vec::new(alloc);
     log.write(&mut bytes)?;
     let text = dump(alloc, &machine, &log, output)?;
-    Ok((bytes, text))
+    let end = RunEnd {
+        harts: log.harts(),
+        ending: ending_of(&machine),
+    };
+    Ok((bytes, text, end))
 }

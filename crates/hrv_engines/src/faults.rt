@@ -10,6 +10,7 @@ use line_text::{LocatedError, ReadError};
 use loader::LoadFault;
 use log_reports::LogTextFault;
 use picture::{EvalError, PictureFault};
+use run_records::{RecordError, RecordFault};
 use shared_machine::DriveFault;
 use std::alloc::{AllocError, AllocFailed};
 use thiserror::Error;
@@ -27,6 +28,9 @@ pub enum Refusal {
     /// The text of a log, in the line with this number.
     #[error("turns {} line {line}", .fault.number())]
     LogText { line: u64, fault: LogTextFault },
+    /// The text of a record, in the line with this number.
+    #[error("record {} line {line}", .fault.number())]
+    Record { line: u64, fault: RecordFault },
     /// An assembly text, in the line with this number.
     #[error("asm {} line {line}", .fault.number())]
     Asm { line: u64, fault: AsmFault },
@@ -143,6 +147,17 @@ impl From<LocatedError<LogTextFault>> for Fault {
             LocatedError::Memory => Fault::Memory,
             LocatedError::Fault(line, fault) => Fault::Refused(Refusal::LogText { line, fault }),
         }
+    }
+}
+
+impl From<RecordError> for Fault {
+    ghost use Rattle.hrv_engines.specs.Refusals.{fault_of_record};
+
+    ghost from_gives = { λ error answered. answered ≡ fault_of_record error };
+
+    fn from(error: RecordError) -> Fault {
+        let RecordError { line, fault } = error;
+        Fault::Refused(Refusal::Record { line, fault })
     }
 }
 

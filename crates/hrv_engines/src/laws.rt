@@ -1,6 +1,6 @@
 //! Laws of what engines read, each the contract of a function that does nothing.
 
-ghost use Rattle.std.specs.Prelude.{◌≡◌, ◌≢◌, ◌<◌, ◌≤◌, ◌++◌, ◌∷◌, ℕ, List, length, Ok, Err};
+ghost use Rattle.std.specs.Prelude.{◌≡◌, ◌≢◌, ◌<◌, ◌≤◌, ◌++◌, ◌∷◌, [], ℕ, List, codes, length, Ok, Err};
 ghost use Rattle.std.specs.declared.alloc.Global.{Global};
 ghost use Rattle.line_text.specs.Lines.{IsLine};
 ghost use Rattle.turn_log.specs.LogSpelling.{log_of};
@@ -18,6 +18,7 @@ ghost use Rattle.hrv_engines.specs.Dump.{hart_texts};
 ghost use Rattle.hrv_engines.specs.PrintedPictures.{EndsFinished, EndsWithDrawing};
 ghost use Rattle.hrv_engines.specs.Replay.{IsReplay, replayed};
 ghost use Rattle.hrv_engines.specs.Run.{IsRunFrom};
+ghost use Rattle.hrv_engines.specs.declared.explain.TheConstants.{LOGIC, RELEASE, VERSION};
 ghost use Rattle.hrv_engines.specs.Devices.{most_algorithm_bytes, most_image_bytes, most_picture_bytes};
 
 /// More bytes than an image has are refused, and whatever begins with them with the same fault.
@@ -68,4 +69,9 @@ pub fn printed_pictures_are_drawn()
         → EndsFinished image_bytes log_bytes image log → IsRunFrom image image_bytes old limit log_bytes text
         → EndsWithDrawing alloc (texts.0.0, texts.1)
         (hart_texts (replayed image log) log.turns (length (replayed image log).harts)) text }
+{}
+
+/// What the program says of its version and logic is of both.
+pub fn version_tells_release_and_logic()
+    ensures { VERSION ≡ codes "hrv " ++ RELEASE ++ 10 ∷ [] ++ codes "logic " ++ LOGIC ++ 10 ∷ [] }
 {}

@@ -5,6 +5,7 @@ ghost use Rattle.memory.specs.Access.{most_bytes};
 ghost use Rattle.hrv_engines.specs.BlameQuestions as spec;
 ghost use Rattle.hrv_engines.specs.Commands.{number_of};
 ghost use Rattle.hrv_engines.specs.Dump.{pixel_address};
+ghost use Rattle.hrv_engines.specs.Races.{left_out};
 
 use crate::commands::read_number;
 use debugger_blame::Marking;
@@ -138,6 +139,20 @@ fn wanted_word(image: &Image, address: &str) -> Result<BlameQuestion, BlameFault
         return Err(BlameFault::NoDataWord);
     }
     Ok(BlameQuestion::Word(address as u32))
+}
+
+/// The word of data at an address, by its text, where there are so many bytes of data.
+pub(crate) fn data_word(bytes: usize, address: &str) -> Result<u32, BlameFault>
+    requires { bytes ≤ most_bytes }
+    ensures { result ≡ left_out bytes (number_of address.now) }
+{
+    let Some(address) = read_number(address.as_bytes()) else {
+        return Err(BlameFault::Number);
+    };
+    if !is_data_word(bytes, address) {
+        return Err(BlameFault::NoDataWord);
+    }
+    Ok(address as u32)
 }
 
 /// Whether a word of data begins at an address, where there are so many bytes of data.

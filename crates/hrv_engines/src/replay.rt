@@ -48,7 +48,7 @@ fn replay(alloc: Global, image: &Image, log: &TurnLog) -> Result<String, AllocEr
 }
 
 /// Makes the log's turns, run by run, so that the turns of a hart that has halted take no time.
-fn make_turns(machine: &mut Machine, log: &TurnLog)
+pub(crate) fn make_turns(machine: &mut Machine, log: &TurnLog)
     requires log { IsLog log.now }
     requires harts { length machine.old.harts ≡ log.now.harts }
     ensures state { machine.new ≡ run machine.old log.now.turns }

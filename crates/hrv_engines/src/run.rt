@@ -5,6 +5,7 @@ ghost use Rattle.std.specs.String.{string_bytes};
 ghost use Rattle.loader.specs.Spelling.{image_of};
 ghost use Rattle.hrv_engines.specs.Devices.{both, image_bytes_of, log_bytes_of, sink_of};
 ghost use Rattle.hrv_engines.specs.Dis.{IsRefusedImage};
+ghost use Rattle.hrv_engines.specs.Records.{EndsSo, IsEnd};
 ghost use Rattle.hrv_engines.specs.Replay.{IsRefusedReplay};
 ghost use Rattle.hrv_engines.specs.Run.{GaveSeveral, IsOfSeveral, IsResumedRun, IsRun, IsRunFrom, IsWant, Runs, Unrun};
 ghost use Rattle.hrv_engines.specs.Run.{WritesBoth};
@@ -12,6 +13,7 @@ ghost use Rattle.hrv_engines.specs.declared.faults.Fault.TheVariants.{Thread};
 
 use crate::devices::{Sink, Source, read_image_bytes, read_log_bytes, write_each};
 use crate::dumps::dump;
+use crate::endings::{RunEnd, ending_of};
 use crate::faults::Fault;
 use loader::{Image, read_image};
 use std::alloc::Global;
@@ -51,7 +53,7 @@ pub fn run_bytes<I: Source, L: Sink, O: Sink, R: Threads + Wait + Sync>(
 {
     let (threads, alloc) = (resources.threads, resources.alloc);
     let image_bytes = read_image_bytes(alloc, image)?;
-    let (log_bytes, text) = run_image(threads, alloc, image_bytes, harts, limit)?;
+    let (log_bytes, text, _) = run_image(threads, alloc, image_bytes, harts, limit)?;
     write_both(alloc, log, out, &log_bytes, text.as_bytes())
 }
 
@@ -81,22 +83,23 @@ pub fn resume_bytes<I: Source, P: Source, L: Sink, O: Sink, R: Threads + Wait + 
     let (threads, alloc) = (resources.threads, resources.alloc);
     let image_bytes = read_image_bytes(alloc, image)?;
     let old_bytes = read_log_bytes(alloc, old)?;
-    let (log_bytes, text) = resume_image(threads, alloc, image_bytes, old_bytes, limit)?;
+    let (log_bytes, text, _) = resume_image(threads, alloc, image_bytes, old_bytes, limit)?;
     write_both(alloc, log, out, &log_bytes, text.as_bytes())
 }
 
-/// The bytes of the log of a run of an image, and the dump at the end. The image's bytes are let go as soon as they are
-/// read.
-fn run_image<R: Threads + Wait + Sync>(
+/// The bytes of the log of a run of an image, the dump at the end, and how it ended. The image's bytes are let go as
+/// soon as they are read.
+pub(crate) fn run_image<R: Threads + Wait + Sync>(
     rt: &R,
     alloc: Global,
     image: Vec<u8>,
     harts: usize,
     limit: u64,
-) -> Result<(Vec<u8>, String), Fault>
+) -> Result<(Vec<u8>, String, RunEnd), Fault>
     requires some { 1 ≤ harts }
     requires few { harts ≤ 8 }
     ensures ok { IfOk result (λ made. IsRun harts limit image.items made.0.items (string_bytes made.1)) }
+    ensures ended { IfOk result (λ made. EndsSo image.items made.0.items made.2) }
     ensures err { IfErr result (Unrun IsRefusedImage image.items) }
     ensures threads { result ≡ Err Thread → 2 ≤ harts }
 {
@@ -107,14 +110,15 @@ fn run_image<R: Threads + Wait + Sync>(
 
 /// The same of a run that goes on from a log.
 #[tactic(auto, unfolding(crate::specs::Replay::answer))]
-fn resume_image<R: Threads + Wait + Sync>(
+pub(crate) fn resume_image<R: Threads + Wait + Sync>(
     rt: &R,
     alloc: Global,
     image: Vec<u8>,
     old: Vec<u8>,
     limit: u64,
-) -> Result<(Vec<u8>, String), Fault>
+) -> Result<(Vec<u8>, String, RunEnd), Fault>
     ensures ok { IfOk result (λ made. IsResumedRun limit (image.items, old.items) made.0.items (string_bytes made.1)) }
+    ensures ended { IfOk result (λ made. EndsSo image.items made.0.items made.2) }
     ensures err { IfErr result (Unrun IsRefusedReplay (image.items, old.items)) }
     ensures threads { result ≡ Err Thread → IsOfSeveral old.items }
 {
@@ -125,16 +129,17 @@ fn resume_image<R: Threads + Wait + Sync>(
     run_from(rt, alloc, read, log, limit)
 }
 
-/// The bytes of the log of a run of an image that goes on from a log, and the dump at the end.
+/// The bytes of the log of a run of an image that goes on from a log, the dump at the end, and how it ended.
 fn run_from<R: Threads + Wait + Sync>(
     rt: &R,
     alloc: Global,
     image: Image,
     old: TurnLog,
     limit: u64,
-) -> Result<(Vec<u8>, String), Fault>
+) -> Result<(Vec<u8>, String, RunEnd), Fault>
     ensures ok { IfOk result (λ made. (image_bytes : List ℕ) → image_of image_bytes ≡ Ok image
         → IsRunFrom image image_bytes old limit made.0.items (string_bytes made.1)) }
+    ensures ended { IfOk result (λ made. IsEnd image made.0.items made.2) }
     ensures err { IfErr result IsWant }
     ensures threads { result ≡ Err Thread → 2 ≤ old.harts }
 {
@@ -143,7 +148,11 @@ fn run_from<R: Threads + Wait + Sync>(
     let mut bytes = Vec::new(alloc);
     log.write(&mut bytes)?;
     let text = dump(alloc, &machine, &log, output)?;
-    Ok((bytes, text))
+    let end = RunEnd {
+        harts: log.harts(),
+        ending: ending_of(&machine),
+    };
+    Ok((bytes, text, end))
 }
 
 /// Writes the bytes of a log, and then a text.

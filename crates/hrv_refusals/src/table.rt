@@ -4,7 +4,7 @@
 /// A line for each family, and for each of its codes as often as it has causes, in the order in which they are judged.
 /// Below it stand, after two blanks, what the family says, and the cause with what helps.
 #[rattlefmt::skip]
-pub static REFUSALS: [u8; 9095] = *b"\
+pub static REFUSALS: [u8; 9843] = *b"\
 file\n\
 \x20\x20cause: a file can't be read or written, an output is one of the inputs, or a text isn't UTF-8; here `-` is standard input or output, or a file of that name\n\
 \x20\x20cure: look at the path, its rights, the disk; a word left out moves the words behind it\n\
@@ -89,6 +89,26 @@ turns 4\n\
 turns 5\n\
 \x20\x20cause: a hart with more than 2^40 turns\n\
 \x20\x20cure: fewer\n\
+record\n\
+\x20\x20RECORD of `hrv verify` is no record, in the line that is named\n\
+record 1\n\
+\x20\x20cause: the first line isn't `record 1`\n\
+\x20\x20cure: it is another kind of file\n\
+record 2\n\
+\x20\x20cause: another line isn't the one of its place, or stands behind the last\n\
+\x20\x20cure: the eight lines of a record, in their order\n\
+record 3\n\
+\x20\x20cause: a version or a logic that isn't a word of visible ASCII characters\n\
+\x20\x20cure: no run stored it: take the record of the archive\n\
+record 4\n\
+\x20\x20cause: a digest that isn't 64 hexadecimal digits\n\
+\x20\x20cure: `hrv digest` prints them\n\
+record 5\n\
+\x20\x20cause: a number of harts outside 1 to 8, or a limit outside 1 to 2^40\n\
+\x20\x20cure: no run stored it: take the record of the archive\n\
+record 6\n\
+\x20\x20cause: an ending that is none\n\
+\x20\x20cure: `finished`, `limit` or `trap K`\n\
 blame\n\
 \x20\x20of `hrv blame`: what is asked has no answer\n\
 blame 1\n\

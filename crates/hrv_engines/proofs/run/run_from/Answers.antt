@@ -1,6 +1,7 @@
 use Rattle.std.proofs.Common.{◌++◌, ap, ◌∙◌}
 use Rattle.std.specs.String.{string_bytes}
 use Rattle.turn_log.specs.LogSpelling.{spelled}
+use Rattle.hrv_engines.proofs.Recordings.{end-is}
 use Rattle.hrv_engines.proofs.Runs.{output-fits, run-is}
 use Rattle.hrv_engines.proofs.run.run_from.Goals as goal
 
@@ -15,3 +16,9 @@ returns-clause-ok g c =
     c.output-output.result
     c.in_ok-machine.ensures.machine c.in_ok-machine.ensures.log
     (c.in_ok-write.ensures.ok ∙ ap (λ bytes. bytes ++ spelled c.in_ok-machine.log) c.new-bytes.ensures.items) c.output-output.ensures.value c.in_ok-text.ensures
+
+pub returns-clause-ended : goal.returns-clause-ended
+returns-clause-ended g c =
+    end-is c.args.image c.args.old.harts c.write.new.out.items c.in_ok-machine.log c.in_ok-machine.machine _
+    c.in_ok-machine.ensures.machine c.in_ok-machine.ensures.log.same c.in_ok-machine.ensures.log.is_log
+    (c.in_ok-write.ensures.ok ∙ ap (λ bytes. bytes ++ spelled c.in_ok-machine.log) c.new-bytes.ensures.items) c.harts.ensures.value c.ending_of.ensures
