@@ -1,6 +1,6 @@
 -- What the program does of what its words ask for: the engine of the command runs over devices at the places that the words name.
 -- This project's own.
-use Rattle.std.specs.Prelude.{◌≡◌, ◌⊎◌, ℕ, List, codes, map, Result, Err}
+use Rattle.std.specs.Prelude.{◌≡◌, ◌⊎◌, ℕ, List, None, Some, codes, map, Result, Err}
 use Rattle.std.specs.declared.alloc.Global.{Global}
 use Rattle.hrv_engines.specs.declared.faults.Fault.{Fault}
 use Rattle.hrv_engines.specs.declared.faults.Fault.TheVariants.{Memory}
@@ -9,20 +9,25 @@ use Rattle.hrv_engines.specs.Blame.{IsBlame, IsRefusedBlame}
 use Rattle.hrv_engines.specs.Compile.{IsCompilation, IsRefusedCompilation}
 use Rattle.hrv_engines.specs.Debug.{Talks}
 use Rattle.hrv_engines.specs.Devices.{both, image_bytes_of, log_bytes_of, pieces_of, sink_of, text_of, texts_of}
+use Rattle.hrv_engines.specs.Digests.{IsDigestText, IsRefusedDigest, digests_of}
 use Rattle.hrv_engines.specs.Dis.{IsAddressedListing, IsListing, IsRefusedImage}
 use Rattle.hrv_engines.specs.Drawing.{IsDrawing, IsRefusedDrawing}
-use Rattle.hrv_engines.specs.Engine.{Performs, Writes}
+use Rattle.hrv_engines.specs.Engine.{Performs, PerformsAs, Writes}
 use Rattle.hrv_engines.specs.Logs.{IsLogMade, IsLogPrinted, IsRefusedLog, IsRefusedLogText}
 use Rattle.hrv_engines.specs.Map.{IsMap, IsRefusedMap}
 use Rattle.hrv_engines.specs.Profile.{IsProfiled, IsRefusedProfile}
+use Rattle.hrv_engines.specs.Races.{AreRaces, AreRefusedRaces}
+use Rattle.hrv_engines.specs.Recorded as recorded
 use Rattle.hrv_engines.specs.Renew.{IsRenewal}
 use Rattle.hrv_engines.specs.Replay.{IsRefusedReplay, IsReplay}
 use Rattle.hrv_engines.specs.Run as run
 use Rattle.hrv_engines.specs.Drawn.{IsDrawnRun}
+use Rattle.hrv_engines.specs.Verify.{Files, IsRefusedVerdict, IsVerdict}
+use Rattle.hrv_engines.specs.declared.verify.Verdict.{Verdict}
 use Rattle.hrv_engines.specs.declared.explain.TheConstants.{VERSION}
 use Rattle.hrv_refusals.specs.Explanations.{explanation}
 use Rattle.hrv_command_line.specs.CommandLine.{Asked, Replays, Debugs, Blames, Assembles, Lists, ListsAddresses, Renews, Draws, Compiles, Maps, Runs, Resumes}
-use Rattle.hrv_command_line.specs.CommandLine.{Explains, MakesLog, PrintsLog, Profiles, RunsDrawn, TellsVersion}
+use Rattle.hrv_command_line.specs.CommandLine.{Digests, Explains, FindsRaces, MakesLog, PrintsLog, Profiles, RunsDrawn, TellsVersion, Verifies}
 
 -- a fact of some device at this place, by its state before and after
 abbrev pub At : {S : Type 0} → (S → List ℕ) → List ℕ → (S → S → Type 0) → Type 0
@@ -39,6 +44,10 @@ OrMemory result P = P ⊎ (result ≡ Err Memory)
 -- standard input and output
 abbrev pub dash : List ℕ
 dash = codes "-"
+
+-- the text of a verdict, whichever it is
+abbrev pub IsSomeVerdict : Files → List ℕ → Type 0
+IsSomeVerdict files text = (verdict : Verdict) × IsVerdict verdict files text
 
 -- The engine of a command ran over files at the places that are asked for, read ones of type R and written ones of type W, and over
 -- standard input (T) and output (P).
@@ -81,6 +90,11 @@ module _ {R W T P : Type 0}
       Performs IsProfiled IsRefusedProfile
       (both (image_bytes_of read_at read_failed gave ended s t) (log_bytes_of read_at read_failed gave ended u v))
       (sink_of printed_at print_failed printed o p) result)))
+  Does alloc (FindsRaces image log but) result =
+      At read_at image (λ s t. At read_at log (λ u v. At printed_at dash (λ o p.
+      Performs (AreRaces but) (AreRefusedRaces but)
+      (both (image_bytes_of read_at read_failed gave ended s t) (log_bytes_of read_at read_failed gave ended u v))
+      (sink_of printed_at print_failed printed o p) result)))
   Does alloc (PrintsLog log) result =
       At read_at log (λ s t. At printed_at dash (λ o p.
       Performs IsLogPrinted IsRefusedLog (log_bytes_of read_at read_failed gave ended s t) (sink_of printed_at print_failed printed o p) result))
@@ -103,20 +117,55 @@ module _ {R W T P : Type 0}
       Performs (IsMap alloc) (IsRefusedMap alloc)
       (both (text_of read_at read_failed gave ended s t) (text_of read_at read_failed gave ended u v))
       (sink_of printed_at print_failed printed o p) result)))
-  Does alloc (Runs image log harts turns) result =
+  Does alloc (Runs image log None harts turns) result =
       At read_at image (λ s t. At written_at log (λ u v. At printed_at dash (λ o p.
       run.Runs (run.IsRun harts turns) IsRefusedImage (image_bytes_of read_at read_failed gave ended s t) (sink_of written_at write_failed stored u v)
       (sink_of printed_at print_failed printed o p) result)))
-  Does alloc (Resumes image log old turns) result =
+  Does alloc (Runs image log (Some kept) harts turns) result =
+      At read_at image (λ s t. At written_at log (λ u v. At written_at kept (λ x y. At printed_at dash (λ o p.
+      recorded.Records (recorded.IsRecordedRun harts turns) IsRefusedImage (image_bytes_of read_at read_failed gave ended s t)
+      (sink_of written_at write_failed stored u v) (sink_of written_at write_failed stored x y)
+      (sink_of printed_at print_failed printed o p) result))))
+  Does alloc (Resumes image log None old turns) result =
       At read_at image (λ s t. At read_at old (λ x y. At written_at log (λ u v. At printed_at dash (λ o p.
       run.Runs (run.IsResumedRun turns) IsRefusedReplay
       (both (image_bytes_of read_at read_failed gave ended s t) (log_bytes_of read_at read_failed gave ended x y)) (sink_of written_at write_failed stored u v)
       (sink_of printed_at print_failed printed o p) result))))
-  Does alloc (RunsDrawn image log harts turns seed every) result =
+  Does alloc (Resumes image log (Some kept) old turns) result =
+      At read_at image (λ s t. At read_at old (λ a b. At written_at log (λ u v. At written_at kept (λ x y. At printed_at dash (λ o p.
+      recorded.Records (recorded.IsRecordedResumedRun turns) IsRefusedReplay
+      (both (image_bytes_of read_at read_failed gave ended s t) (log_bytes_of read_at read_failed gave ended a b))
+      (sink_of written_at write_failed stored u v) (sink_of written_at write_failed stored x y)
+      (sink_of printed_at print_failed printed o p) result)))))
+  Does alloc (RunsDrawn image log None harts turns seed every) result =
       At read_at image (λ s t. At written_at log (λ u v. At printed_at dash (λ o p.
       run.Runs (IsDrawnRun harts (record { seed = seed; every = every; limit = turns })) IsRefusedImage (image_bytes_of read_at read_failed gave ended s t)
       (sink_of written_at write_failed stored u v) (sink_of printed_at print_failed printed o p) result)))
+  Does alloc (RunsDrawn image log (Some kept) harts turns seed every) result =
+      At read_at image (λ s t. At written_at log (λ u v. At written_at kept (λ x y. At printed_at dash (λ o p.
+      recorded.Records (recorded.IsRecordedDrawnRun harts (record { seed = seed; every = every; limit = turns })) IsRefusedImage
+      (image_bytes_of read_at read_failed gave ended s t)
+      (sink_of written_at write_failed stored u v) (sink_of written_at write_failed stored x y)
+      (sink_of printed_at print_failed printed o p) result))))
+  Does alloc (Digests files) result =
+      OrMemory result (AtEach read_at files (λ s t. At printed_at dash (λ o p.
+      Performs (IsDigestText files) IsRefusedDigest (digests_of read_at read_failed gave ended s t) (sink_of printed_at print_failed printed o p) result)))
+  Does alloc (Verifies kept image log) result =
+      At read_at kept (λ x y. At read_at image (λ s t. At read_at log (λ u v. At printed_at dash (λ o p.
+      Performs IsSomeVerdict IsRefusedVerdict
+      (both (both (text_of read_at read_failed gave ended x y) (image_bytes_of read_at read_failed gave ended s t))
+      (log_bytes_of read_at read_failed gave ended u v))
+      (sink_of printed_at print_failed printed o p) result))))
   Does alloc (Explains family code) result =
       At printed_at dash (λ o p. Writes (sink_of printed_at print_failed printed o p) (explanation family code) result)
   Does alloc TellsVersion result =
       At printed_at dash (λ o p. Writes (sink_of printed_at print_failed printed o p) VERSION result)
+
+  -- `verify` ran, and answered its verdict.
+  abbrev pub Judges : Global → (kept image log : List ℕ) → Result Verdict Fault → Type 0
+  Judges alloc kept image log result =
+      At read_at kept (λ x y. At read_at image (λ s t. At read_at log (λ u v. At printed_at dash (λ o p.
+      PerformsAs IsVerdict IsRefusedVerdict
+      (both (both (text_of read_at read_failed gave ended x y) (image_bytes_of read_at read_failed gave ended s t))
+      (log_bytes_of read_at read_failed gave ended u v))
+      (sink_of printed_at print_failed printed o p) result))))

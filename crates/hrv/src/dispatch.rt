@@ -1,20 +1,21 @@
 //! What the words ask for, done by the engine of the command over the devices that they name.
 
-ghost use Rattle.std.specs.Prelude.{◌≡◌, ◌≤◌, codes, map, option_map, IfOk};
+ghost use Rattle.std.specs.Prelude.{◌≡◌, codes, map, IfOk};
 ghost use Rattle.std.specs.List.{All};
 ghost use Rattle.clap.specs.Walk.{texts};
-ghost use Rattle.hrv_command_line.specs.CommandLine.{AreWithinLimits, Assembles, Blames, Compiles, Debugs, Draws};
-ghost use Rattle.hrv_command_line.specs.CommandLine.{Explains, IsWithinLimits, Lists, ListsAddresses, MakesLog, Maps};
-ghost use Rattle.hrv_command_line.specs.CommandLine.{PrintsLog, Profiles, Renews, Replays, Resumes, Runs, RunsDrawn};
-ghost use Rattle.hrv_command_line.specs.CommandLine.{TellsVersion, asked_by};
-ghost use Rattle.hrv.specs.Dispatch.{Does};
+ghost use Rattle.hrv_command_line.specs.CommandLine.{Assembles, Compiles, Debugs, Digests, Draws, Explains};
+ghost use Rattle.hrv_command_line.specs.CommandLine.{IsWithinLimits, Lists, ListsAddresses, MakesLog, Maps};
+ghost use Rattle.hrv_command_line.specs.CommandLine.{PrintsLog, Renews, Replays, TellsVersion, Verifies};
+ghost use Rattle.hrv_command_line.specs.CommandLine.{asked_by};
+ghost use Rattle.hrv.specs.Dispatch.{Does, Judges};
 
-use hrv_command_line::{BlameArguments, DrawArguments, Invocation};
+use crate::log_questions::{blame, profile, races};
+use crate::running::{resume, run, run_drawn};
+use hrv_command_line::Invocation;
 use hrv_engines::{
-    DrawRules, Fault, Question, Resources, Sink, Source, asm_bytes, blame_bytes, compile_bytes,
-    debug_bytes, dis_addresses_bytes, dis_bytes, explain_bytes, make_log_bytes, map_bytes,
-    picture_bytes, print_log_bytes, profile_bytes, renew_bytes, replay_bytes, resume_bytes,
-    run_bytes, run_drawn_bytes, version_bytes,
+    Fault, Resources, Sink, Source, Verdict, asm_bytes, compile_bytes, debug_bytes, digest_bytes,
+    dis_addresses_bytes, dis_bytes, explain_bytes, make_log_bytes, map_bytes, picture_bytes,
+    print_log_bytes, renew_bytes, replay_bytes, verify_bytes, version_bytes,
 };
 use std::alloc::{AllocError, Global};
 use std::sync::Wait;
@@ -84,6 +85,7 @@ pub fn obey<'a, R: Threads + Wait + Sync, D: Devices<'a>>(
         Invocation::Debug { image, log } => debug(alloc, devices, image, log),
         Invocation::Blame { image, log, words } => blame(alloc, devices, image, log, words),
         Invocation::Profile { image, log } => profile(alloc, devices, image, log),
+        Invocation::Races { image, log, but } => races(alloc, devices, image, log, but),
         Invocation::PrintLog { log } => print_log(alloc, devices, log),
         Invocation::MakeLog { text, log } => make_log(alloc, devices, text, log),
         Invocation::Picture { algorithm, inputs } => {
@@ -96,17 +98,26 @@ pub fn obey<'a, R: Threads + Wait + Sync, D: Devices<'a>>(
         Invocation::Run {
             image,
             log,
+            record,
             harts,
             turns,
-        } => run(&resources, devices, image, log, harts, turns),
+        } => run(&resources, devices, image, log, record, harts, turns),
         Invocation::Resume {
             image,
             log,
+            record,
             old,
             turns,
-        } => resume(&resources, devices, image, log, old, turns),
-        Invocation::RunDrawn { image, log, draws } => {
-            run_drawn(alloc, devices, image, log, draws)
+        } => resume(&resources, devices, image, log, record, old, turns),
+        Invocation::RunDrawn {
+            image,
+            log,
+            record,
+            draws,
+        } => run_drawn(alloc, devices, image, log, record, draws),
+        Invocation::Digest { files } => digest(alloc, devices, files),
+        Invocation::Verify { record, image, log } => {
+            tell_verdict(alloc, devices, record, image, log)
         }
         Invocation::Explain { family, code } => explain(alloc, devices, family, code),
         Invocation::Version => tell_version(alloc, devices),
@@ -217,58 +228,6 @@ fn debug<'a, D: Devices<'a>>(
     )
 }
 
-/// `blame IMAGE LOG [X Y] --address A --turns`
-#[inline(never)]
-fn blame<'a, D: Devices<'a>>(
-    alloc: Global,
-    devices: &D,
-    image: &'a str,
-    log: &'a str,
-    words: BlameArguments<'a>,
-) -> Result<(), Fault>
-    ensures { Does D.Read.place D.Read.failed D.Read.gave D.Read.ended
-        D.Written.place D.Written.failed D.Written.took
-        D.Typed.place D.Typed.failed D.Typed.gave D.Typed.ended
-        D.Printed.place D.Printed.failed D.Printed.took alloc
-        (Blames image.entry.now log.entry.now (option_map (λ s. s.now) words.entry.x)
-        (option_map (λ s. s.now) words.entry.y)
-        (option_map (λ s. s.now) words.entry.address) words.entry.with_turns) result }
-{
-    let question = Question {
-        x: words.x,
-        y: words.y,
-        address: words.address,
-        with_turns: words.with_turns,
-    };
-    let mut image = devices.read(image);
-    let mut log = devices.read(log);
-    blame_bytes(
-        alloc,
-        &mut image,
-        &mut log,
-        question,
-        &mut devices.printed(),
-    )
-}
-
-/// `profile IMAGE LOG`
-#[inline(never)]
-fn profile<'a, D: Devices<'a>>(
-    alloc: Global,
-    devices: &D,
-    image: &'a str,
-    log: &'a str,
-) -> Result<(), Fault>
-    ensures { Does D.Read.place D.Read.failed D.Read.gave D.Read.ended
-        D.Written.place D.Written.failed D.Written.took
-        D.Typed.place D.Typed.failed D.Typed.gave D.Typed.ended
-        D.Printed.place D.Printed.failed D.Printed.took alloc (Profiles image.entry.now log.entry.now) result }
-{
-    let mut image = devices.read(image);
-    let mut log = devices.read(log);
-    profile_bytes(alloc, &mut image, &mut log, &mut devices.printed())
-}
-
 /// `log LOG`
 #[inline(never)]
 fn print_log<'a, D: Devices<'a>>(alloc: Global, devices: &D, log: &'a str) -> Result<(), Fault>
@@ -294,6 +253,71 @@ fn make_log<'a, D: Devices<'a>>(
         D.Printed.place D.Printed.failed D.Printed.took alloc (MakesLog text.entry.now log.entry.now) result }
 {
     make_log_bytes(alloc, &mut devices.read(text), &mut devices.written(log))
+}
+
+/// `digest FILE..`
+#[inline(never)]
+fn digest<'a, D: Devices<'a>>(alloc: Global, devices: &D, files: Vec<&'a str>) -> Result<(), Fault>
+    ensures { Does D.Read.place D.Read.failed D.Read.gave D.Read.ended
+        D.Written.place D.Written.failed D.Written.took
+        D.Typed.place D.Typed.failed D.Typed.gave D.Typed.ended
+        D.Printed.place D.Printed.failed D.Printed.took alloc (Digests (texts files.entry.items)) result }
+{
+    let mut sources = sources_of(alloc, devices, files.as_slice())?;
+    digest_bytes(
+        alloc,
+        files.as_slice(),
+        sources.as_mut_slice(),
+        &mut devices.printed(),
+    )
+}
+
+/// `verify RECORD IMAGE LOG`, and the verdict.
+#[inline(never)]
+pub fn verify<'a, D: Devices<'a>>(
+    alloc: Global,
+    devices: &D,
+    record: &'a str,
+    image: &'a str,
+    log: &'a str,
+) -> Result<Verdict, Fault>
+    ensures { Judges D.Read.place D.Read.failed D.Read.gave D.Read.ended
+        D.Written.place D.Written.failed D.Written.took
+        D.Typed.place D.Typed.failed D.Typed.gave D.Typed.ended
+        D.Printed.place D.Printed.failed D.Printed.took
+        alloc «record».entry.now image.entry.now log.entry.now result }
+{
+    let mut kept = devices.read(record);
+    let mut image = devices.read(image);
+    let mut log = devices.read(log);
+    verify_bytes(
+        alloc,
+        &mut kept,
+        &mut image,
+        &mut log,
+        &mut devices.printed(),
+    )
+}
+
+/// `verify RECORD IMAGE LOG`, where it isn't asked what the verdict is.
+#[inline(never)]
+fn tell_verdict<'a, D: Devices<'a>>(
+    alloc: Global,
+    devices: &D,
+    record: &'a str,
+    image: &'a str,
+    log: &'a str,
+) -> Result<(), Fault>
+    ensures { Does D.Read.place D.Read.failed D.Read.gave D.Read.ended
+        D.Written.place D.Written.failed D.Written.took
+        D.Typed.place D.Typed.failed D.Typed.gave D.Typed.ended
+        D.Printed.place D.Printed.failed D.Printed.took
+        alloc (Verifies «record».entry.now image.entry.now log.entry.now) result }
+{
+    match verify(alloc, devices, record, image, log) {
+        Ok(_) => Ok(()),
+        Err(fault) => Err(fault),
+    }
 }
 
 /// `picture ALGORITHM [INPUT..]`
@@ -365,97 +389,6 @@ fn show_map<'a, D: Devices<'a>>(
     let mut text = devices.read(algorithm);
     let mut plan = devices.read(schedule);
     map_bytes(alloc, &mut text, &mut plan, &mut devices.printed())
-}
-
-/// `run IMAGE LOG --harts N --turns L`
-#[inline(never)]
-fn run<'a, R: Threads + Wait + Sync, D: Devices<'a>>(
-    resources: &Resources<'_, R>,
-    devices: &D,
-    image: &'a str,
-    log: &'a str,
-    harts: u64,
-    turns: u64,
-) -> Result<(), Fault>
-    requires { AreWithinLimits harts turns }
-    ensures { Does D.Read.place D.Read.failed D.Read.gave D.Read.ended
-        D.Written.place D.Written.failed D.Written.took
-        D.Typed.place D.Typed.failed D.Typed.gave D.Typed.ended
-        D.Printed.place D.Printed.failed D.Printed.took resources.now.alloc (Runs image.entry.now log.entry.now harts
-        turns) result }
-{
-    run_bytes(
-        resources,
-        &mut devices.read(image),
-        &mut devices.written(log),
-        &mut devices.printed(),
-        harts as usize,
-        turns,
-    )
-}
-
-/// `run IMAGE LOG --turns L --from OLD`
-#[inline(never)]
-fn resume<'a, R: Threads + Wait + Sync, D: Devices<'a>>(
-    resources: &Resources<'_, R>,
-    devices: &D,
-    image: &'a str,
-    log: &'a str,
-    old: &'a str,
-    turns: u64,
-) -> Result<(), Fault>
-    ensures { Does D.Read.place D.Read.failed D.Read.gave D.Read.ended
-        D.Written.place D.Written.failed D.Written.took
-        D.Typed.place D.Typed.failed D.Typed.gave D.Typed.ended
-        D.Printed.place D.Printed.failed D.Printed.took resources.now.alloc (Resumes image.entry.now log.entry.now
-        old.entry.now
-        turns) result }
-{
-    let mut image = devices.read(image);
-    let mut old = devices.read(old);
-    let mut log = devices.written(log);
-    resume_bytes(
-        resources,
-        &mut image,
-        &mut old,
-        &mut log,
-        &mut devices.printed(),
-        turns,
-    )
-}
-
-/// `run IMAGE LOG --harts N --turns L --seed S --every K`
-#[inline(never)]
-fn run_drawn<'a, D: Devices<'a>>(
-    alloc: Global,
-    devices: &D,
-    image: &'a str,
-    log: &'a str,
-    draws: DrawArguments,
-) -> Result<(), Fault>
-    requires limits { AreWithinLimits draws.harts draws.turns }
-    requires every { 1 ≤ draws.every }
-    ensures { Does D.Read.place D.Read.failed D.Read.gave D.Read.ended
-        D.Written.place D.Written.failed D.Written.took
-        D.Typed.place D.Typed.failed D.Typed.gave D.Typed.ended
-        D.Printed.place D.Printed.failed D.Printed.took alloc
-        (RunsDrawn image.entry.now log.entry.now draws.harts draws.turns draws.seed draws.every) result }
-{
-    let mut image = devices.read(image);
-    let mut log = devices.written(log);
-    let rules = DrawRules {
-        seed: draws.seed,
-        every: draws.every,
-        limit: draws.turns,
-    };
-    run_drawn_bytes(
-        alloc,
-        &mut image,
-        &mut log,
-        &mut devices.printed(),
-        draws.harts as usize,
-        rules,
-    )
 }
 
 /// `explain FAMILY [CODE]`

@@ -4,7 +4,7 @@
 //! crate `hrv_engines`.
 //!
 //! - [`dispatch`]: the engine of a command over the devices that the words name; [`dispatch::obey`], over
-//!   `specs/Dispatch.antt`.
+//!   `specs/Dispatch.antt`; those of runs in [`running`].
 //! - [`files`], [`file_sinks`]: the system's files and standard input and output, as devices.
 //! - [`limits`]: the limit on the size of files, asked before each write.
 //! - [`outputs`]: outputs that aren't inputs.
@@ -17,16 +17,22 @@ mod failures;
 mod file_sinks;
 mod files;
 mod limits;
+mod log_questions;
 mod outputs;
+mod running;
 mod streams;
 
-use crate::dispatch::obey;
+ghost use Rattle.hrv_command_line.specs.CommandLine.{IsWithinLimits, asked_by};
+
+use crate::dispatch::{Devices, obey, verify};
 use crate::failures::Failure;
 use crate::files::System;
 use crate::limits::{Stream, admit_standard, line_length};
 use crate::outputs::keep_inputs;
 use crate::streams::open_closed_streams;
-use hrv_command_line::{CommandLineFault, command};
+use hrv_command_line::{CommandLineFault, Invocation, command};
+use hrv_engines::Fault;
+use std::alloc::Global;
 use std::process::ExitCode;
 use std::rt::{Env, Files};
 use std::sync::Wait;
@@ -43,7 +49,7 @@ fn main(rt: HostRuntime) -> ExitCode {
         Err(fault) => Err(Failure::Engine(fault)),
     };
     match answered {
-        Ok(()) => ExitCode::SUCCESS,
+        Ok(status) => status,
         Err(failure) => {
             // Where standard error takes no line, the status still tells.
             let _ = report(&rt, &failure);
@@ -52,17 +58,38 @@ fn main(rt: HostRuntime) -> ExitCode {
     }
 }
 
-/// Does what the command line asks for.
+/// Does what the command line asks for, and answers the exit status.
 fn run<R: Files + Env + Input + Print + AllocGlobal + Threads + Wait + Sync>(
     rt: &R,
-) -> Result<(), Failure> {
+) -> Result<ExitCode, Failure> {
     let alloc = rt.alloc();
     let arguments: Vec<String> = env::args(rt).map_err(word_fault)?.skip(1).collect(alloc)?;
     let words: Vec<&str> = arguments.iter().map(|word| word.as_str()).collect(alloc)?;
     let invocation = command(alloc, &words)?;
     keep_inputs(rt, alloc, &invocation)?;
-    obey(rt, alloc, &System::new(rt, alloc), invocation)?;
-    Ok(())
+    let status = done(rt, alloc, &System::new(rt, alloc), invocation)?;
+    Ok(status)
+}
+
+/// Does what an invocation asks for, and answers the exit status: that of a verdict is its own.
+fn done<'a, R: Threads + Wait + Sync, D: Devices<'a>>(
+    threads: &R,
+    alloc: Global,
+    devices: &D,
+    invocation: Invocation<'a>,
+) -> Result<ExitCode, Fault>
+    requires { IsWithinLimits (asked_by invocation) }
+{
+    match invocation {
+        Invocation::Verify { record, image, log } => {
+            let verdict = verify(alloc, devices, record, image, log)?;
+            Ok(ExitCode::from(verdict.status()))
+        }
+        other => {
+            obey(threads, alloc, devices, other)?;
+            Ok(ExitCode::SUCCESS)
+        }
+    }
 }
 
 /// The fault of words that can't be taken as text.

@@ -21,9 +21,31 @@ pub fn keep_inputs<R: Files>(
     match invocation {
         Invocation::Asm { source, image } => keep(rt, alloc, image, &[*source]),
         Invocation::MakeLog { text, log } => keep(rt, alloc, log, &[*text]),
-        Invocation::Run { image, log, .. }
-        | Invocation::Resume { image, log, .. }
-        | Invocation::RunDrawn { image, log, .. } => keep(rt, alloc, log, &[*image]),
+        Invocation::Run {
+            image,
+            log,
+            record,
+            ..
+        }
+        | Invocation::RunDrawn {
+            image,
+            log,
+            record,
+            ..
+        } => {
+            keep(rt, alloc, log, &[*image])?;
+            keep_from_record(rt, alloc, *record, log, &[*image])
+        }
+        Invocation::Resume {
+            image,
+            log,
+            record,
+            old,
+            ..
+        } => {
+            keep(rt, alloc, log, &[*image])?;
+            keep_from_record(rt, alloc, *record, log, &[*image, *old])
+        }
         Invocation::Compile {
             algorithm,
             schedule,
@@ -35,6 +57,24 @@ pub fn keep_inputs<R: Files>(
         }
         _ => Ok(()),
     }
+}
+
+/// Refuses a record that is the log beside it, or one of these inputs.
+fn keep_from_record<R: Files>(
+    rt: &R,
+    alloc: Global,
+    record: Option<&str>,
+    log: &str,
+    inputs: &[&str],
+) -> Result<(), Fault> {
+    let Some(record) = record else {
+        return Ok(());
+    };
+    if record == log {
+        return Err(Fault::File(String::from_str(alloc, record)?));
+    }
+    keep(rt, alloc, record, &[log])?;
+    keep(rt, alloc, record, inputs)
 }
 
 /// Refuses an output that is one of these inputs.

@@ -9,10 +9,10 @@ use Rattle.clap.proofs.ValueTestLemmas.{accepts-Accepts}
 use Rattle.clap.specs.ValueTests.{accepts}
 use Rattle.clap.specs.Words.{Text}
 use Rattle.clap.specs.declared.builder.value_parser.ValueParser.TheVariants.{Unsigned}
-use Rattle.hrv_command_line.specs.CommandLine.{Asked, Assembles, Compiles, Debugs, Draws, Explains, Given, IsSpelled, IsWithinLimits, MakesLog}
-use Rattle.hrv_command_line.specs.CommandLine.{Maps, PrintsLog, Profiles, Renews, Replays, TellsVersion, asked_of, blame_of, command_named, compile_of, dis_of, explain_of, files_of}
+use Rattle.hrv_command_line.specs.CommandLine.{Asked, Assembles, Compiles, Debugs, Digests, Draws, Explains, FindsRaces, Given, IsSpelled, IsWithinLimits, MakesLog}
+use Rattle.hrv_command_line.specs.CommandLine.{Maps, PrintsLog, Profiles, Renews, Replays, TellsVersion, asked_of, blame_of, command_named, compile_of, digest_of, dis_of, explain_of, files_of, races_of}
 use Rattle.hrv_command_line.specs.CommandLine.{if_known, is_version_flag, listing_of, log_of, named, named_in, nothing_given, number_or, picture_of, read, refusal_in}
-use Rattle.hrv_command_line.specs.CommandLine.{RunsDrawn, run_by, run_from, run_of, seed_in, text_of, unmarked, version_of}
+use Rattle.hrv_command_line.specs.CommandLine.{RunsDrawn, Verifies, run_by, run_from, run_of, seed_in, text_of, unmarked, verify_of, version_of}
 use Rattle.hrv_command_line.specs.Commands.{Shape, commands, most_every, most_harts, most_turns}
 use Rattle.hrv_command_line.specs.declared.table.OptionKind.TheVariants.{Flag}
 use Rattle.hrv_command_line.specs.declared.table.ValueCount.TheVariants.{Always}
@@ -58,6 +58,25 @@ drawn : (words values : List Text) (asked : Asked) → ((a : Text) (is : List Te
 drawn words [] asked holds e = some_none e
 drawn words (a ∷ is) asked holds e = one_is (Holds words) e (holds a is refl)
 
+digested : (words values : List Text) (asked : Asked) → ((a : Text) (is : List Text) → values ≡ a ∷ is → Holds words (Digests (a ∷ is)))
+    → digest_of values ≡ Some asked → Holds words asked
+digested words [] asked holds e = some_none e
+digested words (a ∷ is) asked holds e = one_is (Holds words) e (holds a is refl)
+
+verified : (words values : List Text) (asked : Asked) → ((r i l : Text) → values ≡ r ∷ i ∷ l ∷ [] → Holds words (Verifies r i l))
+    → verify_of values ≡ Some asked → Holds words asked
+verified words [] asked holds e = some_none e
+verified words (r ∷ []) asked holds e = some_none e
+verified words (r ∷ i ∷ []) asked holds e = some_none e
+verified words (r ∷ i ∷ l ∷ []) asked holds e = one_is (Holds words) e (holds r i l refl)
+verified words (r ∷ i ∷ l ∷ m ∷ more) asked holds e = some_none e
+
+raced : (words values : List Text) (asked : Asked) → ((i l : Text) (bs : List Text) → values ≡ i ∷ l ∷ bs → Holds words (FindsRaces i l bs))
+    → races_of values ≡ Some asked → Holds words asked
+raced words [] asked holds e = some_none e
+raced words (i ∷ []) asked holds e = some_none e
+raced words (i ∷ l ∷ bs) asked holds e = one_is (Holds words) e (holds i l bs refl)
+
 compiled : (words values : List Text) (asked : Asked) → ((a s i : Text) (is : List Text) → values ≡ a ∷ s ∷ i ∷ is → Holds words (Compiles a s i is))
     → compile_of values ≡ Some asked → Holds words asked
 compiled words [] asked holds e = some_none e
@@ -93,18 +112,18 @@ ran rest choices (i ∷ l ∷ m ∷ more) asked e = some_none e
 ran rest choices (i ∷ l ∷ []) asked e =
     by_harts (number_or 1 most_harts (text_of (codes "harts") choices)) (number_or most_turns most_turns (text_of (codes "turns") choices)) refl refl e
   where
-    by_from : (o : Option Text) (h t : ℕ) → (1 ≤ h) × (h ≤ most_harts) → (1 ≤ t) × (t ≤ most_turns) → Holds (codes "run" ∷ rest) (run_from o i l h t)
+    by_from : (o : Option Text) (h t : ℕ) → (1 ≤ h) × (h ≤ most_harts) → (1 ≤ t) × (t ≤ most_turns) → Holds (codes "run" ∷ rest) (run_from o i l (text_of (codes "record") choices) h t)
     by_from None h t hs ts = ((rest, refl), record { some = hs.0; few = hs.1; one = ts.0; most = ts.1 })
     by_from (Some old) h t hs ts = ((rest, refl), ts)
 
     threaded : (h t : ℕ) (every : Bool) → (1 ≤ h) × (h ≤ most_harts) → (1 ≤ t) × (t ≤ most_turns)
-        → (if every then None else Some (run_from (text_of (codes "from") choices) i l h t)) ≡ Some asked → Holds (codes "run" ∷ rest) asked
+        → (if every then None else Some (run_from (text_of (codes "from") choices) i l (text_of (codes "record") choices) h t)) ≡ Some asked → Holds (codes "run" ∷ rest) asked
     threaded h t true hs ts e = some_none e
     threaded h t false hs ts e = one_is (Holds (codes "run" ∷ rest)) e (by_from (text_of (codes "from") choices) h t hs ts)
 
     drawn_so : (h t : ℕ) (from : Bool) (seed ks : Option ℕ) → (1 ≤ h) × (h ≤ most_harts) → (1 ≤ t) × (t ≤ most_turns)
         → number_or 1 most_every (text_of (codes "every") choices) ≡ ks
-        → (if from then None else option_and_then (λ s. option_map (RunsDrawn i l h t s) ks) seed) ≡ Some asked → Holds (codes "run" ∷ rest) asked
+        → (if from then None else option_and_then (λ s. option_map (RunsDrawn i l (text_of (codes "record") choices) h t s) ks) seed) ≡ Some asked → Holds (codes "run" ∷ rest) asked
     drawn_so h t true seed ks hs ts k_is e = some_none e
     drawn_so h t false None ks hs ts k_is e = some_none e
     drawn_so h t false (Some s) None hs ts k_is e = some_none e
@@ -200,11 +219,26 @@ at_profile rest asked a =
     files Profiles (codes "profile" ∷ rest) a.given.values asked
     (λ i l e. (ap (λ ws. codes "profile" ∷ ws) (sym (plainly (codes "profile") _ rest asked a refl refl) ∙ e), tt)) a.asks
 
+at_races : (rest : List Text) (asked : Asked) → Asks (codes "races") rest asked → Holds (codes "races" ∷ rest) asked
+at_races rest asked a =
+    raced (codes "races" ∷ rest) a.given.values asked
+    (λ i l bs e. (ap (λ ws. codes "races" ∷ ws) (sym (plainly (codes "races") _ rest asked a refl refl) ∙ e), tt)) a.asks
+
 at_log : (rest : List Text) (asked : Asked) → Asks (codes "log") rest asked → Holds (codes "log" ∷ rest) asked
 at_log rest asked a =
     logged (codes "log" ∷ rest) a.given.values asked
     (λ l e. (ap (λ ws. codes "log" ∷ ws) (sym (plainly (codes "log") _ rest asked a refl refl) ∙ e), tt))
     (λ t l e. (ap (λ ws. codes "log" ∷ ws) (sym (plainly (codes "log") _ rest asked a refl refl) ∙ e), tt)) a.asks
+
+at_digest : (rest : List Text) (asked : Asked) → Asks (codes "digest") rest asked → Holds (codes "digest" ∷ rest) asked
+at_digest rest asked a =
+    digested (codes "digest" ∷ rest) a.given.values asked
+    (λ f is e. (ap (λ ws. codes "digest" ∷ ws) (sym (plainly (codes "digest") _ rest asked a refl refl) ∙ e), tt)) a.asks
+
+at_verify : (rest : List Text) (asked : Asked) → Asks (codes "verify") rest asked → Holds (codes "verify" ∷ rest) asked
+at_verify rest asked a =
+    verified (codes "verify" ∷ rest) a.given.values asked
+    (λ r i l e. (ap (λ ws. codes "verify" ∷ ws) (sym (plainly (codes "verify") _ rest asked a refl refl) ∙ e), tt)) a.asks
 
 at_asm : (rest : List Text) (asked : Asked) → Asks (codes "asm") rest asked → Holds (codes "asm" ∷ rest) asked
 at_asm rest asked a =
@@ -253,13 +287,34 @@ by_name name rest asked a =
     tell (bytes_eq name (codes "debug")) (λ same. at (codes "debug") name rest asked same (at_debug rest asked) a) (λ no_debug.
     tell (bytes_eq name (codes "blame")) (λ same. at (codes "blame") name rest asked same (at_blame rest asked) a) (λ no_blame.
     tell (bytes_eq name (codes "profile")) (λ same. at (codes "profile") name rest asked same (at_profile rest asked) a) (λ no_profile.
+    tell (bytes_eq name (codes "races")) (λ same. at (codes "races") name rest asked same (at_races rest asked) a) (λ no_races.
     tell (bytes_eq name (codes "log")) (λ same. at (codes "log") name rest asked same (at_log rest asked) a) (λ no_log.
+    tell (bytes_eq name (codes "digest")) (λ same. at (codes "digest") name rest asked same (at_digest rest asked) a) (λ no_digest.
+    tell (bytes_eq name (codes "verify")) (λ same. at (codes "verify") name rest asked same (at_verify rest asked) a) (λ no_verify.
     tell (bytes_eq name (codes "asm")) (λ same. at (codes "asm") name rest asked same (at_asm rest asked) a) (λ no_asm.
     tell (bytes_eq name (codes "dis")) (λ same. at (codes "dis") name rest asked same (at_dis rest asked) a) (λ no_dis.
     tell (bytes_eq name (codes "renew")) (λ same. at (codes "renew") name rest asked same (at_renew rest asked) a) (λ no_renew.
     tell (bytes_eq name (codes "explain")) (λ same. at (codes "explain") name rest asked same (at_explain rest asked) a) (λ no_explain.
     tell (bytes_eq name (codes "version")) (λ same. at (codes "version") name rest asked same (at_version rest asked) a) (λ no_version.
-    some_none (rw (no_picture, no_compile, no_map, no_run, no_replay, no_debug, no_blame, no_profile, no_log, no_asm, no_dis, no_renew, no_explain, no_version) at a.asks)))))))))))))))
+    some_none (rw (
+      no_picture,
+      no_compile,
+      no_map,
+      no_run,
+      no_replay,
+      no_debug,
+      no_blame,
+      no_profile,
+      no_races,
+      no_log,
+      no_digest,
+      no_verify,
+      no_asm,
+      no_dis,
+      no_renew,
+      no_explain,
+      no_version,
+    ) at a.asks))))))))))))))))))
 
 -- words that name something begin with a command's name
 in_command : (words : List Text) (asked : Asked) → named_in words ≡ Some asked → Holds words asked

@@ -12,8 +12,8 @@ use Rattle.clap.specs.Lexer.{usize_max}
 use Rattle.clap.specs.ValueTests.{accepts}
 use Rattle.clap.specs.Words.{Text}
 use Rattle.clap.specs.declared.builder.value_parser.ValueParser.TheVariants.{Unsigned}
-use Rattle.hrv_command_line.specs.CommandLine.{Asked, Assembles, Blames, Compiles, Debugs, Draws, Explains, Given, IsPlainWord, Lists, ListsAddresses, MakesLog, Maps}
-use Rattle.hrv_command_line.specs.CommandLine.{PrintsLog, Profiles, Renews, Replays, Resumes, Runs, RunsDrawn, TellsVersion, asked_of, choose, further, if_known, named, nothing_given, number_or, printed_in, read, seed_in, text_of, with_choice, with_values}
+use Rattle.hrv_command_line.specs.CommandLine.{Asked, Assembles, Blames, Compiles, Debugs, Digests, Draws, Explains, FindsRaces, Given, IsPlainWord, Lists, ListsAddresses, MakesLog, Maps}
+use Rattle.hrv_command_line.specs.CommandLine.{PrintsLog, Profiles, Renews, Replays, Resumes, Runs, RunsDrawn, TellsVersion, Verifies, asked_of, choose, further, if_known, named, nothing_given, number_or, printed_in, read, seed_in, text_of, with_choice, with_values}
 use Rattle.hrv_command_line.specs.Commands.{most_every, most_harts, most_seed, most_turns}
 use Rattle.hrv_command_line.specs.declared.table.OptionKind.{OptionKind}
 use Rattle.hrv_command_line.specs.declared.table.OptionKind.TheVariants.{Every, Flag, Harts, Seed, Turns, Word}
@@ -75,6 +75,14 @@ pub marked_compile : (algorithm schedule image : Text) (inputs : List Text) → 
     → named (codes "compile" ∷ codes "--" ∷ algorithm ∷ schedule ∷ image ∷ inputs) ≡ Some (Compiles algorithm schedule image inputs)
 marked_compile algorithm schedule image inputs few = ap (asks (codes "compile")) (marked_on [] (algorithm ∷ schedule ∷ image ∷ inputs))
 
+pub plain_races : (image log : Text) (but : List Text) → AllByRecursion IsPlainWord (image ∷ log ∷ but) → length but ≤ usize_max
+    → named (codes "races" ∷ image ∷ log ∷ but) ≡ Some (FindsRaces image log but)
+plain_races image log but all few = ap (asks (codes "races")) (all_on [] (image ∷ log ∷ but) nothing_given all)
+
+pub marked_races : (image log : Text) (but : List Text) → length but ≤ usize_max
+    → named (codes "races" ∷ codes "--" ∷ image ∷ log ∷ but) ≡ Some (FindsRaces image log but)
+marked_races image log but few = ap (asks (codes "races")) (marked_on [] (image ∷ log ∷ but))
+
 pub plain_map : (a b : Text) → IsPlainWord a → IsPlainWord b → named (codes "map" ∷ a ∷ b ∷ []) ≡ Some (Maps a b)
 plain_map a b a_plain b_plain = ap (asks (codes "map")) (all_on [] (a ∷ b ∷ []) nothing_given (a_plain, (b_plain, tt)))
 
@@ -110,6 +118,23 @@ plain_made_log a b a_plain b_plain = ap (asks (codes "log")) (all_on [] (a ∷ b
 
 pub marked_made_log : (a b : Text) → named (codes "log" ∷ codes "--" ∷ a ∷ b ∷ []) ≡ Some (MakesLog a b)
 marked_made_log a b = ap (asks (codes "log")) (marked_on [] (a ∷ b ∷ []))
+
+pub plain_digest : (file : Text) (files : List Text) → AllByRecursion IsPlainWord (file ∷ files)
+    → named (codes "digest" ∷ file ∷ files) ≡ Some (Digests (file ∷ files))
+plain_digest file files all = ap (asks (codes "digest")) (all_on [] (file ∷ files) nothing_given all)
+
+pub marked_digest : (file : Text) (files : List Text) → named (codes "digest" ∷ codes "--" ∷ file ∷ files) ≡ Some (Digests (file ∷ files))
+marked_digest file files = ap (asks (codes "digest")) (marked_on [] (file ∷ files))
+
+pub no_digest : named (codes "digest" ∷ []) ≡ None
+unfolding read
+no_digest = refl
+
+pub plain_verify : (a b c : Text) → IsPlainWord a → IsPlainWord b → IsPlainWord c → named (codes "verify" ∷ a ∷ b ∷ c ∷ []) ≡ Some (Verifies a b c)
+plain_verify a b c a_plain b_plain c_plain = ap (asks (codes "verify")) (all_on [] (a ∷ b ∷ c ∷ []) nothing_given (a_plain, (b_plain, (c_plain, tt))))
+
+pub marked_verify : (a b c : Text) → named (codes "verify" ∷ codes "--" ∷ a ∷ b ∷ c ∷ []) ≡ Some (Verifies a b c)
+marked_verify a b c = ap (asks (codes "verify")) (marked_on [] (a ∷ b ∷ c ∷ []))
 
 pub plain_asm : (a b : Text) → IsPlainWord a → IsPlainWord b → named (codes "asm" ∷ a ∷ b ∷ []) ≡ Some (Assembles a b)
 plain_asm a b a_plain b_plain = ap (asks (codes "asm")) (all_on [] (a ∷ b ∷ []) nothing_given (a_plain, (b_plain, tt)))
@@ -225,20 +250,37 @@ address_blame image log address i l plain =
 -- ---- runs
 
 abbrev running : Choices
-running = (codes "harts", Harts) ∷ (codes "turns", Turns) ∷ (codes "from", Word) ∷ (codes "seed", Seed) ∷ (codes "every", Every) ∷ []
+running = (codes "harts", Harts) ∷ (codes "turns", Turns) ∷ (codes "from", Word) ∷ (codes "seed", Seed) ∷ (codes "every", Every)
+    ∷ (codes "record", Word) ∷ []
 
-pub plain_run : (image log : Text) → IsPlainWord image → IsPlainWord log → named (codes "run" ∷ image ∷ log ∷ []) ≡ Some (Runs image log 1 most_turns)
+pub plain_run : (image log : Text) → IsPlainWord image → IsPlainWord log → named (codes "run" ∷ image ∷ log ∷ []) ≡ Some (Runs image log None 1 most_turns)
 plain_run image log i l = ap (asks (codes "run")) (all_on running (image ∷ log ∷ []) nothing_given (i, (l, tt)))
 
-pub marked_run : (image log : Text) → named (codes "run" ∷ codes "--" ∷ image ∷ log ∷ []) ≡ Some (Runs image log 1 most_turns)
+pub marked_run : (image log : Text) → named (codes "run" ∷ codes "--" ∷ image ∷ log ∷ []) ≡ Some (Runs image log None 1 most_turns)
 marked_run image log = ap (asks (codes "run")) (marked_on running (image ∷ log ∷ []))
 
 pub resumed_run : (image log old : Text) → IsPlainWord image → IsPlainWord log → IsPlainWord old
-    → named (codes "run" ∷ image ∷ log ∷ codes "--from" ∷ old ∷ []) ≡ Some (Resumes image log old most_turns)
+    → named (codes "run" ∷ image ∷ log ∷ codes "--from" ∷ old ∷ []) ≡ Some (Resumes image log None old most_turns)
 unfolding read
 resumed_run image log old i l plain =
     ap (asks (codes "run")) (files_on running image log (codes "--from" ∷ old ∷ []) i l
     ∙ text_on running (codes "from") old [] (with_values nothing_given (image ∷ log ∷ [])) plain)
+
+pub recorded_run : (image log file : Text) → IsPlainWord image → IsPlainWord log → IsPlainWord file
+    → named (codes "run" ∷ image ∷ log ∷ codes "--record" ∷ file ∷ []) ≡ Some (Runs image log (Some file) 1 most_turns)
+unfolding read
+recorded_run image log file i l plain =
+    ap (asks (codes "run")) (files_on running image log (codes "--record" ∷ file ∷ []) i l
+    ∙ text_on running (codes "record") file [] (with_values nothing_given (image ∷ log ∷ [])) plain)
+
+pub resumed_recorded : (image log old file : Text) → IsPlainWord image → IsPlainWord log → IsPlainWord old → IsPlainWord file
+    → named (codes "run" ∷ image ∷ log ∷ codes "--from" ∷ old ∷ codes "--record" ∷ file ∷ []) ≡ Some (Resumes image log (Some file) old most_turns)
+unfolding read
+resumed_recorded image log old file i l old_plain plain =
+    let given = with_values nothing_given (image ∷ log ∷ []) in
+    ap (asks (codes "run")) (files_on running image log (codes "--from" ∷ old ∷ codes "--record" ∷ file ∷ []) i l
+    ∙ text_on running (codes "from") old (codes "--record" ∷ file ∷ []) given old_plain
+    ∙ text_on running (codes "record") file [] (with_choice given (codes "from") old) plain)
 
 -- a number's text is a plain word
 number_plain : (none most n : ℕ) (text : Text) → number_or none most (Some text) ≡ Some n → IsPlainWord text
@@ -255,14 +297,14 @@ number_plain none most n (byte ∷ next ∷ rest) e = λ hyphen. accepted hyphen
 
 pub options_run : (image log harts turns : Text) (h t : ℕ) → IsPlainWord image → IsPlainWord log → number_or 1 most_harts (Some harts) ≡ Some h
     → number_or 1 most_turns (Some turns) ≡ Some t
-    → named (codes "run" ∷ image ∷ log ∷ codes "--harts" ∷ harts ∷ codes "--turns" ∷ turns ∷ []) ≡ Some (Runs image log h t)
+    → named (codes "run" ∷ image ∷ log ∷ codes "--harts" ∷ harts ∷ codes "--turns" ∷ turns ∷ []) ≡ Some (Runs image log None h t)
 unfolding read
 options_run image log harts turns h t i l hs ts =
     let given = with_values nothing_given (image ∷ log ∷ []) in
     ap (asks (codes "run")) (files_on running image log (codes "--harts" ∷ harts ∷ codes "--turns" ∷ turns ∷ []) i l
     ∙ text_on running (codes "harts") harts (codes "--turns" ∷ turns ∷ []) given (number_plain 1 most_harts h harts hs)
     ∙ text_on running (codes "turns") turns [] (with_choice given (codes "harts") harts) (number_plain 1 most_turns t turns ts))
-    ∙ ap₂ (λ a b. option_and_then (λ x. option_and_then (λ y. Some (Runs image log x y)) b) a) hs ts
+    ∙ ap₂ (λ a b. option_and_then (λ x. option_and_then (λ y. Some (Runs image log None x y)) b) a) hs ts
 
 -- a seed's text is a plain word
 seed_plain : (s : ℕ) (text : Text) → seed_in text ≡ Some s → IsPlainWord text
@@ -278,21 +320,21 @@ seed_plain s (byte ∷ next ∷ rest) e = λ hyphen. accepted hyphen (accepts fa
         absurd (omega arith)
 
 pub drawn_plain : (image log seed : Text) (s : ℕ) → IsPlainWord image → IsPlainWord log → seed_in seed ≡ Some s
-    → named (codes "run" ∷ image ∷ log ∷ codes "--seed" ∷ seed ∷ []) ≡ Some (RunsDrawn image log 1 most_turns s 1)
+    → named (codes "run" ∷ image ∷ log ∷ codes "--seed" ∷ seed ∷ []) ≡ Some (RunsDrawn image log None 1 most_turns s 1)
 unfolding read
 drawn_plain image log seed s i l is =
     let given = with_values nothing_given (image ∷ log ∷ []) in
     ap (asks (codes "run")) (files_on running image log (codes "--seed" ∷ seed ∷ []) i l
     ∙ text_on running (codes "seed") seed [] given (seed_plain s seed is))
-    ∙ ap (λ o. option_and_then (λ x. Some (RunsDrawn image log 1 most_turns x 1)) o) is
+    ∙ ap (λ o. option_and_then (λ x. Some (RunsDrawn image log None 1 most_turns x 1)) o) is
 
 pub drawn_every : (image log seed every : Text) (s k : ℕ) → IsPlainWord image → IsPlainWord log → seed_in seed ≡ Some s
     → number_or 1 most_every (Some every) ≡ Some k
-    → named (codes "run" ∷ image ∷ log ∷ codes "--seed" ∷ seed ∷ codes "--every" ∷ every ∷ []) ≡ Some (RunsDrawn image log 1 most_turns s k)
+    → named (codes "run" ∷ image ∷ log ∷ codes "--seed" ∷ seed ∷ codes "--every" ∷ every ∷ []) ≡ Some (RunsDrawn image log None 1 most_turns s k)
 unfolding read
 drawn_every image log seed every s k i l is ks =
     let given = with_values nothing_given (image ∷ log ∷ []) in
     ap (asks (codes "run")) (files_on running image log (codes "--seed" ∷ seed ∷ codes "--every" ∷ every ∷ []) i l
     ∙ text_on running (codes "seed") seed (codes "--every" ∷ every ∷ []) given (seed_plain s seed is)
     ∙ text_on running (codes "every") every [] (with_choice given (codes "seed") seed) (number_plain 1 most_every k every ks))
-    ∙ ap₂ (λ a b. option_and_then (λ x. option_map (RunsDrawn image log 1 most_turns x) b) a) is ks
+    ∙ ap₂ (λ a b. option_and_then (λ x. option_map (RunsDrawn image log None 1 most_turns x) b) a) is ks

@@ -12,8 +12,8 @@ use Rattle.clap.specs.declared.builder.value_parser.ValueParser.TheVariants.{Uns
 use Rattle.clap.specs.declared.error.Error.{Error}
 use Rattle.hrv_command_line.specs.Commands.{Shape, commands, hrv_app, most_every, most_harts, most_seed, most_turns}
 use Rattle.hrv_command_line.specs.declared.command_lines.Invocation.{Invocation}
-use Rattle.hrv_command_line.specs.declared.command_lines.Invocation.TheVariants.{Asm, Blame, Compile, Debug, Dis, DisAddresses, Explain, MakeLog, Map, Picture, PrintLog}
-use Rattle.hrv_command_line.specs.declared.command_lines.Invocation.TheVariants.{Profile, Renew, Replay, Resume, Run, RunDrawn, Version}
+use Rattle.hrv_command_line.specs.declared.command_lines.Invocation.TheVariants.{Asm, Blame, Compile, Debug, Digest, Dis, DisAddresses, Explain, MakeLog, Map, Picture, PrintLog}
+use Rattle.hrv_command_line.specs.declared.command_lines.Invocation.TheVariants.{Profile, Races, Renew, Replay, Resume, Run, RunDrawn, Verify, Version}
 use Rattle.hrv_command_line.specs.declared.faults.CommandLineFault.{CommandLineFault}
 use Rattle.hrv_command_line.specs.declared.faults.CommandLineFault.TheVariants.{Refused, Memory, Uncombined, Unexplained}
 use Rattle.hrv_command_line.specs.declared.table.OptionKind.{OptionKind}
@@ -24,15 +24,18 @@ pub data Asked : Type 0 where
   Draws : (algorithm : List ℕ) → (inputs : List (List ℕ)) → Asked
   Compiles : (algorithm schedule image : List ℕ) → (inputs : List (List ℕ)) → Asked
   Maps : (algorithm schedule : List ℕ) → Asked
-  Runs : (image log : List ℕ) → (harts turns : ℕ) → Asked
-  Resumes : (image log old : List ℕ) → (turns : ℕ) → Asked
-  RunsDrawn : (image log : List ℕ) → (harts turns seed every : ℕ) → Asked
+  Runs : (image log : List ℕ) → (recorded : Option (List ℕ)) → (harts turns : ℕ) → Asked
+  Resumes : (image log : List ℕ) → (recorded : Option (List ℕ)) → (old : List ℕ) → (turns : ℕ) → Asked
+  RunsDrawn : (image log : List ℕ) → (recorded : Option (List ℕ)) → (harts turns seed every : ℕ) → Asked
   Replays : (image log : List ℕ) → Asked
   Debugs : (image log : List ℕ) → Asked
   Blames : (image log : List ℕ) → (x y address : Option (List ℕ)) → (with_turns : Bool) → Asked
   Profiles : (image log : List ℕ) → Asked
+  FindsRaces : (image log : List ℕ) → (but : List (List ℕ)) → Asked
   PrintsLog : (log : List ℕ) → Asked
   MakesLog : (text log : List ℕ) → Asked
+  Digests : (files : List (List ℕ)) → Asked
+  Verifies : (recorded image log : List ℕ) → Asked
   Assembles : (source image : List ℕ) → Asked
   Lists : (image : List ℕ) → Asked
   ListsAddresses : (image : List ℕ) → Asked
@@ -44,16 +47,20 @@ abbrev pub asked_by : Invocation → Asked
 asked_by (Picture algorithm inputs) = Draws algorithm.now (texts inputs.items)
 asked_by (Compile algorithm schedule image inputs) = Compiles algorithm.now schedule.now image.now (texts inputs.items)
 asked_by (Map algorithm schedule) = Maps algorithm.now schedule.now
-asked_by (Run image log harts turns) = Runs image.now log.now harts turns
-asked_by (Resume image log old turns) = Resumes image.now log.now old.now turns
-asked_by (RunDrawn image log draws) = RunsDrawn image.now log.now draws.harts draws.turns draws.seed draws.every
+asked_by (Run image log recorded harts turns) = Runs image.now log.now (option_map (λ s. s.now) recorded) harts turns
+asked_by (Resume image log recorded old turns) = Resumes image.now log.now (option_map (λ s. s.now) recorded) old.now turns
+asked_by (RunDrawn image log recorded draws) =
+    RunsDrawn image.now log.now (option_map (λ s. s.now) recorded) draws.harts draws.turns draws.seed draws.every
 asked_by (Replay image log) = Replays image.now log.now
 asked_by (Debug image log) = Debugs image.now log.now
 asked_by (Blame image log words) =
     Blames image.now log.now (option_map (λ s. s.now) words.x) (option_map (λ s. s.now) words.y) (option_map (λ s. s.now) words.address) words.with_turns
 asked_by (Profile image log) = Profiles image.now log.now
+asked_by (Races image log but) = FindsRaces image.now log.now (texts but.items)
 asked_by (PrintLog log) = PrintsLog log.now
 asked_by (MakeLog text log) = MakesLog text.now log.now
+asked_by (Digest files) = Digests (texts files.items)
+asked_by (Verify recorded image log) = Verifies recorded.now image.now log.now
 asked_by (Asm source image) = Assembles source.now image.now
 asked_by (Dis image) = Lists image.now
 asked_by (DisAddresses image) = ListsAddresses image.now
@@ -69,9 +76,9 @@ pub record AreWithinLimits (harts turns : ℕ) : Type 0 where
   pub most : turns ≤ 2 ^ 40
 
 abbrev pub IsWithinLimits : Asked → Type 0
-IsWithinLimits (Runs image log harts turns) = AreWithinLimits harts turns
-IsWithinLimits (Resumes image log old turns) = (1 ≤ turns) × (turns ≤ 2 ^ 40)
-IsWithinLimits (RunsDrawn image log harts turns seed every) = AreWithinLimits harts turns × (1 ≤ every) × (every ≤ 4096)
+IsWithinLimits (Runs image log recorded harts turns) = AreWithinLimits harts turns
+IsWithinLimits (Resumes image log recorded old turns) = (1 ≤ turns) × (turns ≤ 2 ^ 40)
+IsWithinLimits (RunsDrawn image log recorded harts turns seed every) = AreWithinLimits harts turns × (1 ≤ every) × (every ≤ 4096)
 IsWithinLimits _ = Unit {0}
 
 -- ---- words after a command's name
@@ -172,9 +179,9 @@ compile_of (algorithm ∷ schedule ∷ image ∷ inputs) = Some (Compiles algori
 compile_of _ = None
 
 -- a run that goes on from a log has as many harts as the log has, whatever number is asked for
-abbrev pub run_from : Option Text → Text → Text → ℕ → ℕ → Asked
-run_from None image log harts turns = Runs image log harts turns
-run_from (Some old) image log harts turns = Resumes image log old turns
+abbrev pub run_from : Option Text → Text → Text → Option Text → ℕ → ℕ → Asked
+run_from None image log recorded harts turns = Runs image log recorded harts turns
+run_from (Some old) image log recorded harts turns = Resumes image log recorded old turns
 
 -- the seed that an option's text means
 abbrev pub seed_in : Text → Option ℕ
@@ -183,10 +190,12 @@ seed_in text = if accepts false (Unsigned 0 most_seed) text then Some (digits_va
 -- Turns are drawn where a seed is given, from the image's start; else the threads say which come next, and how many at once.
 abbrev pub run_by : Option Text → List (Text × Text) → Text → Text → ℕ → ℕ → Option Asked
 run_by None choices image log harts turns =
-    if is_some (text_of (codes "every") choices) then None else Some (run_from (text_of (codes "from") choices) image log harts turns)
+    if is_some (text_of (codes "every") choices) then None
+    else Some (run_from (text_of (codes "from") choices) image log (text_of (codes "record") choices) harts turns)
 run_by (Some seed) choices image log harts turns =
     if is_some (text_of (codes "from") choices) then None
-    else option_and_then (λ s. option_map (RunsDrawn image log harts turns s) (number_or 1 most_every (text_of (codes "every") choices))) (seed_in seed)
+    else option_and_then (λ s. option_map (RunsDrawn image log (text_of (codes "record") choices) harts turns s)
+    (number_or 1 most_every (text_of (codes "every") choices))) (seed_in seed)
 
 -- one hart, and all turns that a log may have, where no option says another number
 abbrev pub run_of : List (Text × Text) → List Text → Option Asked
@@ -206,11 +215,25 @@ blame_of choices (image ∷ log ∷ x ∷ y ∷ []) =
     Some (Blames image log (Some x) (Some y) (text_of (codes "address") choices) (is_some (text_of (codes "turns") choices)))
 blame_of choices _ = None
 
+-- the words of data that are left out follow
+abbrev pub races_of : List Text → Option Asked
+races_of (image ∷ log ∷ but) = Some (FindsRaces image log but)
+races_of _ = None
+
 -- a log, or a text and the log that is made of it
 abbrev pub log_of : List Text → Option Asked
 log_of (log ∷ []) = Some (PrintsLog log)
 log_of (text ∷ log ∷ []) = Some (MakesLog text log)
 log_of _ = None
+
+-- files, one at least
+abbrev pub digest_of : List Text → Option Asked
+digest_of [] = None
+digest_of (file ∷ files) = Some (Digests (file ∷ files))
+
+abbrev pub verify_of : List Text → Option Asked
+verify_of (recorded ∷ image ∷ log ∷ []) = Some (Verifies recorded image log)
+verify_of _ = None
 
 abbrev pub listing_of : Text → Bool → Asked
 listing_of image true = ListsAddresses image
@@ -265,12 +288,15 @@ asked_of name given = if bytes_eq name (codes "picture") then picture_of given.v
     else (if bytes_eq name (codes "debug") then files_of Debugs given.values
     else (if bytes_eq name (codes "blame") then blame_of given.choices given.values
     else (if bytes_eq name (codes "profile") then files_of Profiles given.values
+    else (if bytes_eq name (codes "races") then races_of given.values
     else (if bytes_eq name (codes "log") then log_of given.values
+    else (if bytes_eq name (codes "digest") then digest_of given.values
+    else (if bytes_eq name (codes "verify") then verify_of given.values
     else (if bytes_eq name (codes "asm") then files_of Assembles given.values
     else (if bytes_eq name (codes "dis") then dis_of given.choices given.values
     else (if bytes_eq name (codes "renew") then files_of Renews given.values
     else (if bytes_eq name (codes "explain") then explain_of given.values
-    else (if bytes_eq name (codes "version") then version_of given.values else None)))))))))))))
+    else (if bytes_eq name (codes "version") then version_of given.values else None))))))))))))))))
 
 -- the command of a name
 abbrev pub command_named : Text → List Shape → Option Shape
@@ -320,8 +346,11 @@ abbrev pub IsSpelled : List Text → Asked → Type 0
 IsSpelled words (Replays image log) = unmarked words ≡ codes "replay" ∷ image ∷ log ∷ []
 IsSpelled words (Debugs image log) = unmarked words ≡ codes "debug" ∷ image ∷ log ∷ []
 IsSpelled words (Profiles image log) = unmarked words ≡ codes "profile" ∷ image ∷ log ∷ []
+IsSpelled words (FindsRaces image log but) = unmarked words ≡ codes "races" ∷ image ∷ log ∷ but
 IsSpelled words (PrintsLog log) = unmarked words ≡ codes "log" ∷ log ∷ []
 IsSpelled words (MakesLog text log) = unmarked words ≡ codes "log" ∷ text ∷ log ∷ []
+IsSpelled words (Digests files) = unmarked words ≡ codes "digest" ∷ files
+IsSpelled words (Verifies recorded image log) = unmarked words ≡ codes "verify" ∷ recorded ∷ image ∷ log ∷ []
 IsSpelled words (Assembles source image) = unmarked words ≡ codes "asm" ∷ source ∷ image ∷ []
 IsSpelled words (Lists image) = unmarked words ≡ codes "dis" ∷ image ∷ []
 IsSpelled words (Explains family code) = (rest : List Text) × (unmarked words ≡ codes "explain" ∷ rest) × (refusal_in rest ≡ Some (family, code))
@@ -333,6 +362,6 @@ IsSpelled words (Maps algorithm schedule) = unmarked words ≡ codes "map" ∷ a
 -- options may stand anywhere: what they are, `named` alone says
 IsSpelled words (Blames image log x y address with_turns) = (rest : List Text) × (words ≡ codes "blame" ∷ rest)
 IsSpelled words (ListsAddresses image) = (rest : List Text) × (words ≡ codes "dis" ∷ rest)
-IsSpelled words (Runs image log harts turns) = (rest : List Text) × (words ≡ codes "run" ∷ rest)
-IsSpelled words (Resumes image log old turns) = (rest : List Text) × (words ≡ codes "run" ∷ rest)
-IsSpelled words (RunsDrawn image log harts turns seed every) = (rest : List Text) × (words ≡ codes "run" ∷ rest)
+IsSpelled words (Runs image log recorded harts turns) = (rest : List Text) × (words ≡ codes "run" ∷ rest)
+IsSpelled words (Resumes image log recorded old turns) = (rest : List Text) × (words ≡ codes "run" ∷ rest)
+IsSpelled words (RunsDrawn image log recorded harts turns seed every) = (rest : List Text) × (words ≡ codes "run" ∷ rest)

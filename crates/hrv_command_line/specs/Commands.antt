@@ -48,7 +48,8 @@ commands =
     ∷ (record {
       name = codes "run";
       values = (codes "IMAGE", Always) ∷ (codes "LOG", Always) ∷ [];
-      choices = (codes "harts", Harts) ∷ (codes "turns", Turns) ∷ (codes "from", Word) ∷ (codes "seed", Seed) ∷ (codes "every", Every) ∷ [];
+      choices = (codes "harts", Harts) ∷ (codes "turns", Turns) ∷ (codes "from", Word) ∷ (codes "seed", Seed) ∷ (codes "every", Every)
+          ∷ (codes "record", Word) ∷ [];
     })
     ∷ (record { name = codes "replay"; values = (codes "IMAGE", Always) ∷ (codes "LOG", Always) ∷ []; choices = [] })
     ∷ (record { name = codes "debug"; values = (codes "IMAGE", Always) ∷ (codes "LOG", Always) ∷ []; choices = [] })
@@ -58,7 +59,10 @@ commands =
       choices = (codes "address", Word) ∷ (codes "turns", Flag) ∷ [];
     })
     ∷ (record { name = codes "profile"; values = (codes "IMAGE", Always) ∷ (codes "LOG", Always) ∷ []; choices = [] })
+    ∷ (record { name = codes "races"; values = (codes "IMAGE", Always) ∷ (codes "LOG", Always) ∷ (codes "BUT", AnyNumber) ∷ []; choices = [] })
     ∷ (record { name = codes "log"; values = (codes "FILE", Always) ∷ (codes "LOG", Perhaps) ∷ []; choices = [] })
+    ∷ (record { name = codes "digest"; values = (codes "FILE", Always) ∷ (codes "MORE", AnyNumber) ∷ []; choices = [] })
+    ∷ (record { name = codes "verify"; values = (codes "RECORD", Always) ∷ (codes "IMAGE", Always) ∷ (codes "LOG", Always) ∷ []; choices = [] })
     ∷ (record { name = codes "asm"; values = (codes "SOURCE", Always) ∷ (codes "IMAGE", Always) ∷ []; choices = [] })
     ∷ (record { name = codes "dis"; values = (codes "IMAGE", Always) ∷ []; choices = (codes "addresses", Flag) ∷ [] })
     ∷ (record { name = codes "renew"; values = (codes "OLD", Always) ∷ (codes "NEW", Always) ∷ []; choices = [] })

@@ -32,7 +32,10 @@ pub(crate) fn asked_for<'a>(
         "debug" => Ok(debug_asked(values)),
         "blame" => Ok(blame_asked(values, choices)),
         "profile" => Ok(profile_asked(values)),
+        "races" => races_asked(alloc, values),
         "log" => Ok(log_asked(values)),
+        "digest" => digest_asked(alloc, values),
+        "verify" => Ok(verify_asked(values)),
         "asm" => Ok(asm_asked(values)),
         "dis" => Ok(dis_asked(values, choices)),
         "renew" => Ok(renew_asked(values)),
@@ -123,7 +126,9 @@ fn threaded_asked<'a>(
     if text_of("every", choices).is_some() {
         return None;
     }
-    Some(run_from(text_of("from", choices), image, log, harts, turns))
+    let record = text_of("record", choices);
+    let from = text_of("from", choices);
+    Some(run_from(from, image, log, record, harts, turns))
 }
 
 // A run whose turns are drawn, from the image's start.
@@ -149,7 +154,13 @@ fn drawn_asked<'a>(
         seed,
         every,
     };
-    Some(Invocation::RunDrawn { image, log, draws })
+    let record = text_of("record", choices);
+    Some(Invocation::RunDrawn {
+        image,
+        log,
+        record,
+        draws,
+    })
 }
 
 // The seed that a text means.
@@ -167,21 +178,25 @@ fn run_from<'a>(
     from: Option<&'a str>,
     image: &'a str,
     log: &'a str,
+    record: Option<&'a str>,
     harts: u64,
     turns: u64,
 ) -> Invocation<'a>
-    ensures { asked_by result ≡ run_from (option_map (λ s. s.now) from.entry) image.now log.now harts turns }
+    ensures { asked_by result ≡ run_from (option_map (λ s. s.now) from.entry) image.now log.now
+        (option_map (λ s. s.now) «record».entry) harts turns }
 {
     match from {
         None => Invocation::Run {
             image,
             log,
+            record,
             harts,
             turns,
         },
         Some(old) => Invocation::Resume {
             image,
             log,
+            record,
             old,
             turns,
         },
@@ -274,6 +289,19 @@ fn profile_asked<'a>(values: &[&'a str]) -> Option<Invocation<'a>>
     }
 }
 
+// What `races` is asked for.
+fn races_asked<'a>(alloc: Global, values: &[&'a str]) -> Result<Option<Invocation<'a>>, AllocError>
+    ensures { IfOk result (λ found. option_map asked_by found ≡ spec.races_of (texts values.now)) }
+{
+    match values {
+        [image, log, but @ ..] => {
+            let but = Vec::from_slice(alloc, but)?;
+            Ok(Some(Invocation::Races { image, log, but }))
+        }
+        _ => Ok(None),
+    }
+}
+
 // What `log` is asked for.
 fn log_asked<'a>(values: &[&'a str]) -> Option<Invocation<'a>>
     ensures { option_map asked_by result ≡ spec.log_of (texts values.now) }
@@ -281,6 +309,29 @@ fn log_asked<'a>(values: &[&'a str]) -> Option<Invocation<'a>>
     match values {
         [log] => Some(Invocation::PrintLog { log }),
         [text, log] => Some(Invocation::MakeLog { text, log }),
+        _ => None,
+    }
+}
+
+// What `digest` is asked for.
+fn digest_asked<'a>(alloc: Global, values: &[&'a str]) -> Result<Option<Invocation<'a>>, AllocError>
+    ensures { IfOk result (λ found. option_map asked_by found ≡ spec.digest_of (texts values.now)) }
+{
+    match values {
+        [] => Ok(None),
+        _ => {
+            let files = Vec::from_slice(alloc, values)?;
+            Ok(Some(Invocation::Digest { files }))
+        }
+    }
+}
+
+// What `verify` is asked for.
+fn verify_asked<'a>(values: &[&'a str]) -> Option<Invocation<'a>>
+    ensures { option_map asked_by result ≡ spec.verify_of (texts values.now) }
+{
+    match values {
+        [record, image, log] => Some(Invocation::Verify { record, image, log }),
         _ => None,
     }
 }

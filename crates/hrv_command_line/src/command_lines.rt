@@ -74,6 +74,12 @@ pub enum Invocation<'a> {
         image: &'a str,
         log: &'a str,
     },
+    /// `races IMAGE LOG [BUT..]`
+    Races {
+        image: &'a str,
+        log: &'a str,
+        but: Vec<&'a str>,
+    },
     /// `log LOG`
     PrintLog {
         log: &'a str,
@@ -81,6 +87,16 @@ pub enum Invocation<'a> {
     /// `log TEXT LOG`
     MakeLog {
         text: &'a str,
+        log: &'a str,
+    },
+    /// `digest FILE..`
+    Digest {
+        files: Vec<&'a str>,
+    },
+    /// `verify RECORD IMAGE LOG`
+    Verify {
+        record: &'a str,
+        image: &'a str,
         log: &'a str,
     },
     /// `picture ALGORITHM [INPUT..]`
@@ -100,24 +116,27 @@ pub enum Invocation<'a> {
         algorithm: &'a str,
         schedule: &'a str,
     },
-    /// `run IMAGE LOG --harts N --turns L`
+    /// `run IMAGE LOG --harts N --turns L --record RECORD`
     Run {
         image: &'a str,
         log: &'a str,
+        record: Option<&'a str>,
         harts: u64,
         turns: u64,
     },
-    /// `run IMAGE LOG --turns L --from OLD`
+    /// `run IMAGE LOG --turns L --from OLD --record RECORD`
     Resume {
         image: &'a str,
         log: &'a str,
+        record: Option<&'a str>,
         old: &'a str,
         turns: u64,
     },
-    /// `run IMAGE LOG --harts N --turns L --seed S --every K`
+    /// `run IMAGE LOG --harts N --turns L --seed S --every K --record RECORD`
     RunDrawn {
         image: &'a str,
         log: &'a str,
+        record: Option<&'a str>,
         draws: DrawArguments,
     },
     /// `explain FAMILY [CODE]`; a code that isn't given is empty.

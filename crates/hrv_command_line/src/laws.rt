@@ -3,10 +3,12 @@ ghost use Rattle.std.specs.Prelude.{◌≡◌, ◌≤◌, ℕ, List, None, [], �
 ghost use Rattle.std.specs.List.{AllByRecursion};
 ghost use Rattle.std.specs.Str.{bytes_eq};
 ghost use Rattle.clap.specs.Lexer.{usize_max};
-ghost use Rattle.hrv_command_line.specs.CommandLine.{Asked, Assembles, Blames, Compiles, Debugs, Draws, Explains};
+ghost use Rattle.hrv_command_line.specs.CommandLine.{Asked, Assembles, Blames, Compiles, Debugs, Digests, Draws};
+ghost use Rattle.hrv_command_line.specs.CommandLine.{Explains, FindsRaces};
 ghost use Rattle.hrv_command_line.specs.CommandLine.{IsPlainWord, IsSpelled, Lists, ListsAddresses, MakesLog, Maps};
 ghost use Rattle.hrv_command_line.specs.CommandLine.{PrintsLog, Profiles, Renews, Replays, Resumes};
-ghost use Rattle.hrv_command_line.specs.CommandLine.{Runs, RunsDrawn, TellsVersion, named, number_or, seed_in};
+ghost use Rattle.hrv_command_line.specs.CommandLine.{Runs, RunsDrawn, TellsVersion, Verifies};
+ghost use Rattle.hrv_command_line.specs.CommandLine.{named, number_or, seed_in};
 ghost use Rattle.hrv_command_line.specs.Commands.{most_every, most_harts, most_turns};
 ghost use Rattle.hrv_refusals.specs.Explanations.{is_explained};
 
@@ -59,6 +61,23 @@ pub fn log_is_named()
         → named (codes "log" ∷ text ∷ log ∷ []) ≡ Some (MakesLog text log) }
     ensures made_marked { (text log : List ℕ)
         → named (codes "log" ∷ codes "--" ∷ text ∷ log ∷ []) ≡ Some (MakesLog text log) }
+{}
+
+/// Which words name digests: `digest` and one name or more, after `--` where one begins with `-`.
+pub fn digest_is_named()
+    ensures plain { (file : List ℕ) (files : List (List ℕ)) → AllByRecursion IsPlainWord (file ∷ files)
+        → named (codes "digest" ∷ file ∷ files) ≡ Some (Digests (file ∷ files)) }
+    ensures marked { (file : List ℕ) (files : List (List ℕ))
+        → named (codes "digest" ∷ codes "--" ∷ file ∷ files) ≡ Some (Digests (file ∷ files)) }
+    ensures none { named (codes "digest" ∷ []) ≡ None }
+{}
+
+/// Which words name the verification of a record: `verify` and three names, after `--` where one begins with `-`.
+pub fn verify_is_named()
+    ensures plain { (recorded image log : List ℕ) → IsPlainWord recorded → IsPlainWord image → IsPlainWord log
+        → named (codes "verify" ∷ recorded ∷ image ∷ log ∷ []) ≡ Some (Verifies recorded image log) }
+    ensures marked { (recorded image log : List ℕ)
+        → named (codes "verify" ∷ codes "--" ∷ recorded ∷ image ∷ log ∷ []) ≡ Some (Verifies recorded image log) }
 {}
 
 /// Which words name an assembly: `asm` and two names, after `--` where one begins with `-`.
@@ -143,23 +162,40 @@ pub fn compile_is_named()
         ≡ Some (Compiles algorithm schedule image inputs) }
 {}
 
+/// Which words name a search for races: `races`, two names and any number of addresses, after `--` where one begins
+/// with `-`.
+pub fn races_are_named()
+    ensures plain { (image log : List ℕ) (but : List (List ℕ)) → AllByRecursion IsPlainWord (image ∷ log ∷ but)
+        → length but ≤ usize_max → named (codes "races" ∷ image ∷ log ∷ but) ≡ Some (FindsRaces image log but) }
+    ensures marked { (image log : List ℕ) (but : List (List ℕ)) → length but ≤ usize_max
+        → named (codes "races" ∷ codes "--" ∷ image ∷ log ∷ but) ≡ Some (FindsRaces image log but) }
+{}
+
 /// Which words name a run: `run` and two names, after `--` where one begins with `-`; with options after them, whose
-/// texts are numbers within the limits; with the log that it goes on from; or with a seed.
+/// texts are numbers within the limits; with the log that it goes on from; with a seed; or with the file of a record.
 pub fn run_is_named()
     ensures plain { (image log : List ℕ) → IsPlainWord image → IsPlainWord log
-        → named (codes "run" ∷ image ∷ log ∷ []) ≡ Some (Runs image log 1 most_turns) }
+        → named (codes "run" ∷ image ∷ log ∷ []) ≡ Some (Runs image log None 1 most_turns) }
     ensures marked { (image log : List ℕ)
-        → named (codes "run" ∷ codes "--" ∷ image ∷ log ∷ []) ≡ Some (Runs image log 1 most_turns) }
+        → named (codes "run" ∷ codes "--" ∷ image ∷ log ∷ []) ≡ Some (Runs image log None 1 most_turns) }
     ensures options { (image log harts turns : List ℕ) (h t : ℕ) → IsPlainWord image → IsPlainWord log
         → number_or 1 most_harts (Some harts) ≡ Some h → number_or 1 most_turns (Some turns) ≡ Some t
         → named (codes "run" ∷ image ∷ log ∷ codes "--harts" ∷ harts ∷ codes "--turns" ∷ turns ∷ [])
-        ≡ Some (Runs image log h t) }
+        ≡ Some (Runs image log None h t) }
     ensures resumed { (image log old : List ℕ) → IsPlainWord image → IsPlainWord log → IsPlainWord old
-        → named (codes "run" ∷ image ∷ log ∷ codes "--from" ∷ old ∷ []) ≡ Some (Resumes image log old most_turns) }
+        → named (codes "run" ∷ image ∷ log ∷ codes "--from" ∷ old ∷ []) ≡ Some (Resumes image log None old most_turns) }
     ensures drawn { (image log seed : List ℕ) (s : ℕ) → IsPlainWord image → IsPlainWord log → seed_in seed ≡ Some s
-        → named (codes "run" ∷ image ∷ log ∷ codes "--seed" ∷ seed ∷ []) ≡ Some (RunsDrawn image log 1 most_turns s 1) }
+        → named (codes "run" ∷ image ∷ log ∷ codes "--seed" ∷ seed ∷ [])
+        ≡ Some (RunsDrawn image log None 1 most_turns s 1) }
     ensures drawn_by { (image log seed every : List ℕ) (s k : ℕ) → IsPlainWord image → IsPlainWord log
         → seed_in seed ≡ Some s → number_or 1 most_every (Some every) ≡ Some k
         → named (codes "run" ∷ image ∷ log ∷ codes "--seed" ∷ seed ∷ codes "--every" ∷ every ∷ [])
-        ≡ Some (RunsDrawn image log 1 most_turns s k) }
+        ≡ Some (RunsDrawn image log None 1 most_turns s k) }
+    ensures recorded { (image log file : List ℕ) → IsPlainWord image → IsPlainWord log → IsPlainWord file
+        → named (codes "run" ∷ image ∷ log ∷ codes "--record" ∷ file ∷ [])
+        ≡ Some (Runs image log (Some file) 1 most_turns) }
+    ensures resumed_recorded { (image log old file : List ℕ) → IsPlainWord image → IsPlainWord log → IsPlainWord old
+        → IsPlainWord file
+        → named (codes "run" ∷ image ∷ log ∷ codes "--from" ∷ old ∷ codes "--record" ∷ file ∷ [])
+        ≡ Some (Resumes image log (Some file) old most_turns) }
 {}

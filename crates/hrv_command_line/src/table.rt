@@ -70,7 +70,7 @@ const INPUTS: Value<'static> = Value {
     help: "The inputs' pictures, in the order of the algorithm's lines",
 };
 
-const ROWS: [CommandRow<'static>; 14] = [
+const ROWS: [CommandRow<'static>; 17] = [
     CommandRow {
         name: "picture",
         about: "Draws the picture that an algorithm defines",
@@ -154,6 +154,12 @@ const ROWS: [CommandRow<'static>; 14] = [
                 kind: OptionKind::Every,
                 text: "K",
                 help: "How many turns a hart makes at most each time it is drawn, 1 to 4096: one where it isn't given",
+            },
+            Choice {
+                name: "record",
+                kind: OptionKind::Word,
+                text: "RECORD",
+                help: "The file that the record of the run is stored in, which `hrv verify` reads",
             },
         ],
     },
@@ -249,6 +255,28 @@ const ROWS: [CommandRow<'static>; 14] = [
         choices: &[],
     },
     CommandRow {
+        name: "races",
+        about: "Says at which place of a log two harts race first",
+        values: &[
+            Value {
+                name: "IMAGE",
+                need: ValueCount::Always,
+                help: "The image that was run",
+            },
+            Value {
+                name: "LOG",
+                need: ValueCount::Always,
+                help: "The log of its turns",
+            },
+            Value {
+                name: "BUT",
+                need: ValueCount::AnyNumber,
+                help: "Words of data that are left out, by their addresses",
+            },
+        ],
+        choices: &[],
+    },
+    CommandRow {
         name: "log",
         about: "Prints the runs of a log as text, or makes a log of such a text",
         values: &[
@@ -261,6 +289,45 @@ const ROWS: [CommandRow<'static>; 14] = [
                 name: "LOG",
                 need: ValueCount::Perhaps,
                 help: "The file that the log is stored in",
+            },
+        ],
+        choices: &[],
+    },
+    CommandRow {
+        name: "digest",
+        about: "Prints the SHA-256 digest of files, a line each",
+        values: &[
+            Value {
+                name: "FILE",
+                need: ValueCount::Always,
+                help: "A file",
+            },
+            Value {
+                name: "MORE",
+                need: ValueCount::AnyNumber,
+                help: "Other files",
+            },
+        ],
+        choices: &[],
+    },
+    CommandRow {
+        name: "verify",
+        about: "Says whether an image and a log are those of a record, and end as it says",
+        values: &[
+            Value {
+                name: "RECORD",
+                need: ValueCount::Always,
+                help: "The record that `hrv run --record` stored",
+            },
+            Value {
+                name: "IMAGE",
+                need: ValueCount::Always,
+                help: "The image that was run",
+            },
+            Value {
+                name: "LOG",
+                need: ValueCount::Always,
+                help: "The log of its turns",
             },
         ],
         choices: &[],

@@ -1,4 +1,4 @@
-use Rattle.hrv.proofs.dispatch.resume.Goals as goal
+use Rattle.hrv.proofs.running.resume_alone.Goals as goal
 
 pub returns : goal.returns
 returns g c = (

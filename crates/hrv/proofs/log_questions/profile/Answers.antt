@@ -1,4 +1,4 @@
-use Rattle.hrv.proofs.dispatch.profile.Goals as goal
+use Rattle.hrv.proofs.log_questions.profile.Goals as goal
 
 pub returns : goal.returns
 returns g c = (

@@ -1,4 +1,4 @@
-use Rattle.hrv.proofs.dispatch.blame.Goals as goal
+use Rattle.hrv.proofs.log_questions.blame.Goals as goal
 
 pub returns : goal.returns
 returns g c = (

@@ -1,4 +1,4 @@
-use Rattle.hrv.proofs.dispatch.run.Goals as goal
+use Rattle.hrv.proofs.running.run_alone.Goals as goal
 
 pub returns : goal.returns
 returns g c = (
