@@ -59,6 +59,13 @@ impl Devices<'_> {
         self.written(alloc, "new")
     }
 
+    /// The record that a run writes. Its lines have the name `kept`; its own name is `page` too.
+    pub fn new_record(&self, alloc: Global) -> Result<Page, CaseFailure>
+        ensures { IfOk result (λ page. page.failures ≡ 0) }
+    {
+        self.written(alloc, "kept")
+    }
+
     fn written(&self, alloc: Global, name: &str) -> Result<Page, CaseFailure>
         ensures { IfOk result (λ page. page.failures ≡ 0) }
     {

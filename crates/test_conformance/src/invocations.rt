@@ -52,6 +52,10 @@ fn push_asked(invocation: &Invocation, out: &mut String) -> Result<(), AllocErro
             writeln!(out, "{}", if words.with_turns { " with turns" } else { "" })
         }
         Invocation::Profile { image, log } => writeln!(out, "profile of {image} by {log}"),
+        Invocation::Races { image, log, but } => {
+            write!(out, "races of {image} by {log} but")?;
+            push_inputs(but, out)
+        }
         Invocation::PrintLog { log } => writeln!(out, "log {log}"),
         Invocation::MakeLog { text, log } => writeln!(out, "log of {text} to {log}"),
         Invocation::Picture { algorithm, inputs } => {
@@ -74,23 +78,46 @@ fn push_asked(invocation: &Invocation, out: &mut String) -> Result<(), AllocErro
         Invocation::Run {
             image,
             log,
+            record,
             harts,
             turns,
-        } => writeln!(
-            out,
-            "run of {image} to {log} by {harts} harts of {turns} turns"
-        ),
+        } => {
+            write!(
+                out,
+                "run of {image} to {log} by {harts} harts of {turns} turns"
+            )?;
+            push_recorded(*record, out)
+        }
         Invocation::Resume {
             image,
             log,
+            record,
             old,
             turns,
-        } => writeln!(out, "run of {image} from {old} to {log} of {turns} turns"),
-        Invocation::RunDrawn { image, log, draws } => writeln!(
-            out,
-            "run of {image} to {log} by {} harts of {} turns drawn from {} by {}",
-            draws.harts, draws.turns, draws.seed, draws.every
-        ),
+        } => {
+            write!(out, "run of {image} from {old} to {log} of {turns} turns")?;
+            push_recorded(*record, out)
+        }
+        Invocation::RunDrawn {
+            image,
+            log,
+            record,
+            draws,
+        } => {
+            write!(
+                out,
+                "run of {image} to {log} by {} harts of {} turns drawn from {} by {}",
+                draws.harts, draws.turns, draws.seed, draws.every
+            )?;
+            push_recorded(*record, out)
+        }
+        Invocation::Digest { files } => {
+            write!(out, "digest of")?;
+            push_inputs(files, out)
+        }
+        Invocation::Verify { record, image, log } => {
+            writeln!(out, "verify {record} of {image} by {log}")
+        }
         Invocation::Explain { family, code } => writeln!(out, "explain {family} {code}"),
         Invocation::Version => writeln!(out, "version"),
     }
@@ -102,6 +129,14 @@ fn push_given(words: &[Option<&str>], out: &mut String) -> Result<(), AllocError
         write!(out, " {}", word.unwrap_or("-"))?;
     }
     Ok(())
+}
+
+/// The rest of a line: the file of a record, if there is one.
+fn push_recorded(record: Option<&str>, out: &mut String) -> Result<(), AllocError> {
+    match record {
+        Some(record) => writeln!(out, " recorded in {record}"),
+        None => out.push_str("\n"),
+    }
 }
 
 /// The rest of a line: the files of inputs.

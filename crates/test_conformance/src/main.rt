@@ -34,6 +34,9 @@
 //! | `run` | `image`; `turns`: how many a hart makes at most | the log of one hart, in hexadecimal, and the dump |
 //! | `resume` | `image`, `log`; `turns` | the same, from where a log of one hart ends |
 //! | `drawn` | `image`, `harts`, `turns`, `seed`, `every` | the same of a run of harts whose turns a seed draws |
+//! | `recorded` | the parts of `run`, of `resume` or of `drawn` | the log, the record and the dump |
+//! | `digest` | any number of `file` | a line of each |
+//! | `verify` | `record`, `image`, `log` | what is said of them, and the exit status |
 //! | `compile` | `algorithm`, `schedule`, any number of `picture` | the image but for its words, one hart's picture |
 //! | `cut` | as `compile` | whether each write that fails leaves what was written before it |
 //! | `map` | `algorithm`, `schedule` | the map, but for where code lies |
@@ -49,13 +52,13 @@
 //! The cases of `draw`, of `asm` to `accesses` and of `threads` to `rejoin` go through the engines. But for `threads`
 //! and `rejoin` a last part `devices` says how their files give and take bytes: a line `NAME STEP` for at most so many
 //! bytes a call, `NAME STEP CALLS` where the call after so many fails. A file has the name of its part; what is
-//! written is `page`; the log that a run writes has the lines of `new`.
+//! written is `page`; the log that a run writes has the lines of `new`, its record those of `kept`.
 //!
 //! A refusal stands in place of an answer, or after what was written before, as `hrv` prints it; a backslash ends a
 //! text without a last line feed there. A case that isn't one of these is answered `malformed: ` and why.
 //!
-//! - [`algorithms`], [`schedules`], [`weights`], [`assemblies`], [`turns`], [`commands`], [`runs`], [`threads`],
-//!   [`compilations`], [`invocations`]: the answers, a module each for one family.
+//! - [`algorithms`], [`schedules`], [`weights`], [`assemblies`], [`turns`], [`commands`], [`runs`], [`records`],
+//!   [`threads`], [`compilations`], [`invocations`]: the answers, a module each for one family.
 //! - [`devices`]: files in memory.
 //! - [`harts`]: what a hart holds, as lines.
 //! - [`failures`]: what stands in place of an answer.
@@ -69,6 +72,7 @@ mod devices;
 mod failures;
 mod harts;
 mod invocations;
+mod records;
 mod runs;
 mod schedules;
 mod threads;
@@ -84,6 +88,7 @@ use crate::commands::{
 use crate::compilations::{push_accesses, push_compilation, push_cuts, push_map};
 use crate::failures::CaseFailure;
 use crate::invocations::push_invocation;
+use crate::records::{push_digests, push_recorded, push_verdict_on};
 use crate::runs::{push_drawn, push_resumption, push_run};
 use crate::schedules::push_schedule;
 use crate::threads::{push_rejoined, push_shared, push_threads};
@@ -159,6 +164,9 @@ fn push_answer(
         "run" => push_run(rt, alloc, parts, out),
         "resume" => push_resumption(rt, alloc, parts, out),
         "drawn" => push_drawn(alloc, parts, out),
+        "recorded" => push_recorded(rt, alloc, parts, out),
+        "digest" => push_digests(alloc, parts, out),
+        "verify" => push_verdict_on(alloc, parts, out),
         "compile" => push_compilation(alloc, parts, out),
         "cut" => push_cuts(alloc, parts, out),
         "map" => push_map(alloc, parts, out),

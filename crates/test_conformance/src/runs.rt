@@ -8,7 +8,7 @@ use crate::devices::devices_of;
 use crate::failures::CaseFailure;
 use crate::threads::harts_of;
 use hrv_engines::{DrawRules, Fault, Resources, resume_bytes, run_bytes, run_drawn_bytes};
-use std::alloc::Global;
+use std::alloc::{AllocError, Global};
 use std::sync::Wait;
 use std::thread::Threads;
 use test_cases::{Part, bytes_of};
@@ -94,7 +94,7 @@ pub fn push_drawn(alloc: Global, parts: &[Part], out: &mut String) -> Result<(),
 }
 
 /// How turns are drawn.
-fn rules_of(turns: &str, seed: &str, every: &str) -> Result<DrawRules, CaseFailure>
+pub fn rules_of(turns: &str, seed: &str, every: &str) -> Result<DrawRules, CaseFailure>
     ensures { IfOk result (λ rules. 1 ≤ rules.every) }
 {
     let limit = limit_of(turns)?;
@@ -129,8 +129,14 @@ fn push_left(
     page: &Page,
     out: &mut String,
 ) -> Result<(), CaseFailure> {
+    push_log_bytes(new, out)?;
+    push_answer(answered, page, out)
+}
+
+/// The bytes of a log, 32 a line.
+pub fn push_log_bytes(new: &Page, out: &mut String) -> Result<(), AllocError> {
     for line in new.bytes.chunks(32) {
         push_digits(line, out)?;
     }
-    push_answer(answered, page, out)
+    Ok(())
 }

@@ -5,8 +5,9 @@ ghost use Rattle.std.specs.Prelude.{◌≡◌};
 use crate::{Page, Tape, empty_page, tape_of};
 use hrv_engines::{
     DrawRules, Fault, Question, Resources, asm_bytes, blame_bytes, compile_bytes, debug_bytes,
-    dis_addresses_bytes, dis_bytes, make_log_bytes, map_bytes, picture_bytes, print_log_bytes,
-    profile_bytes, renew_bytes, replay_bytes, resume_bytes, run_bytes, run_drawn_bytes,
+    digest_bytes, dis_addresses_bytes, dis_bytes, make_log_bytes, map_bytes, picture_bytes,
+    print_log_bytes, profile_bytes, renew_bytes, replay_bytes, resume_bytes, resume_recorded_bytes,
+    run_bytes, run_drawn_bytes, run_drawn_recorded_bytes, run_recorded_bytes, verify_bytes,
 };
 use std::alloc::{AllocError, Global};
 use std::sync::Wait;
@@ -51,18 +52,23 @@ pub enum TestedCommand {
     Run,
     Resume,
     RunDrawn,
+    RunRecorded,
+    ResumeRecorded,
+    RunDrawnRecorded,
     Replay,
     Debug,
     Blame,
     Profile,
     PrintLog,
     MakeLog,
+    Digest,
+    Verify,
     Map,
     Draw,
 }
 
 /// All commands that want memory.
-pub const COMMANDS: [TestedCommand; 16] = [
+pub const COMMANDS: [TestedCommand; 21] = [
     TestedCommand::Assemble,
     TestedCommand::Compile,
     TestedCommand::Renew,
@@ -71,21 +77,27 @@ pub const COMMANDS: [TestedCommand; 16] = [
     TestedCommand::Run,
     TestedCommand::Resume,
     TestedCommand::RunDrawn,
+    TestedCommand::RunRecorded,
+    TestedCommand::ResumeRecorded,
+    TestedCommand::RunDrawnRecorded,
     TestedCommand::Replay,
     TestedCommand::Debug,
     TestedCommand::Blame,
     TestedCommand::Profile,
     TestedCommand::PrintLog,
     TestedCommand::MakeLog,
+    TestedCommand::Digest,
+    TestedCommand::Verify,
     TestedCommand::Map,
     TestedCommand::Draw,
 ];
 
-/// What a command writes: an image or standard output, and the log of a run.
+/// What a command writes: an image or standard output, and the log and the record of a run.
 #[derive(Drop)]
 pub struct CommandOutput {
     pub out: Page,
     pub log: Page,
+    pub kept: Page,
 }
 
 impl CommandOutput {
@@ -94,6 +106,7 @@ impl CommandOutput {
         CommandOutput {
             out: empty_page(alloc),
             log: empty_page(alloc),
+            kept: empty_page(alloc),
         }
     }
 
@@ -101,19 +114,23 @@ impl CommandOutput {
     fn clear(&mut self)
         ensures out { self.new.out.failures ≡ 0 }
         ensures log { self.new.log.failures ≡ 0 }
+        ensures kept { self.new.kept.failures ≡ 0 }
     {
         self.out.bytes.clear();
         self.out.failures = 0;
         self.log.bytes.clear();
         self.log.failures = 0;
+        self.kept.bytes.clear();
+        self.kept.failures = 0;
     }
 }
 
-/// The files that commands read beside texts: a compiled image and the log of its run.
+/// The files that commands read beside texts: a compiled image, and the log and the record of its run.
 #[derive(Drop)]
 pub struct Files {
     image: Vec<u8>,
     log: Vec<u8>,
+    kept: Vec<u8>,
 }
 
 impl Files {
@@ -124,11 +141,13 @@ impl Files {
         let mut files = Files {
             image: Vec::new(alloc),
             log: Vec::new(alloc),
+            kept: Vec::new(alloc),
         };
         files.answer(resources, TestedCommand::Compile, &mut written)?;
         files.image = written.out.bytes.clone()?;
-        files.answer(resources, TestedCommand::Run, &mut written)?;
+        files.answer(resources, TestedCommand::RunRecorded, &mut written)?;
         files.log = written.log.bytes.clone()?;
+        files.kept = written.kept.bytes.clone()?;
         Ok(files)
     }
 
@@ -141,7 +160,7 @@ impl Files {
     ) -> Result<(), Fault> {
         written.clear();
         let alloc = resources.alloc;
-        let CommandOutput { out, log } = written;
+        let CommandOutput { out, log, kept } = written;
         let (image, old) = (&mut self.image(), &mut self.log());
         match command {
             TestedCommand::Assemble => asm_bytes(alloc, &mut tape_of("source", SOURCE), out),
@@ -152,6 +171,15 @@ impl Files {
             TestedCommand::Run => run_bytes(resources, image, log, out, 1, TURNS),
             TestedCommand::Resume => resume_bytes(resources, image, old, log, out, TURNS),
             TestedCommand::RunDrawn => run_drawn_bytes(alloc, image, log, out, 2, RULES),
+            TestedCommand::RunRecorded => {
+                run_recorded_bytes(resources, image, log, kept, out, 1, TURNS)
+            }
+            TestedCommand::ResumeRecorded => {
+                resume_recorded_bytes(resources, image, old, log, kept, out, TURNS)
+            }
+            TestedCommand::RunDrawnRecorded => {
+                run_drawn_recorded_bytes(alloc, image, log, kept, out, 2, RULES)
+            }
             TestedCommand::Replay => replay_bytes(alloc, image, old, out),
             TestedCommand::Debug => {
                 debug_bytes(alloc, image, old, &mut tape_of("lines", LINES), out)
@@ -160,9 +188,19 @@ impl Files {
             TestedCommand::Profile => profile_bytes(alloc, image, old, out),
             TestedCommand::PrintLog => print_log_bytes(alloc, old, out),
             TestedCommand::MakeLog => make_log_bytes(alloc, &mut tape_of("turns", RUNS), out),
+            TestedCommand::Digest => digest_bytes(alloc, &["image"], &mut [self.image()], out),
+            TestedCommand::Verify => self.verify(alloc, out),
             TestedCommand::Map => map_bytes(alloc, &mut algorithm(), &mut schedule(), out),
             TestedCommand::Draw => draw(resources, out),
         }
+    }
+
+    fn verify(&self, alloc: Global, out: &mut Page) -> Result<(), Fault>
+        requires { out.old.failures ≡ 0 }
+    {
+        let mut kept = tape_of("record", &self.kept);
+        verify_bytes(alloc, &mut kept, &mut self.image(), &mut self.log(), out)?;
+        Ok(())
     }
 
     fn image(&self) -> Tape<'_>

@@ -36,6 +36,7 @@ struct Trial {
     written: CommandOutput,
     out: Vec<u8>,
     log: Vec<u8>,
+    kept: Vec<u8>,
 }
 
 impl Trial {
@@ -48,11 +49,13 @@ impl Trial {
         let mut written = CommandOutput::new(resources.alloc);
         files.answer(resources, command, &mut written)?;
         let (out, log) = (written.out.bytes.clone()?, written.log.bytes.clone()?);
+        let kept = written.kept.bytes.clone()?;
         Ok(Trial {
             command,
             written,
             out,
             log,
+            kept,
         })
     }
 
@@ -96,6 +99,7 @@ impl Trial {
     fn is_whole(&self) -> bool {
         self.written.out.bytes.as_slice() == self.out.as_slice()
             && self.written.log.bytes.as_slice() == self.log.as_slice()
+            && self.written.kept.bytes.as_slice() == self.kept.as_slice()
     }
 
     /// Whether the command wrote no more than it may when it is refused memory.
@@ -105,7 +109,7 @@ impl Trial {
             TestedCommand::Debug => self.out.starts_with(out),
             _ => out.is_empty(),
         };
-        is_begun && self.written.log.bytes.is_empty()
+        is_begun && self.written.log.bytes.is_empty() && self.written.kept.bytes.is_empty()
     }
 
     /// How often the command is refused memory, with nothing left, and then with more and more until it answers as with
