@@ -31,8 +31,8 @@
 //! - [`explain`]: a refusal is explained; [`explain_bytes`], and the version is told; [`version_bytes`].
 //! - [`devices`]: what is read from and written to ([`Source`], [`Sink`]).
 //! - [`faults`]: why an engine gives no answer ([`Fault`]).
-//! - [`laws`]: that what is printed of a compiled image that has finished is what is drawn of its texts; that a front of
-//!   more bytes than an image, an algorithm or a picture has decides that it is refused.
+//! - [`laws`]: that what is printed of a compiled image that has finished is what is drawn of its texts; that a front
+//!   of more bytes than an image, an algorithm or a picture has decides that it is refused.
 //!
 //! The other modules are theirs alone: how texts are read, what a line of a talk commands and what is answered to it,
 //! and the text of a dump and of its picture.

@@ -2,8 +2,8 @@
 //! rows, or the width of a load or store; and the operation that has given keys.
 //!
 //! The keys are those of the instruction table of `rv_insn`, read by `specs/Operations.antt`. RISC-V Unprivileged ISA
-//! 20191213, chapter 24 "RV32/64G Instruction Set Listings"; RISC-V Vector Extension 1.0, chapter 19 "Vector Instruction
-//! Listing".
+//! 20191213, chapter 24 "RV32/64G Instruction Set Listings"; RISC-V Vector Extension 1.0, chapter 19 "Vector
+//! Instruction Listing".
 #![tactic(auto)]
 
 mod scalar_keys;
