@@ -4,8 +4,8 @@
 //! that turns wrote since. The first one has them over the image's data, and leaves them to the next one when it is let
 //! go.
 
-ghost use Rattle.std.specs.Prelude.{◌≡◌, ◌+◌, ◌/◌, ◌^◌, ◌<◌, ◌≤◌, ℕ, List, All, false, Some, IfOk, IfSome, length};
-ghost use Rattle.std.specs.Prelude.{option_map, slice_get, take};
+ghost use Rattle.std.specs.Prelude.{◌≡◌, ◌⊎◌, ◌+◌, ◌/◌, ◌^◌, ◌<◌, ◌≤◌, ℕ, List, [], ◌∷◌, ◌++◌, All, false, Some, IfNone};
+ghost use Rattle.std.specs.Prelude.{IfOk, IfSome, drop, length, option_map, slice_get, take};
 ghost use Rattle.memory.specs.Access.{most_bytes};
 ghost use Rattle.multi_hart.specs.Parts.{with_data, with_harts};
 ghost use Rattle.multi_hart.specs.Run.{run};
@@ -13,8 +13,8 @@ ghost use Rattle.loader.specs.Image.{ImageContents};
 ghost use Rattle.loader.specs.Loading.{machine_of};
 ghost use Rattle.turn_log.specs.TurnLog.{LogState};
 ghost use Rattle.debugger_writes.specs.Pages.{Holds, Marked, is_written, pages_of};
-ghost use Rattle.debugger.specs.inner.KeptPlaces.{AreFree, ArePages, CanPutBack, IsCopy, IsKept, KeptFits, last_kept};
-ghost use Rattle.debugger.specs.inner.KeptPlaces.{last_of};
+ghost use Rattle.debugger.specs.inner.KeptPlaces.{AreFree, AreLastKept, ArePages, CanPutBack, IsCopy, IsKept};
+ghost use Rattle.debugger.specs.inner.KeptPlaces.{KeptFits, last_kept, last_of, room_for_one};
 
 use debugger_writes::{
     PAGE, PageCopy, changed_pages, mark_below, mark_pages, put_below, put_pages, settle,
@@ -88,6 +88,8 @@ pub(crate) fn nearest(kept: &[KeptPlace], place: u64) -> Option<(usize, u64)>
     ensures kept { IfSome result (λ found. option_map (λ copy. copy.place) (slice_get kept.now found.0)
         ≡ Some found.1) }
     ensures there { IfSome result (λ found. found.0 < length kept.now) }
+    ensures nearest { IfSome result (λ found. All (λ copy. copy.place ≤ place → copy.place ≤ found.1) kept.now) }
+    ensures none { IfNone result (All (λ copy. place < copy.place) kept.now) }
 {
     let [first, others @ ..] = kept else {
         return None;
@@ -126,10 +128,11 @@ pub(crate) fn copy_of(
 
 /// Keeps one more place, and lets the one that was kept first go where there are too many.
 pub(crate) fn keep_last(kept: &mut KeptPlaces, copy: KeptPlace)
-    ensures { (image : ImageContents) (log : LogState) (memory : List ℕ) → KeptFits image log kept.old memory
+    ensures fits { (image : ImageContents) (log : LogState) (memory : List ℕ) → KeptFits image log kept.old memory
         → IsKept image log (last_kept image kept.old) copy
         → memory ≡ (run (machine_of image log.harts) (take copy.place log.turns)).memory
         → KeptFits image log kept.new memory }
+    ensures places { AreLastKept kept.old.places.items copy kept.new.places.items }
 {
     make_room(kept);
     push_last(kept, copy);
@@ -141,6 +144,7 @@ fn make_room(kept: &mut KeptPlaces)
         → KeptFits image log kept.new memory }
     ensures last { (image : ImageContents) (log : LogState) (memory : List ℕ) → KeptFits image log kept.old memory
         → (i : ℕ) → last_kept image kept.old i ≡ last_kept image kept.new i }
+    ensures places { kept.new.places.items ≡ room_for_one kept.old.places.items }
 {
     if kept.places.len() < MOST_KEPT {
         return;
@@ -150,10 +154,12 @@ fn make_room(kept: &mut KeptPlaces)
 
 /// Keeps one more place. One for which there is no memory isn't kept.
 fn push_last(kept: &mut KeptPlaces, copy: KeptPlace)
-    ensures { (image : ImageContents) (log : LogState) (memory : List ℕ) → KeptFits image log kept.old memory
+    ensures fits { (image : ImageContents) (log : LogState) (memory : List ℕ) → KeptFits image log kept.old memory
         → IsKept image log (last_kept image kept.old) copy
         → memory ≡ (run (machine_of image log.harts) (take copy.place log.turns)).memory
         → KeptFits image log kept.new memory }
+    ensures places { (kept.new.places.items ≡ kept.old.places.items ++ copy ∷ [])
+        ⊎ (kept.new.places.items ≡ kept.old.places.items) }
 {
     match kept.places.push(copy) {
         Ok(()) => kept.written.fill(false),
@@ -168,6 +174,7 @@ fn let_go(kept: &mut KeptPlaces)
         → KeptFits image log kept.new memory }
     ensures last { (image : ImageContents) (log : LogState) (memory : List ℕ) → KeptFits image log kept.old memory
         → (i : ℕ) → last_kept image kept.old i ≡ last_kept image kept.new i }
+    ensures places { kept.new.places.items ≡ drop 1 kept.old.places.items }
 {
     let first = kept.places.remove(0);
     settle(&mut kept.below, first.pages);

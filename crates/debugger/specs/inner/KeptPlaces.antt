@@ -1,5 +1,5 @@
 -- What kept places hold: the state at each, as pages laid over those of the places before it. This project's own.
-use Rattle.std.specs.Prelude.{◌≡◌, ℕ, ◌%◌, ◌≤◌, List, [], ◌∷◌, All, Bool, length, slice_index, take, None}
+use Rattle.std.specs.Prelude.{◌≡◌, ◌⊎◌, ℕ, ◌%◌, ◌≤◌, List, [], ◌∷◌, ◌++◌, All, Bool, drop, if◌then◌else◌, length, nat_lt, slice_index, take, None}
 use Rattle.multi_hart.specs.Run.{State, run}
 use Rattle.turn_log.specs.TurnLog.{LogState}
 use Rattle.loader.specs.Image.{ImageContents}
@@ -63,3 +63,16 @@ pub record IsCopy (place : ℕ) (machine : State) (written : List Bool) (copy : 
   pub harts : copy.harts.items ≡ machine.harts
   pub pages : ArePages (length machine.memory) copy
   pub holds : (f : ℕ → ℕ) → HoldsUnwritten written machine.memory f → Holds machine.memory (over copy.pages.items f)
+
+-- ---- how many places are kept, and which of them is gone back to
+
+abbrev pub most_kept : ℕ
+most_kept = 16
+
+-- where as many are kept as may be, all but the first
+abbrev pub room_for_one : List KeptPlace → List KeptPlace
+room_for_one copies = if nat_lt (length copies) most_kept then copies else drop 1 copies
+
+-- One more is kept behind the last ones of those before, 16 with it at most; or it isn't, where there was no memory for it.
+abbrev pub AreLastKept : List KeptPlace → KeptPlace → List KeptPlace → Type 0
+AreLastKept before copy after = (after ≡ room_for_one before ++ copy ∷ []) ⊎ (after ≡ room_for_one before)

@@ -5,8 +5,8 @@ use Rattle.debugger.proofs.Keeping.{one-more, same-fits}
 use Rattle.debugger.proofs.kept.push_last.Goals as goal
 use Rattle.debugger.proofs.kept.push_last.Goals.{in-Ok, in-Err}
 
-pub returns : goal.returns
-returns c = λ image log memory fits is here.
+pub returns-clause-fits : goal.returns-clause-fits
+returns-clause-fits c = λ image log memory fits is here.
     let kept = c.args.kept.now in
     elim c.match-push.branch [
       | in-Ok w ↦

@@ -40,4 +40,4 @@ invariant_of-self c =
     let here : machine.memory ≡ (state_at session copy.place).memory = ap (λ (s : State). s.memory) c.self.invariant.state
     ∙ ap (λ (p : ℕ). (state_at session p).memory) (sym copied.place_is) in
     held-kept session machine c.self.inside.opening.items c.self.inside.insns.items kept c.keep_last.new.kept c.self.invariant
-    (c.keep_last.ensures session.image session.log machine.memory c.self.invariant.kept is here)
+    (c.keep_last.ensures.fits session.image session.log machine.memory c.self.invariant.kept is here)
