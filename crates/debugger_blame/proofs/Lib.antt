@@ -5,3 +5,4 @@ mod Passing
 pub mod Quiet
 pub mod Storing
 pub mod WordsTouched
+pub mod LastLeft

@@ -28,6 +28,15 @@ HartsAreLastWriters =
 abbrev pub held : State → ℕ → ℕ
 held state word = unwrap_or (word_in state word) 0
 
+-- what is left in a word by the turn of a number; where there is none, what the word held before
+abbrev pub left_by : State → List ℕ → ℕ → Option ℕ → ℕ
+left_by begin turns word None = held begin word
+left_by begin turns word (Some number) = held (turn (run begin (take number turns)) (unwrap_or (slice_get turns number) 0)) word
+
+-- After turns a word holds what the last of them that wrote it left there.
+abbrev pub LastWritesStay : Type 0
+LastWritesStay = (begin : State) (turns : List ℕ) (word : ℕ) → held (run begin turns) word ≡ left_by begin turns word (last_turn_of_word word begin turns)
+
 -- The turn is the last of the turns that writes a byte of the word; its hart, where that stood, and what the word held before it and
 -- after it.
 pub record IsLastWrite (begin : State) (turns : List ℕ) (word : ℕ) (w : Write) : Type 0 where

@@ -7,7 +7,8 @@
 //!   over `specs/Marks.antt`.
 //! - `stores`: what an instruction stores.
 //! - `quiets`: words of text that store nothing.
-//! - [`laws`]: the hart of that turn is the last writer of a byte that the theorem on assignments names.
+//! - [`laws`]: the hart of that turn is the last writer of a byte that the theorem on assignments names; what the turn
+//!   left in the word stands there after all turns.
 #![tactic(auto)]
 
 pub mod laws;
