@@ -1,0 +1,2 @@
+pub mod Packets
+pub mod Requests
