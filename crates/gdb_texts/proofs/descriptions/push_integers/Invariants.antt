@@ -1,0 +1,7 @@
+use Rattle.std.proofs.Common.{◌≡◌, ◌++◌}
+use Rattle.std.specs.String.{string_bytes}
+use Rattle.gdb_texts.specs.Texts.{integer_lines}
+use Rattle.gdb_texts.proofs.descriptions.push_integers.Given as goal
+
+abbrev pub invariant-loop-number : goal.invariant-loop-number
+invariant-loop-number l = string_bytes l.text ≡ string_bytes l.fn.text ++ integer_lines l.number
