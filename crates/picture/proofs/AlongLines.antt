@@ -183,6 +183,19 @@ pub stretch-row : (width : ℕ) (plane : Plane) (x y : Row) (first line : ℕ) (
 stretch-row width plane x y first line written values x_is y_is same is = rw (x_is, y_is) (written-row width (λ at. plane (word.add first at) line) written
     values same is)
 
+pub whole-column : (count width : ℕ) (before values : List ℕ) (says : ℕ → ℕ) → Changed count before values says → length before ≡ width → count ≡ width
+    → are.AreValues width says values
+whole-column count width before values says is long whole = record {
+  len = is.len ∙ long;
+  each = λ at less. is.done at (omega (arith, less, whole));
+}
+
+pub column-row : (width : ℕ) (plane : Plane) (x y : Row) (column first : ℕ) (values : Vec ℕ Global) → x ≡ rows.Same column → y ≡ rows.Step first
+    → are.AreValues width (λ at. plane column (word.add first at)) values.items
+    → are.IsRow width (λ at. plane (are.value_at x at) (are.value_at y at)) (rows.Each values)
+column-row width plane x y column first values x_is y_is is =
+    rw (x_is, y_is) (written-row width (λ at. plane column (word.add first at)) values.items values refl is)
+
 -- ---- what the own Func has along a line
 
 pub long-of : (width : ℕ) (says : ℕ → ℕ) (found : Option Row) → IfSome found (are.IsRow width says) → IfSome found (are.HasLength width)

@@ -11,7 +11,7 @@ ghost use Rattle.picture_rows.specs.Rows.{AreValues, HasLength, IsRow, value_at}
 use crate::lookups::pixel_in;
 use crate::row_reads::{read_row, table_window};
 use crate::scenes::{Scene, Table};
-use halide_pipeline::{Environment, Operation, Source, Variable};
+use halide_pipeline::{Environment, Operation, Source, Variable, words};
 use picture_rows::Row;
 use std::alloc::{AllocError, Global};
 
@@ -128,6 +128,28 @@ fn gathered(
     Ok(Some(Row::Each(values)))
 }
 
+/// Pixels of a box in a column, from a row on and down; none where one of those lies outside.
+fn column_pixels(
+    alloc: Global,
+    own_box: &Table,
+    column: u32,
+    first: u32,
+    width: usize,
+) -> Result<Option<Vec<u32>>, AllocError>
+    requires narrow { width < 2 ^ 32 }
+    ensures { (plane : spec.Plane) → IsTable plane own_box.now → IfOk result (λ found. IfSome found
+        (λ values. AreValues width (λ at. plane column (word.add first at)) values.items)) }
+{
+    let mut values = vec![in alloc; 0; width]?;
+    for at in 0..width {
+        let Some(pixel) = pixel_in(own_box, column, words::add(first, at as u32)) else {
+            return Ok(None);
+        };
+        values[at] = pixel;
+    }
+    Ok(Some(values))
+}
+
 /// Pixels of a box at points; none where one of those lies outside.
 fn box_pixels(
     alloc: Global,
@@ -148,6 +170,12 @@ fn box_pixels(
                 return Ok(None);
             };
             let values = Vec::from_slice(alloc, values)?;
+            Ok(Some(Row::Each(values)))
+        }
+        (Row::Same(column), Row::Step(first)) => {
+            let Some(values) = column_pixels(alloc, own_box, *column, *first, width)? else {
+                return Ok(None);
+            };
             Ok(Some(Row::Each(values)))
         }
         _ => {

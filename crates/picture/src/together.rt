@@ -1,13 +1,14 @@
 //! Updates on many slices together: in a box whose columns or rows are the slices, each point of the reduction box is
 //! run on all of them before the next one is.
 
-ghost use Rattle.std.specs.Prelude.{◌≡◌, ◌+◌, ◌<◌, ◌^◌, IfOk, IfSome, true};
+ghost use Rattle.std.specs.Prelude.{◌≡◌, ◌+◌, ◌<◌, ◌^◌, ℕ, IfOk, IfSome, length, slice_index, true};
 ghost use Rattle.halide_pipeline.specs.Pixel as spec;
+ghost use Rattle.halide_pipeline.specs.Words as word;
 ghost use Rattle.halide_pipeline.specs.declared.environments.Environment.{Environment as EnvironmentState};
 ghost use Rattle.picture.specs.inner.Evaluation.{stage_in, AreTables, IsAt, IsPass, IsTable};
 ghost use Rattle.picture.specs.inner.Lines.{IsLine};
 ghost use Rattle.picture.specs.inner.Together.{after_points, side_length, with_stores, IsSide, IsStoreRow};
-ghost use Rattle.picture_rows.specs.Rows.{HasLength};
+ghost use Rattle.picture_rows.specs.Rows.{value_at, HasLength};
 
 use crate::boxes::TableBounds;
 use crate::in_place::{PixelSpan, is_first, is_second, stage_pixels};
@@ -79,8 +80,38 @@ fn store_row(scene: &Scene, pass: Pass, line: PointLine) -> Result<Option<StoreR
     Ok(Some(StoreRow { x, y, value }))
 }
 
-/// Stores what the points of a line store, one after the other.
-fn store_all(row: &StoreRow, width: usize, table: &mut Table)
+/// Stores what the points of a line store, where those lie side by side in a row of pixels.
+fn store_beside(row: &StoreRow, column: u32, line: u32, values: &[u32], table: &mut Table)
+    requires x { (at : ℕ) → value_at row.now.x at ≡ word.add column at }
+    requires y { (at : ℕ) → value_at row.now.y at ≡ line }
+    requires value { (at : ℕ) → value_at row.now.value at ≡ slice_index values.now at }
+    requires narrow { length values.now < 2 ^ 32 }
+    ensures table { (plane : spec.Plane) → IsTable plane table.old
+        → IsTable (with_stores row.now (length values.now) plane) table.new }
+    ensures bounds { IsAt table.old.left table.old.top table.old.width table.old.height table.new }
+{
+    for at in 0..values.len() {
+        table.put(words::add(column, at as u32), line, values[at]);
+    }
+}
+
+/// Stores what the points of a line store, where those lie one below the other.
+fn store_below(row: &StoreRow, column: u32, line: u32, values: &[u32], table: &mut Table)
+    requires x { (at : ℕ) → value_at row.now.x at ≡ column }
+    requires y { (at : ℕ) → value_at row.now.y at ≡ word.add line at }
+    requires value { (at : ℕ) → value_at row.now.value at ≡ slice_index values.now at }
+    requires narrow { length values.now < 2 ^ 32 }
+    ensures table { (plane : spec.Plane) → IsTable plane table.old
+        → IsTable (with_stores row.now (length values.now) plane) table.new }
+    ensures bounds { IsAt table.old.left table.old.top table.old.width table.old.height table.new }
+{
+    for at in 0..values.len() {
+        table.put(column, words::add(line, at as u32), values[at]);
+    }
+}
+
+/// Stores what the points of a line store, wherever those lie.
+fn store_each(row: &StoreRow, width: usize, table: &mut Table)
     requires x { HasLength width row.now.x }
     requires y { HasLength width row.now.y }
     requires value { HasLength width row.now.value }
@@ -93,6 +124,27 @@ fn store_all(row: &StoreRow, width: usize, table: &mut Table)
         let x = row.x.value_at(at, width);
         let y = row.y.value_at(at, width);
         table.put(x, y, row.value.value_at(at, width));
+    }
+}
+
+/// Stores what the points of a line store, one after the other.
+fn store_all(row: &StoreRow, width: usize, table: &mut Table)
+    requires x { HasLength width row.now.x }
+    requires y { HasLength width row.now.y }
+    requires value { HasLength width row.now.value }
+    requires narrow { width < 2 ^ 32 }
+    ensures table { (plane : spec.Plane) → IsTable plane table.old
+        → IsTable (with_stores row.now width plane) table.new }
+    ensures bounds { IsAt table.old.left table.old.top table.old.width table.old.height table.new }
+{
+    match (&row.x, &row.y, &row.value) {
+        (Row::Step(column), Row::Same(line), Row::Each(values)) => {
+            store_beside(row, *column, *line, values, table)
+        }
+        (Row::Same(column), Row::Step(line), Row::Each(values)) => {
+            store_below(row, *column, *line, values, table)
+        }
+        _ => store_each(row, width, table),
     }
 }
 

@@ -1,7 +1,7 @@
 use Rattle.halide_pipeline.specs.Pixel.{Plane}
 use Rattle.picture.specs.inner.Evaluation.{IsAt, IsTable}
 use Rattle.picture.specs.inner.Together.{with_stores}
-use Rattle.picture.proofs.together.store_all.Given as goal
+use Rattle.picture.proofs.together.store_each.Given as goal
 
 abbrev pub invariant-loop-at : goal.invariant-loop-at
 invariant-loop-at l = record {
