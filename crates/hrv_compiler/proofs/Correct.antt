@@ -31,11 +31,11 @@ use Rattle.work_sharing.proofs.Races.{never-races}
 use Rattle.work_sharing.proofs.Fair.{can-finish, fair-ends, gates-grow}
 use Rattle.work_sharing.proofs.Results.{never-traps, one-result}
 use Rattle.work_sharing.proofs.Single.{alone-stops}
-use Rattle.vector_codegen.specs.PhaseCode.{Part, program}
-use Rattle.vector_codegen.specs.Sharing.{phase}
-use Rattle.vector_codegen.proofs.Sharing.{programs-share}
-use Rattle.vector_codegen.specs.Programs.{ArePartsOf}
-use Rattle.vector_codegen.proofs.ProgramStanding.{programs-stand}
+use Rattle.vector_codegen_laws.specs.PhaseCode.{Part, program}
+use Rattle.vector_codegen_laws.specs.Sharing.{phase}
+use Rattle.vector_codegen_laws.proofs.Sharing.{programs-share}
+use Rattle.vector_codegen_laws.specs.Programs.{ArePartsOf}
+use Rattle.vector_codegen_laws.proofs.ProgramStanding.{programs-stand}
 use Rattle.vector_codegen_laws.specs.Places.{places_of}
 use Rattle.vector_codegen_laws.specs.Points.{address_at}
 use Rattle.vector_codegen_laws.specs.Settings.{places, size}

@@ -7,7 +7,7 @@ use Rattle.bounds.specs.declared.layout.Layout.{Layout}
 use Rattle.bounds.specs.declared.verdict.Boxes.{Boxes}
 use Rattle.bounds.specs.Layout.{laid_in, phases}
 use Rattle.bounds.specs.Verdict.{inferred}
-use Rattle.vector_codegen.proofs.ProgramStanding.{parts-length}
+use Rattle.vector_codegen_laws.proofs.ProgramStanding.{parts-length}
 use Rattle.vector_codegen_laws.specs.Places.{places_of}
 use Rattle.hrv_compiler.specs.Compiled.{CompiledContents}
 use Rattle.hrv_compiler.specs.Map.{AreAllRight, ArePhases}

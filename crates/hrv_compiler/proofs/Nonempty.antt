@@ -13,8 +13,8 @@ use Rattle.loop_ir.specs.declared.statements.Phase.{Phase}
 use Rattle.lowering.specs.Lowered.{ArePhasesOf, One_more, AreLowered, No_func, Passed, Computed}
 use Rattle.bounds.specs.Stages.{IsAtRoot}
 use Rattle.task_code_scalar.proofs.Spelling.{emits-length}
-use Rattle.vector_codegen.specs.PhaseCode.{Part, program}
-use Rattle.vector_codegen.proofs.ProgramStanding.{parts-length}
+use Rattle.vector_codegen_laws.specs.PhaseCode.{Part, program}
+use Rattle.vector_codegen_laws.proofs.ProgramStanding.{parts-length}
 use Rattle.vector_codegen_laws.specs.Places.{places_of}
 use Rattle.hrv_compiler.specs.Compiled.{CompiledContents}
 use Rattle.hrv_compiler.specs.inner.Held.{IsHeld}

@@ -16,7 +16,7 @@ use Rattle.vector_codegen_laws.specs.Places.{places_of}
 use Rattle.task_code_scalar.specs.Faults.{HasRoom, LieLow}
 use Rattle.lowering.specs.Sizes.{words_of}
 use Rattle.memory.specs.Access.{most_words}
-use Rattle.vector_codegen.specs.Programs.{HasFewTasks, HasRegisters, IsTooLong, words_asked}
+use Rattle.vector_codegen_laws.specs.Programs.{HasFewTasks, HasRegisters, IsTooLong, words_asked}
 use Rattle.hrv_compiler.proofs.Low.{layout_is, own_few}
 
 frames_at : (count : ℕ) (inputs roots privates : List ℕ) (framed : Bool) → (laid_in count inputs roots privates framed).size ≤ 33554432

@@ -8,7 +8,7 @@ use Rattle.bounds.specs.declared.verdict.Boxes.{Boxes}
 use Rattle.bounds.specs.Extents.{box_in, extent}
 use Rattle.bounds_ranges.specs.Numbers.{origin}
 use Rattle.loader.specs.declared.outputs.Output.{Output}
-use Rattle.task_code_statements.specs.declared.stages.CodeStage.{CodeStage}
+use Rattle.vector_codegen_laws.specs.Programs.{CodeStage}
 
 pub record CompiledContents : Type 0 where
   pub pipeline : Pipeline

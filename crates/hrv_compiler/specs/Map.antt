@@ -2,7 +2,7 @@
 -- all images of the program do. This project's own.
 use Rattle.std.specs.Prelude.{◌≡◌, List, [], length, None}
 use Rattle.task_code_scalar.specs.Words.{Emits}
-use Rattle.vector_codegen.specs.PhaseCode.{Part, ends_from, program}
+use Rattle.vector_codegen_laws.specs.PhaseCode.{Part, ends_from, program}
 use Rattle.halide_pipeline.specs.Contents.{PictureContents}
 use Rattle.picture.specs.Evaluated.{judged}
 use Rattle.hrv_compiler.specs.Assigned.{IsAssigned}
@@ -10,6 +10,7 @@ use Rattle.hrv_compiler.specs.Compiled.{CompiledContents}
 use Rattle.hrv_compiler.specs.Correct.{Correct}
 use Rattle.hrv_compiler.specs.Images.{ArePictures, image_of}
 use Rattle.hrv_compiler.specs.Runs.{WritesWholeRuns}
+pub use Rattle.hrv_map.specs.Maps.{map_text}
 
 -- The text has as many parts as there are phases, one after the other. Each draws tasks at the ticket word of its phase and waits at its gate
 -- (`phase_code`), and the ends are theirs.

@@ -34,7 +34,7 @@ use picture::{EvalError, Picture, judge};
 use schedule::Schedule;
 use std::alloc::{AllocError, Global};
 use std::marker::Model;
-use task_code_statements::stages::CodeStage;
+use vector_codegen_laws::CodeStage;
 
 /// A pipeline under a schedule that was accepted for it, with the words of its phases, where each ends, and the stages
 /// inside of phases. Contracts see a `CompiledContents` that is an `IsCompiled` (`specs/Compiled.antt`); what its words

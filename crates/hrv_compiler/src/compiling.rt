@@ -8,7 +8,7 @@ ghost use Rattle.bounds_weights.specs.Weight.{most_weight, weight};
 ghost use Rattle.bounds.specs.Verdict.{inferred};
 ghost use Rattle.memory.specs.Access.{most_words};
 ghost use Rattle.task_code_scalar.specs.Faults.{LieLow};
-ghost use Rattle.vector_codegen.specs.Programs.{HasFewTasks, HasRegisters, IsProgramTo, words_asked};
+ghost use Rattle.vector_codegen_laws.specs.Programs.{HasFewTasks, HasRegisters, IsProgramTo, words_asked};
 ghost use Rattle.hrv_compiler.specs.declared.faults.CompileFault.TheVariants as faults;
 ghost use Rattle.hrv_compiler.specs.Verdict.{IsCompiled, Means};
 ghost use Rattle.hrv_compiler.specs.inner.Held.{AreWordsOf};
@@ -27,7 +27,7 @@ use schedule::{Schedule, read};
 use std::alloc::Global;
 use task_code_scalar::CodeFault;
 use task_code_scalar::layouts::Places;
-use vector_codegen::{Program, generate};
+use vector_codegen_laws::{Program, generate};
 
 /// The boxes of a pipeline under a schedule, or the first fault that stands.
 fn judged(alloc: Global, pipeline: &Pipeline, schedule: &Schedule) -> Result<Boxes, CompileFault>

@@ -8,7 +8,8 @@ use Rattle.loop_ir.specs.Sizes.{whole_size}
 use Rattle.multi_hart_laws.specs.Paths.{Stand, end}
 use Rattle.task_code_scalar.specs.declared.layouts.Places.{Places}
 use Rattle.task_code_scalar.specs.Words.{Emits}
-use Rattle.task_code_statements.specs.Tasks.{DoesTask}
+pub use Rattle.task_code_statements.specs.Tasks.{DoesTask, EachTaskEnds, HasDrawn, TaskEnds, restored}
+pub use Rattle.task_code_statements.specs.declared.stages.CodeStage.{CodeStage}
 
 -- so many words a task asks for: those of its statement, and those that leave what the draw and the gate look for
 abbrev pub task_size : Phase → ℕ

@@ -11,7 +11,7 @@ use Rattle.multi_hart_laws.specs.Paths.{Spot, Stand, end}
 use Rattle.multi_hart_laws.proofs.Paths.{stand-front, stand-back}
 use Rattle.work_sharing.specs.Turns.{ticket_word}
 use Rattle.task_code_scalar.specs.Code.{forth, back}
-use Rattle.task_code_statements.specs.Tasks.{restored}
+use Rattle.task_code.specs.Tasks.{restored}
 use Rattle.vector_codegen.specs.PhaseCode.{Part, door_code, door_words, draw_code, tasks_code, phase_code, program, begin, door_at, draw_at}
 use Rattle.vector_codegen.specs.Sharing.{no_part}
 

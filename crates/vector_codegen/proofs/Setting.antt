@@ -5,7 +5,7 @@ use Rattle.multi_hart_laws.specs.Paths.{Stand, end, Path, Line}
 use Rattle.multi_hart_laws.proofs.Paths.{line-then, path-then}
 use Rattle.multi_hart_laws.proofs.Jumps.{jump}
 use Rattle.task_code_scalar.specs.Code.{literal, forth}
-use Rattle.task_code_statements.specs.Tasks.{restored}
+use Rattle.task_code.specs.Tasks.{restored}
 use Rattle.task_code_scalar.proofs.Values.{Sets, literal-sets}
 use Rattle.vector_codegen.specs.PhaseCode.{Part, door_words, phase_code, draw_at}
 use Rattle.vector_codegen.proofs.PhaseStanding.{forth-to, at-setup, at-way, at-draw}

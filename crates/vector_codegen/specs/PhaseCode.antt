@@ -15,7 +15,7 @@ use Rattle.rv_insn.specs.declared.operations.BranchOp.TheVariants.{Bgeu, Bne}
 use Rattle.rv_insn.specs.declared.operations.LoadOp.TheVariants.{Lw}
 use Rattle.work_sharing.specs.Turns.{ticket_word}
 use Rattle.task_code_scalar.specs.Code.{forth, back}
-use Rattle.task_code_statements.specs.Tasks.{restored}
+use Rattle.task_code.specs.Tasks.{restored}
 
 -- how many tasks a phase has, and the code of one
 pub record Part : Type 0 where

@@ -14,7 +14,7 @@ use Rattle.task_code_scalar.specs.declared.layouts.Places.{Places}
 use Rattle.task_code_scalar.specs.Faults.{IsFault, LieLow, HasRoom}
 use Rattle.task_code_scalar.specs.Words.{Emits}
 use Rattle.task_code.specs.Tasks.{task_size}
-use Rattle.task_code_statements.specs.Tasks.{DoesTask}
+pub use Rattle.task_code.specs.Tasks.{CodeStage, DoesTask, EachTaskEnds, HasDrawn, TaskEnds}
 use Rattle.vector_codegen.specs.PhaseCode.{Part, ends_from, program}
 
 -- It has the phase's tasks, and its instructions do each of them, where buffers lie so, with the ticket of the phase's number; they are no more than

@@ -10,10 +10,9 @@ use crate::emit_phase;
 use loop_ir::statements::Phase;
 use memory::{DATA_START, MOST_WORDS};
 use std::alloc::{AllocError, Global};
-use task_code::emit;
+use task_code::{CodeStage, add_last, emit};
 use task_code_scalar::CodeFault;
 use task_code_scalar::layouts::Places;
-use task_code_statements::stages::{CodeStage, add_last};
 
 /// A program has at most so many phases: the code around a phase's tasks takes 16 words.
 const MOST_PHASES: usize = MOST_WORDS / 16;

@@ -5,6 +5,7 @@
 //! - [`emit_phase`]: appends the words of a phase (`specs/PhaseCode.antt`).
 //! - [`phase_laws`]: where each task's code does its task, such a program shares its work as the promises of
 //!   `work_sharing` on every list of turns ask (`specs/Sharing.antt`).
+//! - [`CodeStage`]: of `task_code_statements`, passed on.
 #![tactic(auto)]
 
 mod generation;
@@ -16,3 +17,4 @@ pub use crate::generation::{Program, generate};
 pub use crate::phase_laws::programs_share;
 pub use crate::phases::emit_phase;
 pub use crate::program_laws::{programs_are_short, programs_stand};
+pub use task_code::CodeStage;

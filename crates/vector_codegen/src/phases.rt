@@ -13,9 +13,9 @@ ghost use Rattle.vector_codegen.specs.PhaseCode as spec;
 
 use rv_insn::{BranchOffset, BranchOp, Imm12, Insn, LoadOp};
 use std::alloc::AllocError;
+use task_code::emit_restored;
 use task_code_scalar::instructions::{jump_back, jump_forth, put, register};
 use task_code_scalar::{CodeFault, append};
-use task_code_statements::tasks::emit_restored;
 
 /// Appends that 1 is added to the word at the address in x13 or x14, of which `rd` gets what stood there.
 fn count_up(code: &mut Vec<u32>, rd: u8, address: u8) -> Result<(), AllocError>

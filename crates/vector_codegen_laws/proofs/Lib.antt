@@ -14,3 +14,4 @@ pub mod Chain
 pub mod Between
 pub mod Sharing
 pub mod Whole
+pub use Rattle.vector_codegen.proofs.ProgramStanding

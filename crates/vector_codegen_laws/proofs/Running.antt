@@ -38,7 +38,7 @@ use Rattle.lowering.proofs.RunLists.{runs_are_listed}
 use Rattle.task_code_scalar.specs.Doing.{Setting, IsSetting, SoundIn, RunsIn, HoldsFuncs}
 use Rattle.task_code_scalar.specs.Layout.{AreWords, func_point}
 use Rattle.task_code_vector_loops.specs.AtOnce.{AtOnceIn}
-use Rattle.task_code_statements.specs.Tasks.{EachTaskEnds, HasDrawn, TaskEnds}
+use Rattle.vector_codegen.specs.Programs.{EachTaskEnds, HasDrawn, TaskEnds}
 use Rattle.vector_codegen_laws.specs.Held.{funcs_in, HasInputs, setting, IsTask}
 use Rattle.vector_codegen_laws.specs.Points.{RootPoint}
 use Rattle.vector_codegen_laws.specs.RunBytes.{RunsAreNamed}

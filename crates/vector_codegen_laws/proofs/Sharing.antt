@@ -39,11 +39,12 @@ use Rattle.work_sharing.specs.Programs.{IsControlByte, FoundBy}
 use Rattle.work_sharing.specs.Turns.{ticket_word}
 use Rattle.work_sharing.proofs.Bridges.{stands-there}
 use Rattle.task_code_scalar.specs.declared.layouts.Places.{Places}
-use Rattle.task_code_statements.specs.Tasks.{EachTaskEnds, HasDrawn, TaskEnds}
+use Rattle.vector_codegen.specs.Programs.{EachTaskEnds, HasDrawn, TaskEnds}
 use Rattle.vector_codegen.specs.PhaseCode.{Part as CodePart, program}
 use Rattle.vector_codegen.specs.Sharing.{Matter, no_part, part_at, phase, Runs, IsShared}
 use Rattle.vector_codegen.specs.Programs.{ArePartsOf, HasFewTasks}
 use Rattle.vector_codegen.proofs.ProgramStanding.{parts-length}
+pub use Rattle.vector_codegen.proofs.Sharing.{programs-share}
 use Rattle.vector_codegen_laws.specs.Uses.{use_of, width_in, width_of, byte_of, byte_in}
 use Rattle.vector_codegen_laws.specs.Held.{funcs_in}
 use Rattle.vector_codegen_laws.specs.Points.{RootFunc, RootPoint, part, address_at}

@@ -7,3 +7,6 @@ pub mod Held
 pub mod Runs
 pub mod Sharing
 pub mod Whole
+-- of the generator, passed on
+pub use Rattle.vector_codegen.specs.PhaseCode
+pub use Rattle.vector_codegen.specs.Programs

@@ -23,7 +23,7 @@ use Rattle.bounds.specs.Stages.{IsAtRoot, StagePlace, stages, iterations, writes
 use Rattle.multi_hart_laws.specs.Uses.{Fixed, Owned}
 use Rattle.multi_hart_laws.specs.Paths.{Stand}
 use Rattle.vector_codegen.specs.PhaseCode.{Part, program}
-use Rattle.vector_codegen.specs.Sharing.{Matter, IsShared, part_at}
+pub use Rattle.vector_codegen.specs.Sharing.{Matter, IsShared, part_at, phase}
 use Rattle.vector_codegen.specs.Programs.{ArePartsOf, HasFewTasks}
 use Rattle.vector_codegen_laws.specs.Points.{RootFunc, RootPoint, part, address_at}
 use Rattle.vector_codegen_laws.specs.Settings.{places, size}

@@ -9,6 +9,7 @@
 //! - [`sharing_laws`]: phases whose code stands in the text share their work, and leave the pixels of Funcs at root.
 //! - [`stage_laws`]: which stages phases compute, and that those of pure definitions write all points
 //!   (`specs/Whole.antt`).
+//! The generator itself (`generate`) is passed on, since whoever has a program made wants what is promised of it.
 #![tactic(auto)]
 
 mod memory_laws;
@@ -20,3 +21,4 @@ pub use crate::memory_laws::{
 };
 pub use crate::sharing_laws::phases_are_shared;
 pub use crate::stage_laws::stages_are_whole;
+pub use vector_codegen::{CodeStage, Program, generate};

@@ -6,8 +6,8 @@ use Rattle.bounds.specs.declared.verdict.Boxes.{Boxes}
 use Rattle.loop_ir.specs.declared.statements.Phase.{Phase}
 use Rattle.lowering.specs.Lowered.{AreLowered}
 use Rattle.vector_codegen_laws.specs.Places.{places_of}
-use Rattle.vector_codegen.specs.PhaseCode.{ends_from}
-use Rattle.vector_codegen.specs.Programs.{IsProgram}
+use Rattle.vector_codegen_laws.specs.PhaseCode.{ends_from}
+use Rattle.vector_codegen_laws.specs.Programs.{IsProgram}
 use Rattle.hrv_compiler.specs.Compiled.{CompiledContents}
 use Rattle.hrv_compiler.specs.Verdict.{IsCompiled}
 

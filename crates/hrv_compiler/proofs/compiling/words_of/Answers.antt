@@ -11,7 +11,7 @@ use Rattle.loop_ir.specs.declared.statements.Phase.{Phase}
 use Rattle.task_code_scalar.specs.declared.layouts.Places.{Places}
 use Rattle.task_code_scalar.specs.Faults.{LieLow}
 use Rattle.memory.specs.Access.{most_words}
-use Rattle.vector_codegen.specs.Programs.{HasFewTasks, HasRegisters, IsProgramTo, words_asked}
+use Rattle.vector_codegen_laws.specs.Programs.{HasFewTasks, HasRegisters, IsProgramTo, words_asked}
 use Rattle.hrv_compiler.proofs.Rooms.{ask_for_few, lie_low, have_few_tasks, have_registers}
 use Rattle.hrv_compiler.proofs.compiling.words_of.Goals as goal
 

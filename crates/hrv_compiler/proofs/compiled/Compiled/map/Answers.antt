@@ -1,7 +1,7 @@
 use Rattle.std.proofs.Common.{◌≡◌, ◌∙◌, ℕ, List, ap, arith, subst}
 use Rattle.bounds.specs.Plans.{PlanContents}
 use Rattle.hrv_map.specs.Maps.{map_text}
-use Rattle.task_code_statements.specs.declared.stages.CodeStage.{CodeStage}
+use Rattle.vector_codegen_laws.specs.Programs.{CodeStage}
 use Rattle.hrv_compiler.specs.Compiled.{CompiledContents}
 use Rattle.hrv_compiler.specs.inner.Held.{IsHeld}
 use Rattle.hrv_compiler.proofs.Low.{few_phases}
