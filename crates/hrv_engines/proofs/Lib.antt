@@ -1,5 +1,6 @@
 mod Telling
 pub mod AlgorithmFronts
+pub mod BlamedPixels
 pub mod Compilations
 pub mod DigestLines
 pub mod DigestedFiles
@@ -23,5 +24,6 @@ pub mod Steps
 pub mod StopsFound
 pub mod TalkSteps
 pub mod TextFronts
+pub mod TraceSteps
 pub mod Verdicts
 pub mod WholeTexts

@@ -1,5 +1,6 @@
 pub mod Asm
 pub mod Blame
+pub mod BlamedPixels
 pub mod BlameQuestions
 pub mod Commands
 pub mod Compile
@@ -25,5 +26,6 @@ pub mod Replay
 pub mod Run
 pub mod Talk
 pub mod TalkSoFar
+pub mod Trace
 pub mod Verify
 pub mod inner

@@ -6,7 +6,7 @@ use Rattle.hrv_compiler.specs.declared.faults.CompileFault.{CompileFault}
 use Rattle.hrv_compiler.specs.Compiled.{CompiledContents}
 use Rattle.hrv_compiler.specs.Verdict.{IsCompiled, Means, refusal_of}
 use Rattle.hrv_compiler.specs.Map.{AreAllRight, ArePhases}
-use Rattle.hrv_map.specs.Maps.{map_text}
+use Rattle.hrv_compiler.specs.Map.{map_text}
 use Rattle.hrv_engines.specs.declared.faults.Refusal.{Refusal}
 use Rattle.hrv_engines.specs.declared.faults.Refusal.TheVariants.{Compile}
 

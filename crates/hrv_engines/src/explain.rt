@@ -11,13 +11,13 @@ use hrv_refusals::push_explanation;
 use std::alloc::Global;
 
 /// The version of the program.
-pub const RELEASE: [u8; 3] = *b"2.0";
+pub const RELEASE: [u8; 3] = *b"2.1";
 
 /// The logic of the kit that proves it.
 pub const LOGIC: [u8; 16] = *b"dac8208d650f15bf";
 
 /// What the program says of both; the law `version_tells_release_and_logic` says that it is of these.
-pub const VERSION: [u8; 31] = *b"hrv 2.0\nlogic dac8208d650f15bf\n";
+pub const VERSION: [u8; 31] = *b"hrv 2.1\nlogic dac8208d650f15bf\n";
 
 /// Writes what the refusal of a family and a code means. The code is empty in a family that has none; without both it
 /// writes all families.

@@ -1,18 +1,20 @@
 //! Laws of what engines read, each the contract of a function that does nothing.
 
-ghost use Rattle.std.specs.Prelude.{◌≡◌, ◌≢◌, ◌<◌, ◌≤◌, ◌++◌, ◌∷◌, [], ℕ, List, codes, length, Ok, Err};
+ghost use Rattle.std.specs.Prelude.{◌≡◌, ◌≢◌, ◌<◌, ◌≤◌, ◌++◌, ◌∷◌, [], ℕ, List, codes, length, Ok, Err, Some};
 ghost use Rattle.std.specs.declared.alloc.Global.{Global};
 ghost use Rattle.line_text.specs.Lines.{IsLine};
 ghost use Rattle.turn_log.specs.LogSpelling.{log_of};
 ghost use Rattle.turn_log.specs.declared.log_faults.LogFault.{LogFault};
 ghost use Rattle.turn_log.specs.declared.log_faults.LogFault.TheVariants.{Truncated};
-ghost use Rattle.loader.specs.Image.{ImageContents};
+ghost use Rattle.loader.specs.Image.{ImageContents, IsImage};
 ghost use Rattle.loader.specs.Spelling.{image_of};
+ghost use Rattle.loader.specs.declared.outputs.Output.{Output};
 ghost use Rattle.halide_parser_syntax.specs.declared.faults.ParseFault.{ParseFault};
 ghost use Rattle.halide_parser.specs.Parsing.{parsed};
 ghost use Rattle.halide_pipeline.specs.Contents.{PictureContents};
 ghost use Rattle.picture.specs.Reading.{picture_of};
 ghost use Rattle.turn_log.specs.TurnLog.{LogState};
+ghost use Rattle.hrv_engines.specs.BlamedPixels.{TellsPixel};
 ghost use Rattle.hrv_engines.specs.Compile.{IsCompilation, Texts};
 ghost use Rattle.hrv_engines.specs.Dump.{hart_texts};
 ghost use Rattle.hrv_engines.specs.PrintedPictures.{EndsFinished, EndsWithDrawing};
@@ -69,6 +71,14 @@ pub fn printed_pictures_are_drawn()
         → EndsFinished image_bytes log_bytes image log → IsRunFrom image image_bytes old limit log_bytes text
         → EndsWithDrawing alloc (texts.0.0, texts.1)
         (hart_texts (replayed image log) log.turns (length (replayed image log).harts)) text }
+{}
+
+/// What `blame` tells of a pixel is what `replay` prints there: `after` of the pixel's last write is the value that the
+/// dump's picture shows, and a pixel that was never written shows what its image was loaded with. So where all harts of
+/// a compiled image have finished it is the value which `picture` shows, by the law above.
+pub fn blamed_values_are_printed()
+    ensures { (image : ImageContents) (log : LogState) (output : Output) (x y : ℕ) → IsImage image
+        → image.output ≡ Some output → x < output.width → y < output.height → TellsPixel image log output x y }
 {}
 
 /// What the program says of its version and logic is of both.

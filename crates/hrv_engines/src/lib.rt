@@ -9,6 +9,7 @@
 //!   `specs/Profile.antt`.
 //! - [`races`]: an image, a log of turns and words of data become the text of where two harts race first outside the
 //!   words; [`races_bytes`], over `specs/Races.antt`.
+//! - [`trace`]: an image and a log of turns become lines of what each turn did; [`trace_bytes`], over `specs/Trace.antt`.
 //! - [`run`]: an image becomes a log of turns that threads made, and a dump; [`run_bytes`], and [`resume_bytes`] where
 //!   a log goes on, over `specs/Run.antt`; both by [`Resources`].
 //! - [`drawn`]: the same by one thread and a seed; [`run_drawn_bytes`], over `specs/Drawn.antt`, by [`DrawRules`].
@@ -68,6 +69,7 @@ mod replay;
 mod run;
 mod talks;
 mod texts;
+mod trace;
 mod verify;
 
 pub use crate::asm::asm_bytes;
@@ -90,5 +92,6 @@ pub use crate::recorded::{resume_recorded_bytes, run_drawn_recorded_bytes, run_r
 pub use crate::renew::renew_bytes;
 pub use crate::replay::replay_bytes;
 pub use crate::run::{Resources, resume_bytes, run_bytes};
+pub use crate::trace::{TraceQuestion, trace_bytes};
 pub use crate::verify::{Verdict, verify_bytes};
 pub use drawn_runs::DrawRules;
