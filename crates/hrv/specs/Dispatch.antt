@@ -21,13 +21,14 @@ use Rattle.hrv_engines.specs.Recorded as recorded
 use Rattle.hrv_engines.specs.Renew.{IsRenewal}
 use Rattle.hrv_engines.specs.Replay.{IsRefusedReplay, IsReplay}
 use Rattle.hrv_engines.specs.Run as run
+use Rattle.hrv_engines.specs.Trace as trace
 use Rattle.hrv_engines.specs.Drawn.{IsDrawnRun}
 use Rattle.hrv_engines.specs.Verify.{Files, IsRefusedVerdict, IsVerdict}
 use Rattle.hrv_engines.specs.declared.verify.Verdict.{Verdict}
 use Rattle.hrv_engines.specs.declared.explain.TheConstants.{VERSION}
 use Rattle.hrv_refusals.specs.Explanations.{explanation}
 use Rattle.hrv_command_line.specs.CommandLine.{Asked, Replays, Debugs, Blames, Assembles, Lists, ListsAddresses, Renews, Draws, Compiles, Maps, Runs, Resumes}
-use Rattle.hrv_command_line.specs.CommandLine.{Digests, Explains, FindsRaces, MakesLog, PrintsLog, Profiles, RunsDrawn, TellsVersion, Verifies}
+use Rattle.hrv_command_line.specs.CommandLine.{Digests, Explains, FindsRaces, MakesLog, PrintsLog, Profiles, RunsDrawn, TellsVersion, Traces, Verifies}
 
 -- a fact of some device at this place, by its state before and after
 abbrev pub At : {S : Type 0} → (S → List ℕ) → List ℕ → (S → S → Type 0) → Type 0
@@ -88,6 +89,11 @@ module _ {R W T P : Type 0}
   Does alloc (Profiles image log) result =
       At read_at image (λ s t. At read_at log (λ u v. At printed_at dash (λ o p.
       Performs IsProfiled IsRefusedProfile
+      (both (image_bytes_of read_at read_failed gave ended s t) (log_bytes_of read_at read_failed gave ended u v))
+      (sink_of printed_at print_failed printed o p) result)))
+  Does alloc (Traces image log from to hart address) result =
+      At read_at image (λ s t. At read_at log (λ u v. At printed_at dash (λ o p.
+      trace.Traces (record { from = from; to = to; hart = hart; address = address })
       (both (image_bytes_of read_at read_failed gave ended s t) (log_bytes_of read_at read_failed gave ended u v))
       (sink_of printed_at print_failed printed o p) result)))
   Does alloc (FindsRaces image log but) result =

@@ -9,7 +9,7 @@ ghost use Rattle.hrv_command_line.specs.CommandLine.{PrintsLog, Renews, Replays,
 ghost use Rattle.hrv_command_line.specs.CommandLine.{asked_by};
 ghost use Rattle.hrv.specs.Dispatch.{Does, Judges};
 
-use crate::log_questions::{blame, profile, races};
+use crate::log_questions::{blame, profile, races, trace};
 use crate::running::{resume, run, run_drawn};
 use hrv_command_line::Invocation;
 use hrv_engines::{
@@ -85,6 +85,7 @@ pub fn obey<'a, R: Threads + Wait + Sync, D: Devices<'a>>(
         Invocation::Debug { image, log } => debug(alloc, devices, image, log),
         Invocation::Blame { image, log, words } => blame(alloc, devices, image, log, words),
         Invocation::Profile { image, log } => profile(alloc, devices, image, log),
+        Invocation::Trace { image, log, words } => trace(alloc, devices, image, log, words),
         Invocation::Races { image, log, but } => races(alloc, devices, image, log, but),
         Invocation::PrintLog { log } => print_log(alloc, devices, log),
         Invocation::MakeLog { text, log } => make_log(alloc, devices, text, log),

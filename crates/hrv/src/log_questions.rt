@@ -1,13 +1,15 @@
-//! What logs are asked: who wrote a word, where turns go, and where harts race.
+//! What logs are asked: who wrote a word, where turns go, what each did, and where harts race.
 
 ghost use Rattle.std.specs.Prelude.{option_map};
 ghost use Rattle.clap.specs.Walk.{texts};
-ghost use Rattle.hrv_command_line.specs.CommandLine.{Blames, FindsRaces, Profiles};
+ghost use Rattle.hrv_command_line.specs.CommandLine.{Blames, FindsRaces, Profiles, Traces};
 ghost use Rattle.hrv.specs.Dispatch.{Does};
 
 use crate::dispatch::Devices;
-use hrv_command_line::BlameArguments;
-use hrv_engines::{Fault, Question, blame_bytes, profile_bytes, races_bytes};
+use hrv_command_line::{BlameArguments, TraceArguments};
+use hrv_engines::{
+    Fault, Question, TraceQuestion, blame_bytes, profile_bytes, races_bytes, trace_bytes,
+};
 use std::alloc::Global;
 
 /// `blame IMAGE LOG [X Y] --address A --turns`
@@ -60,6 +62,39 @@ pub fn profile<'a, D: Devices<'a>>(
     let mut image = devices.read(image);
     let mut log = devices.read(log);
     profile_bytes(alloc, &mut image, &mut log, &mut devices.printed())
+}
+
+/// `trace IMAGE LOG --from K --to K --hart H --address A`
+#[inline(never)]
+pub fn trace<'a, D: Devices<'a>>(
+    alloc: Global,
+    devices: &D,
+    image: &'a str,
+    log: &'a str,
+    words: TraceArguments<'a>,
+) -> Result<(), Fault>
+    ensures { Does D.Read.place D.Read.failed D.Read.gave D.Read.ended
+        D.Written.place D.Written.failed D.Written.took
+        D.Typed.place D.Typed.failed D.Typed.gave D.Typed.ended
+        D.Printed.place D.Printed.failed D.Printed.took alloc
+        (Traces image.entry.now log.entry.now words.entry.from words.entry.to words.entry.hart
+        (option_map (λ s. s.now) words.entry.address)) result }
+{
+    let question = TraceQuestion {
+        from: words.from,
+        to: words.to,
+        hart: words.hart,
+        address: words.address,
+    };
+    let mut image = devices.read(image);
+    let mut log = devices.read(log);
+    trace_bytes(
+        alloc,
+        &mut image,
+        &mut log,
+        question,
+        &mut devices.printed(),
+    )
 }
 
 /// `races IMAGE LOG [BUT..]`

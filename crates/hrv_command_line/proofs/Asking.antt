@@ -12,8 +12,8 @@ use Rattle.clap.specs.declared.builder.value_parser.ValueParser.TheVariants.{Uns
 use Rattle.hrv_command_line.specs.CommandLine.{Asked, Assembles, Compiles, Debugs, Digests, Draws, Explains, FindsRaces, Given, IsSpelled, IsWithinLimits, MakesLog}
 use Rattle.hrv_command_line.specs.CommandLine.{Maps, PrintsLog, Profiles, Renews, Replays, TellsVersion, asked_of, blame_of, command_named, compile_of, digest_of, dis_of, explain_of, files_of, races_of}
 use Rattle.hrv_command_line.specs.CommandLine.{if_known, is_version_flag, listing_of, log_of, named, named_in, nothing_given, number_or, picture_of, read, refusal_in}
-use Rattle.hrv_command_line.specs.CommandLine.{RunsDrawn, Verifies, run_by, run_from, run_of, seed_in, text_of, unmarked, verify_of, version_of}
-use Rattle.hrv_command_line.specs.Commands.{Shape, commands, most_every, most_harts, most_turns}
+use Rattle.hrv_command_line.specs.CommandLine.{RunsDrawn, Traces, Verifies, hart_of, number_in, run_by, run_from, run_of, text_of, trace_of, turn_or, unmarked, verify_of, version_of}
+use Rattle.hrv_command_line.specs.Commands.{Shape, commands, most_every, most_harts, most_number, most_turns}
 use Rattle.hrv_command_line.specs.declared.table.OptionKind.TheVariants.{Flag}
 use Rattle.hrv_command_line.specs.declared.table.ValueCount.TheVariants.{Always}
 use Rattle.hrv_command_line.proofs.Spelling.{no_options, option_left, some_none, tell}
@@ -93,6 +93,22 @@ blamed rest choices (i ∷ l ∷ x ∷ []) asked e = one_is (Holds (codes "blame
 blamed rest choices (i ∷ l ∷ x ∷ y ∷ []) asked e = one_is (Holds (codes "blame" ∷ rest)) e ((rest, refl), tt)
 blamed rest choices (i ∷ l ∷ x ∷ y ∷ z ∷ more) asked e = some_none e
 
+traced : (rest : List Text) (choices : List (Text × Text)) (values : List Text) (asked : Asked) → trace_of choices values ≡ Some asked
+    → Holds (codes "trace" ∷ rest) asked
+traced rest choices [] asked e = some_none e
+traced rest choices (i ∷ []) asked e = some_none e
+traced rest choices (i ∷ l ∷ m ∷ more) asked e = some_none e
+traced rest choices (i ∷ l ∷ []) asked e =
+    go (turn_or 0 (text_of (codes "from") choices)) (turn_or most_number (text_of (codes "to") choices)) (hart_of (text_of (codes "hart") choices)) e
+  where
+    go : (from to : Option ℕ) (hart : Option (Option ℕ))
+        → option_and_then (λ f. option_and_then (λ t. option_map (λ h. Traces i l f t h (text_of (codes "address") choices)) hart) to) from ≡ Some asked
+        → Holds (codes "trace" ∷ rest) asked
+    go None to hart e = some_none e
+    go (Some f) None hart e = some_none e
+    go (Some f) (Some t) None e = some_none e
+    go (Some f) (Some t) (Some h) e = one_is (Holds (codes "trace" ∷ rest)) e ((rest, refl), tt)
+
 listed : (rest : List Text) (choices : List (Text × Text)) (values : List Text) (asked : Asked)
     → (is_some (text_of (codes "addresses") choices) ≡ false → values ≡ unmarked rest) → dis_of choices values ≡ Some asked → Holds (codes "dis" ∷ rest) asked
 listed rest choices [] asked spelled e = some_none e
@@ -136,7 +152,7 @@ ran rest choices (i ∷ l ∷ []) asked e =
         → Holds (codes "run" ∷ rest) asked
     by_seed None h t hs ts e = threaded h t (is_some (text_of (codes "every") choices)) hs ts e
     by_seed (Some seed) h t hs ts e =
-        drawn_so h t (is_some (text_of (codes "from") choices)) (seed_in seed) (number_or 1 most_every (text_of (codes "every") choices)) hs ts refl e
+        drawn_so h t (is_some (text_of (codes "from") choices)) (number_in seed) (number_or 1 most_every (text_of (codes "every") choices)) hs ts refl e
 
     by_harts : (hs ts : Option ℕ) → number_or 1 most_harts (text_of (codes "harts") choices) ≡ hs
         → number_or most_turns most_turns (text_of (codes "turns") choices) ≡ ts
@@ -258,6 +274,10 @@ at_blame : (rest : List Text) (asked : Asked) → Asks (codes "blame") rest aske
 at_blame rest asked a =
     blamed rest a.given.choices a.given.values asked a.asks
 
+at_trace : (rest : List Text) (asked : Asked) → Asks (codes "trace") rest asked → Holds (codes "trace" ∷ rest) asked
+at_trace rest asked a =
+    traced rest a.given.choices a.given.values asked a.asks
+
 at_dis : (rest : List Text) (asked : Asked) → Asks (codes "dis") rest asked → Holds (codes "dis" ∷ rest) asked
 at_dis rest asked a =
     listed rest a.given.choices a.given.values asked
@@ -287,6 +307,7 @@ by_name name rest asked a =
     tell (bytes_eq name (codes "debug")) (λ same. at (codes "debug") name rest asked same (at_debug rest asked) a) (λ no_debug.
     tell (bytes_eq name (codes "blame")) (λ same. at (codes "blame") name rest asked same (at_blame rest asked) a) (λ no_blame.
     tell (bytes_eq name (codes "profile")) (λ same. at (codes "profile") name rest asked same (at_profile rest asked) a) (λ no_profile.
+    tell (bytes_eq name (codes "trace")) (λ same. at (codes "trace") name rest asked same (at_trace rest asked) a) (λ no_trace.
     tell (bytes_eq name (codes "races")) (λ same. at (codes "races") name rest asked same (at_races rest asked) a) (λ no_races.
     tell (bytes_eq name (codes "log")) (λ same. at (codes "log") name rest asked same (at_log rest asked) a) (λ no_log.
     tell (bytes_eq name (codes "digest")) (λ same. at (codes "digest") name rest asked same (at_digest rest asked) a) (λ no_digest.
@@ -305,6 +326,7 @@ by_name name rest asked a =
       no_debug,
       no_blame,
       no_profile,
+      no_trace,
       no_races,
       no_log,
       no_digest,
@@ -314,7 +336,7 @@ by_name name rest asked a =
       no_renew,
       no_explain,
       no_version,
-    ) at a.asks))))))))))))))))))
+    ) at a.asks)))))))))))))))))))
 
 -- words that name something begin with a command's name
 in_command : (words : List Text) (asked : Asked) → named_in words ≡ Some asked → Holds words asked

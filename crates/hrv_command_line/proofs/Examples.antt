@@ -13,10 +13,10 @@ use Rattle.clap.specs.ValueTests.{accepts}
 use Rattle.clap.specs.Words.{Text}
 use Rattle.clap.specs.declared.builder.value_parser.ValueParser.TheVariants.{Unsigned}
 use Rattle.hrv_command_line.specs.CommandLine.{Asked, Assembles, Blames, Compiles, Debugs, Digests, Draws, Explains, FindsRaces, Given, IsPlainWord, Lists, ListsAddresses, MakesLog, Maps}
-use Rattle.hrv_command_line.specs.CommandLine.{PrintsLog, Profiles, Renews, Replays, Resumes, Runs, RunsDrawn, TellsVersion, Verifies, asked_of, choose, further, if_known, named, nothing_given, number_or, printed_in, read, seed_in, text_of, with_choice, with_values}
-use Rattle.hrv_command_line.specs.Commands.{most_every, most_harts, most_seed, most_turns}
+use Rattle.hrv_command_line.specs.CommandLine.{PrintsLog, Profiles, Renews, Replays, Resumes, Runs, RunsDrawn, TellsVersion, Traces, Verifies, asked_of, choose, further, hart_in, if_known, named, nothing_given, number_or, printed_in, read, number_in, text_of, with_choice, with_values}
+use Rattle.hrv_command_line.specs.Commands.{most_every, most_hart, most_harts, most_number, most_turns}
 use Rattle.hrv_command_line.specs.declared.table.OptionKind.{OptionKind}
-use Rattle.hrv_command_line.specs.declared.table.OptionKind.TheVariants.{Every, Flag, Harts, Seed, Turns, Word}
+use Rattle.hrv_command_line.specs.declared.table.OptionKind.TheVariants.{Every, Flag, Hart, Harts, Seed, Turn, Turns, Word}
 use Rattle.hrv_command_line.proofs.Spelling.{chooses, gives, some_none}
 
 abbrev Choices : Type 0
@@ -306,35 +306,84 @@ options_run image log harts turns h t i l hs ts =
     ∙ text_on running (codes "turns") turns [] (with_choice given (codes "harts") harts) (number_plain 1 most_turns t turns ts))
     ∙ ap₂ (λ a b. option_and_then (λ x. option_and_then (λ y. Some (Runs image log None x y)) b) a) hs ts
 
--- a seed's text is a plain word
-seed_plain : (s : ℕ) (text : Text) → seed_in text ≡ Some s → IsPlainWord text
-seed_plain s [] e = tt
-seed_plain s (byte ∷ []) e = tt
-seed_plain s (byte ∷ next ∷ rest) e = λ hyphen. accepted hyphen (accepts false (Unsigned 0 most_seed) (byte ∷ next ∷ rest)) refl e
+-- so is that of a seed or of a turn's number
+plain_number : (s : ℕ) (text : Text) → number_in text ≡ Some s → IsPlainWord text
+plain_number s [] e = tt
+plain_number s (byte ∷ []) e = tt
+plain_number s (byte ∷ next ∷ rest) e = λ hyphen. accepted hyphen (accepts false (Unsigned 0 most_number) (byte ∷ next ∷ rest)) refl e
   where
-    accepted : byte ≡ 45 → (b : Bool) → accepts false (Unsigned 0 most_seed) (byte ∷ next ∷ rest) ≡ b → (if b then Some (digits_value 10 (without_leading_plus (byte ∷ next ∷ rest))) else None) ≡ Some s → ⊥
+    accepted : byte ≡ 45 → (b : Bool) → accepts false (Unsigned 0 most_number) (byte ∷ next ∷ rest) ≡ b → (if b then Some (digits_value 10 (without_leading_plus (byte ∷ next ∷ rest))) else None) ≡ Some s → ⊥
     accepted hyphen false is e = some_none e
     accepted hyphen true is e =
-        let fits = accepts-Accepts false (Unsigned 0 most_seed) (45 ∷ next ∷ rest) (subst (λ b. accepts false (Unsigned 0 most_seed) (b ∷ next ∷ rest) ≡ true) hyphen is) in
+        let fits = accepts-Accepts false (Unsigned 0 most_number) (45 ∷ next ∷ rest) (subst (λ b. accepts false (Unsigned 0 most_number) (b ∷ next ∷ rest) ≡ true) hyphen is) in
         let digit : digit_value 45 < 10 = fits.0.1.0 in
         absurd (omega arith)
 
-pub drawn_plain : (image log seed : Text) (s : ℕ) → IsPlainWord image → IsPlainWord log → seed_in seed ≡ Some s
+pub drawn_plain : (image log seed : Text) (s : ℕ) → IsPlainWord image → IsPlainWord log → number_in seed ≡ Some s
     → named (codes "run" ∷ image ∷ log ∷ codes "--seed" ∷ seed ∷ []) ≡ Some (RunsDrawn image log None 1 most_turns s 1)
 unfolding read
 drawn_plain image log seed s i l is =
     let given = with_values nothing_given (image ∷ log ∷ []) in
     ap (asks (codes "run")) (files_on running image log (codes "--seed" ∷ seed ∷ []) i l
-    ∙ text_on running (codes "seed") seed [] given (seed_plain s seed is))
+    ∙ text_on running (codes "seed") seed [] given (plain_number s seed is))
     ∙ ap (λ o. option_and_then (λ x. Some (RunsDrawn image log None 1 most_turns x 1)) o) is
 
-pub drawn_every : (image log seed every : Text) (s k : ℕ) → IsPlainWord image → IsPlainWord log → seed_in seed ≡ Some s
+pub drawn_every : (image log seed every : Text) (s k : ℕ) → IsPlainWord image → IsPlainWord log → number_in seed ≡ Some s
     → number_or 1 most_every (Some every) ≡ Some k
     → named (codes "run" ∷ image ∷ log ∷ codes "--seed" ∷ seed ∷ codes "--every" ∷ every ∷ []) ≡ Some (RunsDrawn image log None 1 most_turns s k)
 unfolding read
 drawn_every image log seed every s k i l is ks =
     let given = with_values nothing_given (image ∷ log ∷ []) in
     ap (asks (codes "run")) (files_on running image log (codes "--seed" ∷ seed ∷ codes "--every" ∷ every ∷ []) i l
-    ∙ text_on running (codes "seed") seed (codes "--every" ∷ every ∷ []) given (seed_plain s seed is)
+    ∙ text_on running (codes "seed") seed (codes "--every" ∷ every ∷ []) given (plain_number s seed is)
     ∙ text_on running (codes "every") every [] (with_choice given (codes "seed") seed) (number_plain 1 most_every k every ks))
     ∙ ap₂ (λ a b. option_and_then (λ x. option_map (RunsDrawn image log None 1 most_turns x) b) a) is ks
+
+-- ---- traces
+
+abbrev tracing : Choices
+tracing = (codes "from", Turn) ∷ (codes "to", Turn) ∷ (codes "hart", Hart) ∷ (codes "address", Word) ∷ []
+
+pub plain_trace : (image log : Text) → IsPlainWord image → IsPlainWord log
+    → named (codes "trace" ∷ image ∷ log ∷ []) ≡ Some (Traces image log 0 most_number None None)
+plain_trace image log i l = ap (asks (codes "trace")) (all_on tracing (image ∷ log ∷ []) nothing_given (i, (l, tt)))
+
+pub turns_trace : (image log first last : Text) (f t : ℕ) → IsPlainWord image → IsPlainWord log → number_in first ≡ Some f → number_in last ≡ Some t
+    → named (codes "trace" ∷ image ∷ log ∷ codes "--from" ∷ first ∷ codes "--to" ∷ last ∷ []) ≡ Some (Traces image log f t None None)
+unfolding read
+turns_trace image log first last f t i l fs ts =
+    let given = with_values nothing_given (image ∷ log ∷ []) in
+    ap (asks (codes "trace")) (files_on tracing image log (codes "--from" ∷ first ∷ codes "--to" ∷ last ∷ []) i l
+    ∙ text_on tracing (codes "from") first (codes "--to" ∷ last ∷ []) given (plain_number f first fs)
+    ∙ text_on tracing (codes "to") last [] (with_choice given (codes "from") first) (plain_number t last ts))
+    ∙ ap₂ (λ a b. option_and_then (λ x. option_and_then (λ y. Some (Traces image log x y None None)) b) a) fs ts
+
+-- a hart's text is a plain word
+hart_plain : (h : ℕ) (text : Text) → hart_in text ≡ Some h → IsPlainWord text
+hart_plain h [] e = tt
+hart_plain h (byte ∷ []) e = tt
+hart_plain h (byte ∷ next ∷ rest) e = λ hyphen. accepted hyphen (accepts false (Unsigned 0 most_hart) (byte ∷ next ∷ rest)) refl e
+  where
+    accepted : byte ≡ 45 → (b : Bool) → accepts false (Unsigned 0 most_hart) (byte ∷ next ∷ rest) ≡ b
+        → (if b then Some (digits_value 10 (without_leading_plus (byte ∷ next ∷ rest))) else None) ≡ Some h → ⊥
+    accepted hyphen false is e = some_none e
+    accepted hyphen true is e =
+        let fits = accepts-Accepts false (Unsigned 0 most_hart) (45 ∷ next ∷ rest) (subst (λ b. accepts false (Unsigned 0 most_hart) (b ∷ next ∷ rest) ≡ true) hyphen is) in
+        let digit : digit_value 45 < 10 = fits.0.1.0 in
+        absurd (omega arith)
+
+pub hart_trace : (image log hart : Text) (h : ℕ) → IsPlainWord image → IsPlainWord log → hart_in hart ≡ Some h
+    → named (codes "trace" ∷ image ∷ log ∷ codes "--hart" ∷ hart ∷ []) ≡ Some (Traces image log 0 most_number (Some h) None)
+unfolding read
+hart_trace image log hart h i l hs =
+    let given = with_values nothing_given (image ∷ log ∷ []) in
+    ap (asks (codes "trace")) (files_on tracing image log (codes "--hart" ∷ hart ∷ []) i l
+    ∙ text_on tracing (codes "hart") hart [] given (hart_plain h hart hs))
+    ∙ ap (λ o. option_map (λ x. Traces image log 0 most_number x None) (option_map Some o)) hs
+
+pub address_trace : (image log address : Text) → IsPlainWord image → IsPlainWord log → IsPlainWord address
+    → named (codes "trace" ∷ image ∷ log ∷ codes "--address" ∷ address ∷ []) ≡ Some (Traces image log 0 most_number None (Some address))
+unfolding read
+address_trace image log address i l plain =
+    ap (asks (codes "trace")) (files_on tracing image log (codes "--address" ∷ address ∷ []) i l
+    ∙ text_on tracing (codes "address") address [] (with_values nothing_given (image ∷ log ∷ [])) plain)

@@ -5,8 +5,8 @@ use Rattle.clap.proofs.ValueTestLemmas.{Accepts-accepts, accepts-Accepts}
 use Rattle.clap.specs.ValueTests.{accepts}
 use Rattle.clap.specs.Words.{Text}
 use Rattle.clap.specs.declared.builder.value_parser.ValueParser.TheVariants.{Unsigned}
-use Rattle.hrv_command_line.specs.CommandLine.{number_or, seed_in}
-use Rattle.hrv_command_line.specs.Commands.{most_seed}
+use Rattle.hrv_command_line.specs.CommandLine.{hart_in, number_or, number_in}
+use Rattle.hrv_command_line.specs.Commands.{most_hart, most_number}
 
 abbrev IsRead : Text → Type 0
 IsRead text = IsNumeral 10 (without_leading_plus text) × (digits_value 10 (without_leading_plus text) < 2 ^ 64)
@@ -28,18 +28,46 @@ untaken none most text refused = go (accepts false (Unsigned 1 most) text) refl
     go false is = rw (is) refl
     go true is = let fits = accepts-Accepts false (Unsigned 1 most) text is in absurd (refused (fits.0, fits.1))
 
--- a seed that is one is taken
-pub seed_taken : (seed : ℕ) (text : Text) → IsRead text → seed ≡ digits_value 10 (without_leading_plus text) → Some seed ≡ seed_in text
-seed_taken seed text read is =
+-- a number that is one is taken
+pub number_taken : (number : ℕ) (text : Text) → IsRead text → number ≡ digits_value 10 (without_leading_plus text)
+    → Some number ≡ number_in text
+number_taken number text read is =
     let fits = read.1 in
-    let accepted : accepts false (Unsigned 0 most_seed) text ≡ true =
-    Accepts-accepts false (Unsigned 0 most_seed) text (read.0, read.1, omega arith, omega (arith, fits)) in
+    let accepted : accepts false (Unsigned 0 most_number) text ≡ true =
+    Accepts-accepts false (Unsigned 0 most_number) text (read.0, read.1, omega arith, omega (arith, fits)) in
     rw (accepted) (ap (λ n. Some n) is)
 
 -- what is no number isn't
-pub seed_untaken : (text : Text) → (IsRead text → ⊥) → None ≡ seed_in text
-seed_untaken text refused = go (accepts false (Unsigned 0 most_seed) text) refl
+pub number_untaken : (text : Text) → (IsRead text → ⊥) → None ≡ number_in text
+number_untaken text refused = go (accepts false (Unsigned 0 most_number) text) refl
   where
-    go : (b : Bool) → accepts false (Unsigned 0 most_seed) text ≡ b → None ≡ seed_in text
+    go : (b : Bool) → accepts false (Unsigned 0 most_number) text ≡ b → None ≡ number_in text
     go false is = rw (is) refl
-    go true is = let fits = accepts-Accepts false (Unsigned 0 most_seed) text is in absurd (refused (fits.0, fits.1))
+    go true is = let fits = accepts-Accepts false (Unsigned 0 most_number) text is in absurd (refused (fits.0, fits.1))
+
+-- a hart that is one of eight is taken
+pub hart_taken : (hart : ℕ) (text : Text) → IsRead text → hart ≡ digits_value 10 (without_leading_plus text) → hart < 8 → Some hart ≡ hart_in text
+hart_taken hart text read is few =
+    let high : digits_value 10 (without_leading_plus text) ≤ 7 = omega (arith, is, few) in
+    let accepted : accepts false (Unsigned 0 most_hart) text ≡ true =
+    Accepts-accepts false (Unsigned 0 most_hart) text (read.0, read.1, omega arith, high) in
+    rw (accepted) (ap (λ n. Some n) is)
+
+-- no other number is
+pub hart_beyond : (hart : ℕ) (text : Text) → hart ≡ digits_value 10 (without_leading_plus text) → (hart < 8 → ⊥) → None ≡ hart_in text
+hart_beyond hart text is many = go (accepts false (Unsigned 0 most_hart) text) refl
+  where
+    go : (b : Bool) → accepts false (Unsigned 0 most_hart) text ≡ b → None ≡ hart_in text
+    go false is_refused = rw (is_refused) refl
+    go true accepted =
+        let fits = accepts-Accepts false (Unsigned 0 most_hart) text accepted in
+        let most = fits.3 in
+        absurd (many (omega (arith, is, most)))
+
+-- nor is what is no number
+pub hart_untaken : (text : Text) → (IsRead text → ⊥) → None ≡ hart_in text
+hart_untaken text refused = go (accepts false (Unsigned 0 most_hart) text) refl
+  where
+    go : (b : Bool) → accepts false (Unsigned 0 most_hart) text ≡ b → None ≡ hart_in text
+    go false is = rw (is) refl
+    go true is = let fits = accepts-Accepts false (Unsigned 0 most_hart) text is in absurd (refused (fits.0, fits.1))

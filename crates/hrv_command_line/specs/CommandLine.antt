@@ -10,10 +10,10 @@ use Rattle.clap.specs.Words.{IsAmong, Text, fault_of, kind_of}
 use Rattle.clap.specs.ValueTests.{accepts}
 use Rattle.clap.specs.declared.builder.value_parser.ValueParser.TheVariants.{Unsigned}
 use Rattle.clap.specs.declared.error.Error.{Error}
-use Rattle.hrv_command_line.specs.Commands.{Shape, commands, hrv_app, most_every, most_harts, most_seed, most_turns}
+use Rattle.hrv_command_line.specs.Commands.{Shape, commands, hrv_app, most_every, most_hart, most_harts, most_number, most_turns}
 use Rattle.hrv_command_line.specs.declared.command_lines.Invocation.{Invocation}
 use Rattle.hrv_command_line.specs.declared.command_lines.Invocation.TheVariants.{Asm, Blame, Compile, Debug, Digest, Dis, DisAddresses, Explain, MakeLog, Map, Picture, PrintLog}
-use Rattle.hrv_command_line.specs.declared.command_lines.Invocation.TheVariants.{Profile, Races, Renew, Replay, Resume, Run, RunDrawn, Verify, Version}
+use Rattle.hrv_command_line.specs.declared.command_lines.Invocation.TheVariants.{Profile, Races, Trace, Renew, Replay, Resume, Run, RunDrawn, Verify, Version}
 use Rattle.hrv_command_line.specs.declared.faults.CommandLineFault.{CommandLineFault}
 use Rattle.hrv_command_line.specs.declared.faults.CommandLineFault.TheVariants.{Refused, Memory, Uncombined, Unexplained}
 use Rattle.hrv_command_line.specs.declared.table.OptionKind.{OptionKind}
@@ -31,6 +31,7 @@ pub data Asked : Type 0 where
   Debugs : (image log : List ℕ) → Asked
   Blames : (image log : List ℕ) → (x y address : Option (List ℕ)) → (with_turns : Bool) → Asked
   Profiles : (image log : List ℕ) → Asked
+  Traces : (image log : List ℕ) → (from to : ℕ) → (hart : Option ℕ) → (address : Option (List ℕ)) → Asked
   FindsRaces : (image log : List ℕ) → (but : List (List ℕ)) → Asked
   PrintsLog : (log : List ℕ) → Asked
   MakesLog : (text log : List ℕ) → Asked
@@ -56,6 +57,7 @@ asked_by (Debug image log) = Debugs image.now log.now
 asked_by (Blame image log words) =
     Blames image.now log.now (option_map (λ s. s.now) words.x) (option_map (λ s. s.now) words.y) (option_map (λ s. s.now) words.address) words.with_turns
 asked_by (Profile image log) = Profiles image.now log.now
+asked_by (Trace image log words) = Traces image.now log.now words.from words.to words.hart (option_map (λ s. s.now) words.address)
 asked_by (Races image log but) = FindsRaces image.now log.now (texts but.items)
 asked_by (PrintLog log) = PrintsLog log.now
 asked_by (MakeLog text log) = MakesLog text.now log.now
@@ -184,8 +186,8 @@ run_from None image log recorded harts turns = Runs image log recorded harts tur
 run_from (Some old) image log recorded harts turns = Resumes image log recorded old turns
 
 -- the seed that an option's text means
-abbrev pub seed_in : Text → Option ℕ
-seed_in text = if accepts false (Unsigned 0 most_seed) text then Some (digits_value 10 (without_leading_plus text)) else None
+abbrev pub number_in : Text → Option ℕ
+number_in text = if accepts false (Unsigned 0 most_number) text then Some (digits_value 10 (without_leading_plus text)) else None
 
 -- Turns are drawn where a seed is given, from the image's start; else the threads say which come next, and how many at once.
 abbrev pub run_by : Option Text → List (Text × Text) → Text → Text → ℕ → ℕ → Option Asked
@@ -195,7 +197,7 @@ run_by None choices image log harts turns =
 run_by (Some seed) choices image log harts turns =
     if is_some (text_of (codes "from") choices) then None
     else option_and_then (λ s. option_map (RunsDrawn image log (text_of (codes "record") choices) harts turns s)
-    (number_or 1 most_every (text_of (codes "every") choices))) (seed_in seed)
+    (number_or 1 most_every (text_of (codes "every") choices))) (number_in seed)
 
 -- one hart, and all turns that a log may have, where no option says another number
 abbrev pub run_of : List (Text × Text) → List Text → Option Asked
@@ -214,6 +216,29 @@ blame_of choices (image ∷ log ∷ x ∷ []) =
 blame_of choices (image ∷ log ∷ x ∷ y ∷ []) =
     Some (Blames image log (Some x) (Some y) (text_of (codes "address") choices) (is_some (text_of (codes "turns") choices)))
 blame_of choices _ = None
+
+-- the turn that an option's text names, and the one that stands for none
+abbrev pub turn_or : ℕ → Option Text → Option ℕ
+turn_or none None = Some none
+turn_or none (Some text) = number_in text
+
+abbrev pub hart_in : Text → Option ℕ
+hart_in text = if accepts false (Unsigned 0 most_hart) text then Some (digits_value 10 (without_leading_plus text)) else None
+
+-- the hart that an option's text names, if it is given
+abbrev pub hart_of : Option Text → Option (Option ℕ)
+hart_of None = Some None
+hart_of (Some text) = option_map Some (hart_in text)
+
+-- from the first turn to the last, where no option says another one
+abbrev pub trace_of : List (Text × Text) → List Text → Option Asked
+trace_of choices (image ∷ log ∷ []) =
+    option_and_then (λ from. option_and_then (λ to. option_map
+    (λ hart. Traces image log from to hart (text_of (codes "address") choices))
+    (hart_of (text_of (codes "hart") choices)))
+    (turn_or most_number (text_of (codes "to") choices)))
+    (turn_or 0 (text_of (codes "from") choices))
+trace_of choices _ = None
 
 -- the words of data that are left out follow
 abbrev pub races_of : List Text → Option Asked
@@ -288,6 +313,7 @@ asked_of name given = if bytes_eq name (codes "picture") then picture_of given.v
     else (if bytes_eq name (codes "debug") then files_of Debugs given.values
     else (if bytes_eq name (codes "blame") then blame_of given.choices given.values
     else (if bytes_eq name (codes "profile") then files_of Profiles given.values
+    else (if bytes_eq name (codes "trace") then trace_of given.choices given.values
     else (if bytes_eq name (codes "races") then races_of given.values
     else (if bytes_eq name (codes "log") then log_of given.values
     else (if bytes_eq name (codes "digest") then digest_of given.values
@@ -296,7 +322,7 @@ asked_of name given = if bytes_eq name (codes "picture") then picture_of given.v
     else (if bytes_eq name (codes "dis") then dis_of given.choices given.values
     else (if bytes_eq name (codes "renew") then files_of Renews given.values
     else (if bytes_eq name (codes "explain") then explain_of given.values
-    else (if bytes_eq name (codes "version") then version_of given.values else None))))))))))))))))
+    else (if bytes_eq name (codes "version") then version_of given.values else None)))))))))))))))))
 
 -- the command of a name
 abbrev pub command_named : Text → List Shape → Option Shape
@@ -361,6 +387,7 @@ IsSpelled words (Compiles algorithm schedule image inputs) = unmarked words ≡ 
 IsSpelled words (Maps algorithm schedule) = unmarked words ≡ codes "map" ∷ algorithm ∷ schedule ∷ []
 -- options may stand anywhere: what they are, `named` alone says
 IsSpelled words (Blames image log x y address with_turns) = (rest : List Text) × (words ≡ codes "blame" ∷ rest)
+IsSpelled words (Traces image log from to hart address) = (rest : List Text) × (words ≡ codes "trace" ∷ rest)
 IsSpelled words (ListsAddresses image) = (rest : List Text) × (words ≡ codes "dis" ∷ rest)
 IsSpelled words (Runs image log recorded harts turns) = (rest : List Text) × (words ≡ codes "run" ∷ rest)
 IsSpelled words (Resumes image log recorded old turns) = (rest : List Text) × (words ≡ codes "run" ∷ rest)

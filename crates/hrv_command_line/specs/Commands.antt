@@ -9,7 +9,7 @@ use Rattle.clap.specs.declared.builder.command.Command.TheViews.{out-Command}
 use Rattle.clap.specs.declared.builder.value_parser.ValueParser.TheVariants.{Unsigned}
 use Rattle.hrv_command_line.specs.declared.table.Choice.{Choice}
 use Rattle.hrv_command_line.specs.declared.table.OptionKind.{OptionKind}
-use Rattle.hrv_command_line.specs.declared.table.OptionKind.TheVariants.{Every, Flag, Harts, Seed, Turns, Word}
+use Rattle.hrv_command_line.specs.declared.table.OptionKind.TheVariants.{Every, Flag, Hart, Harts, Seed, Turn, Turns, Word}
 use Rattle.hrv_command_line.specs.declared.table.ValueCount.{ValueCount}
 use Rattle.hrv_command_line.specs.declared.table.ValueCount.TheVariants.{Always, AnyNumber, Perhaps}
 use Rattle.hrv_command_line.specs.declared.table.CommandRow as code
@@ -17,9 +17,13 @@ use Rattle.hrv_command_line.specs.declared.table.Value.{Value}
 
 -- ---- the table
 
--- how many harts a run may have, how many turns each, and how many of these at once where they are drawn; and the greatest seed
+-- how many harts a run may have, how many turns each, and how many of these at once where they are drawn; the last hart's number; and the
+-- greatest seed or number of a turn
 abbrev pub most_harts : ℕ
 most_harts = 8
+
+abbrev pub most_hart : ℕ
+most_hart = 7
 
 abbrev pub most_turns : ℕ
 most_turns = 1099511627776
@@ -27,8 +31,8 @@ most_turns = 1099511627776
 abbrev pub most_every : ℕ
 most_every = 4096
 
-abbrev pub most_seed : ℕ
-most_seed = 18446744073709551615
+abbrev pub most_number : ℕ
+most_number = 18446744073709551615
 
 -- a command by its name, with its values in their order, and its options
 pub record Shape : Type 0 where
@@ -59,6 +63,11 @@ commands =
       choices = (codes "address", Word) ∷ (codes "turns", Flag) ∷ [];
     })
     ∷ (record { name = codes "profile"; values = (codes "IMAGE", Always) ∷ (codes "LOG", Always) ∷ []; choices = [] })
+    ∷ (record {
+      name = codes "trace";
+      values = (codes "IMAGE", Always) ∷ (codes "LOG", Always) ∷ [];
+      choices = (codes "from", Turn) ∷ (codes "to", Turn) ∷ (codes "hart", Hart) ∷ (codes "address", Word) ∷ [];
+    })
     ∷ (record { name = codes "races"; values = (codes "IMAGE", Always) ∷ (codes "LOG", Always) ∷ (codes "BUT", AnyNumber) ∷ []; choices = [] })
     ∷ (record { name = codes "log"; values = (codes "FILE", Always) ∷ (codes "LOG", Perhaps) ∷ []; choices = [] })
     ∷ (record { name = codes "digest"; values = (codes "FILE", Always) ∷ (codes "MORE", AnyNumber) ∷ []; choices = [] })
@@ -92,7 +101,9 @@ choice_rule (name, Flag) = record (new_rule name) { long = Some name; action = S
 choice_rule (name, Word) = record (new_rule name) { long = Some name; value_names = 1 }
 choice_rule (name, Harts) = record (new_rule name) { long = Some name; value_names = 1; parser = Some (Unsigned 1 most_harts) }
 choice_rule (name, Turns) = record (new_rule name) { long = Some name; value_names = 1; parser = Some (Unsigned 1 most_turns) }
-choice_rule (name, Seed) = record (new_rule name) { long = Some name; value_names = 1; parser = Some (Unsigned 0 most_seed) }
+choice_rule (name, Seed) = record (new_rule name) { long = Some name; value_names = 1; parser = Some (Unsigned 0 most_number) }
+choice_rule (name, Turn) = record (new_rule name) { long = Some name; value_names = 1; parser = Some (Unsigned 0 most_number) }
+choice_rule (name, Hart) = record (new_rule name) { long = Some name; value_names = 1; parser = Some (Unsigned 0 most_hart) }
 choice_rule (name, Every) = record (new_rule name) { long = Some name; value_names = 1; parser = Some (Unsigned 1 most_every) }
 
 abbrev pub with_value : App → Text × ValueCount → App

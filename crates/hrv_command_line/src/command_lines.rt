@@ -23,6 +23,16 @@ pub struct BlameArguments<'a> {
     pub with_turns: bool,
 }
 
+/// Which turns of a log are told of: from one number to another one, of one hart or all, and those alone that touch a
+/// word, by its address.
+#[derive(Clone, Copy, Debug)]
+pub struct TraceArguments<'a> {
+    pub from: u64,
+    pub to: u64,
+    pub hart: Option<u64>,
+    pub address: Option<&'a str>,
+}
+
 /// How many harts make at most how many turns each, and how turns are drawn: from a seed, so many at once at most.
 #[derive(Clone, Copy, Debug)]
 pub struct DrawArguments {
@@ -73,6 +83,12 @@ pub enum Invocation<'a> {
     Profile {
         image: &'a str,
         log: &'a str,
+    },
+    /// `trace IMAGE LOG --from K --to K --hart H --address A`
+    Trace {
+        image: &'a str,
+        log: &'a str,
+        words: TraceArguments<'a>,
     },
     /// `races IMAGE LOG [BUT..]`
     Races {

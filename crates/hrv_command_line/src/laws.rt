@@ -7,9 +7,9 @@ ghost use Rattle.hrv_command_line.specs.CommandLine.{Asked, Assembles, Blames, C
 ghost use Rattle.hrv_command_line.specs.CommandLine.{Explains, FindsRaces};
 ghost use Rattle.hrv_command_line.specs.CommandLine.{IsPlainWord, IsSpelled, Lists, ListsAddresses, MakesLog, Maps};
 ghost use Rattle.hrv_command_line.specs.CommandLine.{PrintsLog, Profiles, Renews, Replays, Resumes};
-ghost use Rattle.hrv_command_line.specs.CommandLine.{Runs, RunsDrawn, TellsVersion, Verifies};
-ghost use Rattle.hrv_command_line.specs.CommandLine.{named, number_or, seed_in};
-ghost use Rattle.hrv_command_line.specs.Commands.{most_every, most_harts, most_turns};
+ghost use Rattle.hrv_command_line.specs.CommandLine.{Runs, RunsDrawn, TellsVersion, Traces, Verifies};
+ghost use Rattle.hrv_command_line.specs.CommandLine.{hart_in, named, number_in, number_or};
+ghost use Rattle.hrv_command_line.specs.Commands.{most_every, most_harts, most_number, most_turns};
 ghost use Rattle.hrv_refusals.specs.Explanations.{is_explained};
 
 /// Which words name a replay: `replay` and two names, after `--` where one begins with `-`.
@@ -50,6 +50,23 @@ pub fn profile_is_named()
         → named (codes "profile" ∷ image ∷ log ∷ []) ≡ Some (Profiles image log) }
     ensures marked { (image log : List ℕ)
         → named (codes "profile" ∷ codes "--" ∷ image ∷ log ∷ []) ≡ Some (Profiles image log) }
+{}
+
+/// Which words name a trace: `trace` and two names, alone, or with the first turn and the last one, a hart, or the
+/// address of a word.
+pub fn trace_is_named()
+    ensures plain { (image log : List ℕ) → IsPlainWord image → IsPlainWord log
+        → named (codes "trace" ∷ image ∷ log ∷ []) ≡ Some (Traces image log 0 most_number None None) }
+    ensures turns { (image log first last : List ℕ) (f l : ℕ) → IsPlainWord image → IsPlainWord log
+        → number_in first ≡ Some f → number_in last ≡ Some l
+        → named (codes "trace" ∷ image ∷ log ∷ codes "--from" ∷ first ∷ codes "--to" ∷ last ∷ [])
+        ≡ Some (Traces image log f l None None) }
+    ensures hart { (image log hart : List ℕ) (h : ℕ) → IsPlainWord image → IsPlainWord log → hart_in hart ≡ Some h
+        → named (codes "trace" ∷ image ∷ log ∷ codes "--hart" ∷ hart ∷ [])
+        ≡ Some (Traces image log 0 most_number (Some h) None) }
+    ensures address { (image log address : List ℕ) → IsPlainWord image → IsPlainWord log → IsPlainWord address
+        → named (codes "trace" ∷ image ∷ log ∷ codes "--address" ∷ address ∷ [])
+        ≡ Some (Traces image log 0 most_number None (Some address)) }
 {}
 
 /// Which words name the printing of a log and the making of one: `log` and a name, or two names, after `--` where one
@@ -184,11 +201,11 @@ pub fn run_is_named()
         ≡ Some (Runs image log None h t) }
     ensures resumed { (image log old : List ℕ) → IsPlainWord image → IsPlainWord log → IsPlainWord old
         → named (codes "run" ∷ image ∷ log ∷ codes "--from" ∷ old ∷ []) ≡ Some (Resumes image log None old most_turns) }
-    ensures drawn { (image log seed : List ℕ) (s : ℕ) → IsPlainWord image → IsPlainWord log → seed_in seed ≡ Some s
+    ensures drawn { (image log seed : List ℕ) (s : ℕ) → IsPlainWord image → IsPlainWord log → number_in seed ≡ Some s
         → named (codes "run" ∷ image ∷ log ∷ codes "--seed" ∷ seed ∷ [])
         ≡ Some (RunsDrawn image log None 1 most_turns s 1) }
     ensures drawn_by { (image log seed every : List ℕ) (s k : ℕ) → IsPlainWord image → IsPlainWord log
-        → seed_in seed ≡ Some s → number_or 1 most_every (Some every) ≡ Some k
+        → number_in seed ≡ Some s → number_or 1 most_every (Some every) ≡ Some k
         → named (codes "run" ∷ image ∷ log ∷ codes "--seed" ∷ seed ∷ codes "--every" ∷ every ∷ [])
         ≡ Some (RunsDrawn image log None 1 most_turns s k) }
     ensures recorded { (image log file : List ℕ) → IsPlainWord image → IsPlainWord log → IsPlainWord file

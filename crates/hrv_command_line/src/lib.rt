@@ -17,5 +17,7 @@ mod programs;
 mod reading;
 mod table;
 
-pub use crate::command_lines::{BlameArguments, DrawArguments, Invocation, command};
+pub use crate::command_lines::{
+    BlameArguments, DrawArguments, Invocation, TraceArguments, command,
+};
 pub use crate::faults::CommandLineFault;

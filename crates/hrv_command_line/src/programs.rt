@@ -167,5 +167,11 @@ fn choice_arg<'a>(alloc: Global, choice: &Choice<'static>) -> Arg<'a>
         OptionKind::Every => arg
             .value_name(choice.text)
             .value_parser(clap::value_parser!(u64).range(1..=4096)),
+        OptionKind::Turn => arg
+            .value_name(choice.text)
+            .value_parser(clap::value_parser!(u64)),
+        OptionKind::Hart => arg
+            .value_name(choice.text)
+            .value_parser(clap::value_parser!(u64).range(0..=7)),
     }
 }

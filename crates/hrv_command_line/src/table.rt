@@ -29,6 +29,10 @@ pub enum OptionKind {
     Seed,
     /// A number of turns that one hart makes at once.
     Every,
+    /// The number of a turn of a log.
+    Turn,
+    /// The number of a hart.
+    Hart,
 }
 
 /// A value, named by its place after the command's name.
@@ -70,7 +74,7 @@ const INPUTS: Value<'static> = Value {
     help: "The inputs' pictures, in the order of the algorithm's lines",
 };
 
-const ROWS: [CommandRow<'static>; 17] = [
+const ROWS: [CommandRow<'static>; 18] = [
     CommandRow {
         name: "picture",
         about: "Draws the picture that an algorithm defines",
@@ -253,6 +257,48 @@ const ROWS: [CommandRow<'static>; 17] = [
             },
         ],
         choices: &[],
+    },
+    CommandRow {
+        name: "trace",
+        about: "Says of each turn of a log what it was and what it changed, a line a turn",
+        values: &[
+            Value {
+                name: "IMAGE",
+                need: ValueCount::Always,
+                help: "The image that was run",
+            },
+            Value {
+                name: "LOG",
+                need: ValueCount::Always,
+                help: "The log of its turns",
+            },
+        ],
+        choices: &[
+            Choice {
+                name: "from",
+                kind: OptionKind::Turn,
+                text: "K",
+                help: "The first turn that is told of, the log's first being 0",
+            },
+            Choice {
+                name: "to",
+                kind: OptionKind::Turn,
+                text: "K",
+                help: "The last turn that is told of",
+            },
+            Choice {
+                name: "hart",
+                kind: OptionKind::Hart,
+                text: "H",
+                help: "Tells of turns of this hart alone, 0 to 7",
+            },
+            Choice {
+                name: "address",
+                kind: OptionKind::Word,
+                text: "A",
+                help: "Tells of turns alone that load or store this word of data",
+            },
+        ],
     },
     CommandRow {
         name: "races",

@@ -1,8 +1,0 @@
-use Rattle.hrv_command_line.proofs.Numbers.{seed_taken, seed_untaken}
-use Rattle.hrv_command_line.proofs.asked.seed_in.Goals as goal
-
-pub returns-in-Ok : goal.returns-in-Ok
-returns-in-Ok c = seed_taken c.in-Ok.seed c.args.text.now c.in-Ok.ensures.value.0.0 c.in-Ok.ensures.value.0.1
-
-pub returns-in-Err : goal.returns-in-Err
-returns-in-Err c = seed_untaken c.args.text.now c.in-Err.ensures.value.0
