@@ -88,7 +88,7 @@ EXPLAINED = """refused load 2
   cure: the file was cut
 """
 
-VERSION = "hrv 2.0\nlogic dac8208d650f15bf\n"
+VERSION = "hrv 2.1\nlogic dac8208d650f15bf\n"
 
 TALK = [("next", "at 1\n"), ("next", "at 2\n"),
         ("status", "at 2 of 8\nhart 0 running pc 0x00010004\nhart 1 running pc 0x00010004\n"), ("back", "at 1\n")]

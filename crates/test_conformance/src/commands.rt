@@ -9,9 +9,9 @@ use crate::failures::CaseFailure;
 use crate::invocations::words_of;
 use hrv_command_line::{Invocation, command};
 use hrv_engines::{
-    Fault, Question, asm_bytes, blame_bytes, debug_bytes, dis_addresses_bytes, dis_bytes,
-    explain_bytes, make_log_bytes, picture_bytes, print_log_bytes, profile_bytes, renew_bytes,
-    replay_bytes, version_bytes,
+    Fault, Question, TraceQuestion, asm_bytes, blame_bytes, debug_bytes, dis_addresses_bytes,
+    dis_bytes, explain_bytes, make_log_bytes, picture_bytes, print_log_bytes, profile_bytes,
+    races_bytes, renew_bytes, replay_bytes, trace_bytes, version_bytes,
 };
 use std::alloc::{AllocError, Global};
 use std::thread::Threads;
@@ -142,6 +142,64 @@ pub fn push_profile(alloc: Global, parts: &[Part], out: &mut String) -> Result<(
         alloc,
         &mut devices.tape("image", &image)?,
         &mut devices.tape("log", &log)?,
+        &mut page,
+    );
+    push_answer(answered, &page, out)
+}
+
+/// What turns of a log did, those that words after an image and a log ask for, one each line.
+pub fn push_trace(alloc: Global, parts: &[Part], out: &mut String) -> Result<(), CaseFailure> {
+    let (parts, devices) = devices_of(parts);
+    let (image, log, words) = match parts {
+        [image, log] => (image, log, ""),
+        [image, log, words] => (image, log, words.named("words")?),
+        _ => return Err(CaseFailure::Malformed("not two or three parts")),
+    };
+    let image = bytes_of(alloc, image.named("image")?)?;
+    let log = bytes_of(alloc, log.named("log")?)?;
+    let words = words_of(alloc, "trace\nimage\nlog", words)?;
+    let question = traced_by(alloc, &words)?;
+    let mut page = devices.page(alloc)?;
+    let answered = trace_bytes(
+        alloc,
+        &mut devices.tape("image", &image)?,
+        &mut devices.tape("log", &log)?,
+        question,
+        &mut page,
+    );
+    push_answer(answered, &page, out)
+}
+
+/// Which turns the words of a command line ask for.
+fn traced_by<'a>(alloc: Global, words: &'a [&'a str]) -> Result<TraceQuestion<'a>, CaseFailure> {
+    match command(alloc, words) {
+        Ok(Invocation::Trace { words: asked, .. }) => Ok(TraceQuestion {
+            from: asked.from,
+            to: asked.to,
+            hart: asked.hart,
+            address: asked.address,
+        }),
+        _ => Err(CaseFailure::Malformed("other words")),
+    }
+}
+
+/// At which place of a log two harts race first, outside words, one each line.
+pub fn push_races(alloc: Global, parts: &[Part], out: &mut String) -> Result<(), CaseFailure> {
+    let (parts, devices) = devices_of(parts);
+    let (image, log, words) = match parts {
+        [image, log] => (image, log, ""),
+        [image, log, words] => (image, log, words.named("words")?),
+        _ => return Err(CaseFailure::Malformed("not two or three parts")),
+    };
+    let image = bytes_of(alloc, image.named("image")?)?;
+    let log = bytes_of(alloc, log.named("log")?)?;
+    let words = words_of(alloc, "", words)?;
+    let mut page = devices.page(alloc)?;
+    let answered = races_bytes(
+        alloc,
+        &mut devices.tape("image", &image)?,
+        &mut devices.tape("log", &log)?,
+        &words,
         &mut page,
     );
     push_answer(answered, &page, out)

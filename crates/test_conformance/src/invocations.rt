@@ -1,7 +1,7 @@
 //! Command lines.
 
 use crate::failures::CaseFailure;
-use hrv_command_line::{Invocation, command};
+use hrv_command_line::{Invocation, TraceArguments, command};
 use std::alloc::{AllocError, Global};
 use test_cases::Part;
 
@@ -37,6 +37,18 @@ pub fn words_of<'a>(
     Ok(words)
 }
 
+/// Which turns of a log are told of.
+fn push_traced(words: &TraceArguments, out: &mut String) -> Result<(), AllocError> {
+    write!(out, "from {} to {}", words.from, words.to)?;
+    if let Some(hart) = words.hart {
+        write!(out, " of {hart}")?;
+    }
+    if let Some(address) = words.address {
+        write!(out, " at {address}")?;
+    }
+    writeln!(out)
+}
+
 /// A command and the files that it names.
 fn push_asked(invocation: &Invocation, out: &mut String) -> Result<(), AllocError> {
     match invocation {
@@ -52,6 +64,10 @@ fn push_asked(invocation: &Invocation, out: &mut String) -> Result<(), AllocErro
             writeln!(out, "{}", if words.with_turns { " with turns" } else { "" })
         }
         Invocation::Profile { image, log } => writeln!(out, "profile of {image} by {log}"),
+        Invocation::Trace { image, log, words } => {
+            writeln!(out, "trace of {image} by {log}")?;
+            push_traced(words, out)
+        }
         Invocation::Races { image, log, but } => {
             write!(out, "races of {image} by {log} but")?;
             push_inputs(but, out)

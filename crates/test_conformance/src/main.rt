@@ -29,6 +29,8 @@
 //! | `log` | `text`: that of a log | the log's bytes, in hexadecimal |
 //! | `replay` | `image`, `log`: lines in hexadecimal | the dump |
 //! | `profile` | `image`, `log` | where the turns go |
+//! | `trace` | `image`, `log`; `words`: the options, one each line, or no part | what the turns did |
+//! | `races` | `image`, `log`; `words` that are left out, one each line, or no part | where two harts race first |
 //! | `debug` | `image`, `log`; `lines` | the talk |
 //! | `blame` | `image`, `log`; `words`: those after the files, one each line | who wrote what is asked about |
 //! | `run` | `image`; `turns`: how many a hart makes at most | the log of one hart, in hexadecimal, and the dump |
@@ -83,7 +85,7 @@ use crate::algorithms::{push_reading, push_verdict};
 use crate::assemblies::{push_listing, push_object};
 use crate::commands::{
     push_addresses, push_blame, push_drawing, push_explained, push_image, push_lines, push_log,
-    push_profile, push_renewal, push_replay, push_runs, push_talk,
+    push_profile, push_races, push_renewal, push_replay, push_runs, push_talk, push_trace,
 };
 use crate::compilations::{push_accesses, push_compilation, push_cuts, push_map};
 use crate::failures::CaseFailure;
@@ -159,6 +161,8 @@ fn push_answer(
         "log" => push_log(alloc, parts, out),
         "replay" => push_replay(alloc, parts, out),
         "profile" => push_profile(alloc, parts, out),
+        "trace" => push_trace(alloc, parts, out),
+        "races" => push_races(alloc, parts, out),
         "debug" => push_talk(alloc, parts, out),
         "blame" => push_blame(alloc, parts, out),
         "run" => push_run(rt, alloc, parts, out),
