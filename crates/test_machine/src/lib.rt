@@ -6,6 +6,7 @@
 //! - [`lane_corners`]: lanes at the corners of division, masked sums, and reductions.
 //! - [`logs`]: logs that are made turn by turn, and looked up.
 //! - [`sessions`]: the debugger over 2 ^ 40 turns, and back to places that it keeps.
+//! - [`traces`]: the turns of logs as lines, worked out by hand.
 //! - [`comparing`]: values compared.
 #![tactic(auto)]
 
@@ -21,5 +22,7 @@ mod machines;
 mod memories;
 #[cfg(test)]
 mod sessions;
+#[cfg(test)]
+mod traces;
 #[cfg(test)]
 mod vectors;
