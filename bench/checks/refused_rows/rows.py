@@ -2,6 +2,7 @@
 refusals. What they answer is compared by the gate (`test_conformance`, `test_trials`); here a refusal is named where
 one is wanted, so that a row stays what it is meant to be."""
 
+import hashlib
 import os
 import struct
 import subprocess
@@ -54,6 +55,14 @@ class Row:
 
 def log(harts, *runs):
     return shared.log(harts, runs)
+
+
+def run_record(held, turns, harts, limit, ending):
+    """The text of a run's record."""
+    digests = [hashlib.sha256(it).hexdigest() for it in (held, turns)]
+    lines = ["record 1", "version 2.0", "logic any", f"image {digests[0]}", f"log {digests[1]}", f"harts {harts}",
+        f"limit {limit}", f"ending {ending}"]
+    return "\n".join(lines) + "\n"
 
 
 def nested(count, innermost="x"):
@@ -142,6 +151,15 @@ def machine_rows():
         yield Row(f"a log {name}", ["profile", "image", "log"], both | {"log": held}, f"log {fault}")
     yield Row("a profile of two harts", ["profile", "image", "log"], both)
     yield Row("a profile of no turn", ["profile", "image", "log"], {"image": COUNTER, "log": log(2)})
+    yield Row("two harts", ["races", "image", "log"], both)
+    yield Row("a word left out", ["races", "image", "log", "0x00200000"], both)
+    yield Row("no word of data", ["races", "image", "log", "0x00100000"], both, "blame 1")
+    yield Row("two files", ["digest", "image", "log"], both)
+    kept = both | {"kept": run_record(COUNTER, TURNS, 2, 10, "finished")}
+    yield Row("a run of two harts", ["verify", "kept", "image", "log"], kept)
+    yield Row("a run of another image", ["verify", "kept", "image", "log"], kept | {"image": STRAIGHT})
+    yield Row("no record", ["verify", "kept", "image", "log"], both | {"kept": "record 2\n"}, "record 1 line 1")
+    yield Row("with a record", ["run", "image", "log", "--harts", "2", "--record", "kept"], {"image": COUNTER})
     for name, text, fault in BAD_LOG_TEXTS:
         yield Row(f"a text {name}", ["log", "text", "made"], {"text": text, "made": b"old"}, f"turns {fault}")
     yield Row("two harts as a text", ["log", "log"], {"log": TURNS})
