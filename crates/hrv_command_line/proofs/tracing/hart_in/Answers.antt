@@ -1,5 +1,5 @@
 use Rattle.hrv_command_line.proofs.Numbers.{hart_taken, hart_untaken}
-use Rattle.hrv_command_line.proofs.asked.hart_in.Goals as goal
+use Rattle.hrv_command_line.proofs.tracing.hart_in.Goals as goal
 
 pub returns-then-number-lt8 : goal.returns-then-number-lt8
 returns-then-number-lt8 c =
