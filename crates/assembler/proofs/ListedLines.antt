@@ -63,7 +63,7 @@ is_false : (test : Bool) → not test ≡ true → test ≡ false
 is_false true e = absurd cc
 is_false false e = refl
 
--- a name that stands in front of others is another one
+-- a name that is in front of others is another one
 another : (name other : List ℕ) (others : List (List ℕ)) → apart_from (other ∷ others) name ≡ true
     → (bytes_eq name other ≡ false) × (apart_from others name ≡ true)
 unfolding apart_from

@@ -26,7 +26,7 @@ use Rattle.assembler.specs.Places.{surveyed, unsurveyed}
 use Rattle.assembler.specs.declared.surveys.Survey.{Survey}
 use Rattle.assembler.proofs.ListedLines.{IsFound, item_said, so_far, word_taken}
 
--- the laws below that this one stands on
+-- the laws below that this one is on
 pub record Below : Type 0 where
   pub tokens : (word : ℕ) → word < 2 ^ 32 → tokens_of (line_of word) ≡ tokens_said word
   pub statement : (word : ℕ) → word < 2 ^ 32 → statement_of (tokens_of (line_of word)) ≡ Some (statement_said word)

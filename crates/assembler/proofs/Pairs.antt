@@ -26,7 +26,7 @@ AreLess number places = AllByRecursion (λ place. place.0 < number) places
 
 -- ---- a place among others
 
--- the greatest number stands last
+-- the greatest number is last
 last : (number : ℕ) (named : Named) (places : Places) → AreLess number places → among number named places ≡ places ++ (number, named) ∷ []
 last number named [] less = refl
 last number named (other ∷ others) less =
@@ -128,7 +128,7 @@ either_first true true x y rest apart = absurd (true≢false (apart refl))
 either_first true false x y rest apart = refl
 either_first false b x y rest apart = refl
 
--- among others, whichever stands first
+-- among others, whichever is first
 met : (number : ℕ) (named : Named) (places : Places) (name : List ℕ) → found_in places named.0 ≡ None
     → found_in (among number named places) name ≡ cond (bytes_eq name named.0) (Some named.1) (found_in places name)
 met number named [] name none = refl

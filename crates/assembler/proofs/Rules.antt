@@ -66,7 +66,7 @@ and_right false b is = absurd (true≢false (sym is))
 
 -- ---- how long what a line gives is
 
--- a count of words or bytes goes on by so many
+-- a count of words or bytes goes on by this many
 abbrev Grows : ℕ → ℕ → ℕ → Type 0
 Grows old new count = (new ≡ old + count) ⊎ (new ≡ capped (old + count))
 

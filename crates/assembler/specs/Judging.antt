@@ -75,7 +75,7 @@ is_odd bytes = not (int_eq (int_rem_euclid bytes (pos 2)) (pos 0))
 abbrev pub reached : ℤ → ℤ → Option ℤ
 reached reach halves = if is_within (pos 0 -ℤ reach) (reach -ℤ pos 1) halves then Some halves else None
 
--- a distance of so many bytes, as half-words; where it is odd it has this fault
+-- a distance of this many bytes, as half-words; where it is odd it has this fault
 abbrev pub halves_of : ℤ → AsmFault → ℤ → Result ℤ AsmFault
 halves_of reach odd bytes = if is_odd bytes then Err odd else or_fault Target (reached reach (int_shr bytes 1))
 
@@ -252,8 +252,8 @@ abbrev pub entry : Context → Section → List Operand → Result Given AsmFaul
 entry c Text (o.Word label ∷ []) = entry_named c label
 entry c section operands = Err Syntax
 
--- in data of so many bytes, a picture of so many pixels a row and so many rows, one row after the other, where the
--- image rules accept it; an address has 32 bits
+-- in data of this many bytes, a picture of this many pixels a row and this many rows, one row after the other, where
+-- the image rules accept it; an address has 32 bits
 abbrev pub picture_at : ℕ → ℕ → ℕ → ℕ → Result Given AsmFault
 picture_at bytes at width height =
     let picture : Picture = record { address = at; width = width; height = height; stride = 4 * width } in

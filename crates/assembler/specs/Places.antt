@@ -66,7 +66,7 @@ abbrev pub after_space : LineLocation → Section → Option ℤ → LineLocatio
 after_space place Data (Some (pos n)) = after_bytes place n
 after_space place section number = place
 
--- the place after a line's mnemonic, in whichever section it stands, and whatever its operands are worth
+-- the place after a line's mnemonic, in whichever section it is, and whatever its operands are worth
 abbrev pub after_operation : LineLocation → Option ℤ → Option LineOperation → LineLocation
 after_operation place number None = place
 after_operation place number (Some (Instruction form)) = after_words place 1

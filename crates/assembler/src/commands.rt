@@ -171,7 +171,7 @@ fn is_first(first: Option<u64>, line: u64) -> bool
     }
 }
 
-/// Whether it is the address of a word, where text has so many words.
+/// Whether it is the address of a word, where text has this many words.
 fn is_word_of_text(words: u64, address: u64) -> bool
     ensures { result ≡ is_text_word words address }
 {
@@ -223,7 +223,7 @@ fn entry(survey: &Survey, here: Here, operands: &[Operand]) -> Result<LineProduc
     }
 }
 
-/// Whether an output may have so many rows, or so many pixels in a row.
+/// Whether an output may have this many rows, or this many pixels in a row.
 fn is_extent(number: i64) -> bool
     ensures value { result ≡ spec.is_extent number }
     ensures small { IsTrue result → unsigned_abs number ≤ most_pixels }
@@ -231,7 +231,7 @@ fn is_extent(number: i64) -> bool
     0 <= number && number <= MOST_PIXELS as i64
 }
 
-/// A picture of so many pixels a row and so many rows at an address, in data of so many bytes.
+/// A picture of this many pixels a row and this many rows at an address, in data of this many bytes.
 fn picture_at(bytes: u64, address: u32, width: u32, height: u32) -> Result<LineProduct, AsmFault>
     requires { width ≤ most_pixels }
     ensures { Performs (spec.picture_at bytes address width height) result }

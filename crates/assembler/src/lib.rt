@@ -3,7 +3,7 @@
 //! A text is read twice. The first time [`surveys`] finds out where labels lie, by the front of each line
 //! (`specs/Places.antt`). The second time each line is judged with all labels known (`specs/Judging.antt`,
 //! `specs/Lines.antt`); the first faulty line decides, by its least fault (`specs/Faults.antt`). What a text
-//! without faulty lines means stands in `specs/Object.antt`: its words are those that the instruction table
+//! without faulty lines means is in `specs/Object.antt`: its words are those that the instruction table
 //! has for its lines.
 //!
 //! - [`faults`]: why a text is refused ([`AsmFault`]).

@@ -53,7 +53,7 @@ impl LineLocation {
         }
     }
 
-    /// The place after so many more words of text.
+    /// The place after this many more words of text.
     pub fn after_words(self, count: u64) -> LineLocation
         ensures { result ≡ spec.after_words self count }
     {
@@ -63,7 +63,7 @@ impl LineLocation {
         }
     }
 
-    /// The place after so many more bytes of data.
+    /// The place after this many more bytes of data.
     pub fn after_bytes(self, count: u64) -> LineLocation
         ensures { result ≡ spec.after_bytes self count }
     {
@@ -83,7 +83,7 @@ impl LineLocation {
         }
     }
 
-    /// The place after so many bytes that `.space` leaves: none in text, or where the number is no count.
+    /// The place after this many bytes that `.space` leaves: none in text, or where the number is no count.
     pub fn after_space(self, number: Option<i64>) -> LineLocation
         ensures { result ≡ spec.after_space self self.section number }
     {

@@ -13,7 +13,7 @@ pub enum LineProduct {
     Words(u32, u32),
     /// Four bytes of data, the lowest of the number first.
     Number(u32),
-    /// So many bytes of data that are 0.
+    /// This many bytes of data that are 0.
     Zeros(u32),
     /// The entry's address.
     Entry(u32),

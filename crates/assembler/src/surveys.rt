@@ -27,7 +27,6 @@ pub struct Survey {
     pub output: Option<u64>,
 }
 
-/// Written out, so that a check sees a call wherever one is dropped, and not the drops of its parts.
 impl Drop for Survey {
     fn drop(self) {
         let Survey {

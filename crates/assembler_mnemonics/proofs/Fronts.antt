@@ -12,7 +12,7 @@ pub read_of_front : (count field : ℕ) (numbers : List ℤ) → field < count �
     (pos 0)
 read_of_front count field numbers within = get_or-take count numbers field (pos 0) within
 
--- ---- a list of so many fields
+-- ---- a list of this many fields
 
 pub no_fields : (fields : List ℤ) → length fields ≡ 0 → [] ≡ fields
 no_fields [] h = refl

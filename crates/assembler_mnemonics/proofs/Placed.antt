@@ -100,7 +100,7 @@ free_kept (slot ∷ slots) fields other pairs h e =
     ∙ free_kept slots (placed fields h.0) other h.1 h.3 both.1
     ∙ slot_kept slot fields other h.0 h.2 both.0)
 
--- ---- what a slot gave stands in its fields
+-- ---- what a slot gave is in its fields
 
 -- the slot's fields are there, and are different ones
 in_place : ℕ → Slot → Bool

@@ -257,7 +257,7 @@ fn named_among(forms: &[MnemonicForm], mnemonic: &[u8]) -> Option<MnemonicForm>
     None
 }
 
-// The group in which a form with this mnemonic stands, if there is one.
+// The group in which a form with this mnemonic is, if there is one.
 #[tactic(auto, unfolding(crate::specs::Named::group_of))]
 fn likely_group(mnemonic: &[u8]) -> MnemonicGroup
     ensures { result ≡ spec.group_of mnemonic.now }

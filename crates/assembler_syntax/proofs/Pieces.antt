@@ -9,7 +9,7 @@ use Rattle.assembler_syntax.specs.declared.tokens.AssemblyToken.TheVariants as t
 use Rattle.assembler_syntax.specs.declared.statements.Operand.{Operand}
 use Rattle.assembler_syntax.specs.Statements.{pieces_of, later_pieces, joined, is_plain, operand_of, with_first, all_operands, operands_of}
 
--- what stands after the first comma
+-- what is after the first comma
 abbrev pub behind_comma : List AssemblyToken → Option (List AssemblyToken)
 behind_comma [] = None
 behind_comma (_ ∷ more) = Some more
@@ -27,7 +27,7 @@ behind_front token tokens n =
     let e : 1 + n ≡ suc n = omega arith in
     rw e refl
 
--- what the front piece is, and what stands after it
+-- what the front piece is, and what is after it
 abbrev pub split_at : ℕ → List AssemblyToken → List (List AssemblyToken)
 split_at n tokens = take n tokens ∷ later_pieces (behind_comma (drop n tokens))
 
@@ -59,7 +59,7 @@ nothing_before : (given : Option (List Operand)) → behind [] given ≡ given
 nothing_before None = refl
 nothing_before (Some operands) = refl
 
--- So many operands were taken, and the pieces of what is left give the others.
+-- This many operands were taken, and the pieces of what is left give the others.
 abbrev pub Taken : List AssemblyToken → List Operand → List AssemblyToken → Type 0
 Taken tokens front rest = behind front (all_operands (pieces_of rest)) ≡ operands_of tokens
 

@@ -5,7 +5,7 @@ use Rattle.line_text.specs.Lines.{skip_blanks, ends}
 use Rattle.assembler_syntax.specs.declared.tokens.AssemblyToken.{AssemblyToken}
 use Rattle.assembler_syntax.specs.Tokens.{front_token, tokens_from, tokens_of}
 
--- So many tokens were taken, and with fuel to spare what is left gives the others.
+-- This many tokens were taken, and with fuel to spare what is left gives the others.
 pub record Taken (line : List ℕ) (front : List AssemblyToken) (rest : List ℕ) : Type 0 where
   pub fuel : ℕ
   pub room : length rest < fuel

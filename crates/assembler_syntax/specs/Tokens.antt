@@ -1,4 +1,4 @@
--- The tokens of a line, each the longest that stands there, up to the comment.
+-- The tokens of a line, each the longest that is there, up to the comment.
 -- This project's own, after the assembly syntax of RISC-V Unprivileged ISA 20191213, chapter 25.
 use Rattle.std.specs.Prelude.{ℕ, zero, suc, ◌+◌, ◌%◌, ◌^◌, ◌-◌, ◌==◌, ◌||◌, ◌&&◌, Bool, nat_lt, nat_le, if◌then◌else◌, ℤ, pos, ◌-ℤ◌, List, [], ◌∷◌, length}
 use Rattle.std.specs.Prelude.{take, drop}

@@ -1,4 +1,4 @@
--- The rule of a board stands where tokens come, are cut in two and are put together.
+-- The rule of a board is where tokens come, are cut in two and are put together.
 use Rattle.std.proofs.Common.{◌≡◌, ◌≢◌, ℕ, zero, suc, ◌+◌, ◌-◌, ◌<◌, ◌≤◌, false, List, [], ◌∷◌, ◌++◌, drop, take, set, replicate, refl, sym, ap, ◌∙◌, subst}
 use Rattle.std.proofs.Common.{⊎_elim, arith, true≢false}
 use Rattle.std.specs.Prelude.{slice_index}
@@ -123,7 +123,7 @@ pub knows-word : (words : List ℕ) (counts : List (ℕ × ℕ)) (hart number : 
     → slice_index words hart ≡ number
 knows-word words counts hart number is a = (subst (AreWords words) is a).0
 
--- a value that stands at a place is the one that is read there
+-- a value that is at a place is the one that is read there
 pub read-at : (xs : List ℕ) (i x : ℕ) → get_elem? xs i ≡ some x → slice_index xs i ≡ x
 read-at [] i x e = absurd (some-ne-none x (sym e))
 read-at (a ∷ xs) zero x e = some-injective a x e
@@ -158,7 +158,7 @@ start-beyond which hart zero beyond = refl
 start-beyond which hart (suc count) beyond = times-apart which (hart, 0) (at_start (suc hart) count) (λ e. let q = e in omega (arith))
     ∙ start-beyond which (suc hart) count (omega (arith))
 
--- at the start the rule stands
+-- at the start the rule is
 pub begins : (harts : ℕ) → harts ≤ most_harts → Stands harts (replicate 9 0) (known (at_start 0 harts) [] false false ∷ [])
 begins harts few = record {
   places = refl;

@@ -54,7 +54,7 @@ pub record Fits (words : List ℕ) (token : SeatKnowledge) : Type 0 where
   pub asked : token.asked ≡ true → slice_index words stop_word ≡ 1
   pub heard : token.heard ≡ true → slice_index words stop_word ≡ 1
 
--- the rule of the board of so many harts, over its words and what each of its tokens knows
+-- the rule of the board of this many harts, over its words and what each of its tokens knows
 pub record Stands (harts : ℕ) (words : List ℕ) (tokens : List SeatKnowledge) : Type 0 where
   pub places : length words ≡ words_of_board
   pub few : harts ≤ most_harts
@@ -66,7 +66,7 @@ pub record Stands (harts : ℕ) (words : List ℕ) (tokens : List SeatKnowledge)
   pub rest : (hart : ℕ) → harts ≤ hart → hart < most_harts → slice_index words hart ≡ 0
   pub stop : slice_index words stop_word ≤ 1
 
--- so many harts from one on, each with a word of 0
+-- this many harts from one on, each with a word of 0
 abbrev pub at_start : ℕ → ℕ → List (ℕ × ℕ)
 at_start hart zero = []
 at_start hart (suc count) = (hart, 0) ∷ at_start (suc hart) count

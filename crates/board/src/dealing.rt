@@ -10,7 +10,7 @@ use crate::rule::{DealGlance, DealSeat, Enter};
 use atomic_table::Table;
 use std::alloc::{AllocError, Global};
 
-/// So many glances beside one for each seat.
+/// This many glances beside one for each seat.
 const MORE_GLANCES: usize = 8;
 
 impl Board {
@@ -93,7 +93,7 @@ impl Board {
         Glance { token }
     }
 
-    // So many glances.
+    // This many glances.
     fn deal_glances(
         &self,
         alloc: Global,

@@ -22,8 +22,8 @@ each_small [] (plan ∷ plans) planned = absurd planned
 each_small (func ∷ funcs) [] planned = absurd planned
 each_small (func ∷ funcs) (plan ∷ plans) planned = (small func plan planned.0, each_small funcs plans planned.1)
 
-plan_is : (own plan : FuncPlan) → Some own ≡ Some plan → own ≡ plan
-plan_is own plan e = cc
+plan_is : (func_plan plan : FuncPlan) → Some func_plan ≡ Some plan → func_plan ≡ plan
+plan_is func_plan plan e = cc
 
 small_at : (plans : List FuncPlan) → AllByRecursion IsSmallPlan plans → (at : ℕ) (plan : FuncPlan) → slice_get plans at ≡ Some plan → IsSmall plan.pure
 small_at [] all zero plan e = absurd cc
@@ -36,9 +36,9 @@ are_small pipeline schedule accepted =
     let each = each_small pipeline.funcs schedule.funcs accepted.plans in
     record { stages = small_at schedule.funcs each; each = each }
 
-all_at : {A : Type 0} (P : A → Type 0) (xs : List A) → ((place : ℕ) (x : A) → slice_get xs place ≡ Some x → P x) → AllByRecursion P xs
+all_at : {A : Type 0} (P : A → Type 0) (xs : List A) → ((func_index : ℕ) (x : A) → slice_get xs func_index ≡ Some x → P x) → AllByRecursion P xs
 all_at P [] each = tt
-all_at P (x ∷ xs) each = (each 0 x refl, all_at P xs (λ place y e. each (suc place) y e))
+all_at P (x ∷ xs) each = (each 0 x refl, all_at P xs (λ func_index y e. each (suc func_index) y e))
 
 pub are_inputs : (pipeline : Pipeline) → IsWellFormed pipeline → AreInputs pipeline.inputs
 are_inputs pipeline rules = all_at IsInput pipeline.inputs rules.inputs

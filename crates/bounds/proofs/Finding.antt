@@ -18,24 +18,24 @@ no-lt a b l = grind (arith, nat_tests)
 
 -- ---- in a list
 
-found : (start : ℕ) (sizes : List ℕ) (place offset n : ℕ) → offset < slice_index sizes place → start + n ≡ slice_index (placed start sizes) place + offset
-    → find sizes n ≡ Some (record { place = place; offset = offset })
+found : (start : ℕ) (sizes : List ℕ) (func_index offset n : ℕ) → offset < slice_index sizes func_index → start + n ≡ slice_index (placed start sizes) func_index + offset
+    → find sizes n ≡ Some (record { place = func_index; offset = offset })
 found start [] zero offset n l e = absurd (omega (arith, l))
-found start [] (suc place) offset n l e = absurd (omega (arith, l))
+found start [] (suc func_index) offset n l e = absurd (omega (arith, l))
 found start (size ∷ sizes) zero offset n l e =
     let q : n ≡ offset = omega (arith, e) in
     rw (is-lt n size (omega (arith, q, l))) (ap (λ k. Some (record { place = 0; offset = k })) q)
-found start (size ∷ sizes) (suc place) offset n l e =
-    let b = begins (start + size) sizes place offset l in
-    let q : start + size + (n - size) ≡ slice_index (placed (start + size) sizes) place + offset = omega (arith, e, b) in
-    let r = found (start + size) sizes place offset (n - size) l q in
+found start (size ∷ sizes) (suc func_index) offset n l e =
+    let b = begins (start + size) sizes func_index offset l in
+    let q : start + size + (n - size) ≡ slice_index (placed (start + size) sizes) func_index + offset = omega (arith, e, b) in
+    let r = found (start + size) sizes func_index offset (n - size) l q in
     rw (no-lt n size (omega (arith, e, b))) (ap further r)
   where
-    begins : (start : ℕ) (sizes : List ℕ) (place offset : ℕ) → offset < slice_index sizes place → start ≤ slice_index (placed start sizes) place
+    begins : (start : ℕ) (sizes : List ℕ) (func_index offset : ℕ) → offset < slice_index sizes func_index → start ≤ slice_index (placed start sizes) func_index
     begins start [] zero offset l = absurd (omega (arith, l))
-    begins start [] (suc place) offset l = absurd (omega (arith, l))
+    begins start [] (suc func_index) offset l = absurd (omega (arith, l))
     begins start (size ∷ sizes) zero offset l = omega arith
-    begins start (size ∷ sizes) (suc place) offset l = let b = begins (start + size) sizes place offset l in omega (arith, b)
+    begins start (size ∷ sizes) (suc func_index) offset l = let b = begins (start + size) sizes func_index offset l in omega (arith, b)
 
 passed : (sizes : List ℕ) (n : ℕ) → total sizes ≤ n → find sizes n ≡ None
 passed [] n l = refl
@@ -56,13 +56,13 @@ parts-aligned start (size ∷ sizes) zero l e a = e
 parts-aligned start (size ∷ sizes) (suc place) l e a = parts-aligned (start + size) sizes place (omega (arith, l)) (let f = a.0 in omega (arith, e, f)) a.1
 
 -- a byte of a part lies in the list
-within : (start : ℕ) (sizes : List ℕ) (place offset : ℕ) → offset < slice_index sizes place → (start ≤ slice_index (placed start sizes) place + offset)
-    × (slice_index (placed start sizes) place + offset < start + total sizes)
+within : (start : ℕ) (sizes : List ℕ) (func_index offset : ℕ) → offset < slice_index sizes func_index → (start ≤ slice_index (placed start sizes) func_index + offset)
+    × (slice_index (placed start sizes) func_index + offset < start + total sizes)
 within start [] zero offset l = absurd (omega (arith, l))
-within start [] (suc place) offset l = absurd (omega (arith, l))
+within start [] (suc func_index) offset l = absurd (omega (arith, l))
 within start (size ∷ sizes) zero offset l = (omega (arith, l), omega (arith, l))
-within start (size ∷ sizes) (suc place) offset l =
-    let b = within (start + size) sizes place offset l in
+within start (size ∷ sizes) (suc func_index) offset l =
+    let b = within (start + size) sizes func_index offset l in
     let b0 = b.0 in
     let b1 = b.1 in
     (omega (arith, b0), omega (arith, b1))
@@ -141,9 +141,9 @@ frames-found s n =
 
 -- ---- and the other way
 
-record LiesIn (start : ℕ) (sizes : List ℕ) (n place offset : ℕ) : Type 0 where
-  below : offset < slice_index sizes place
-  there : start + n ≡ slice_index (placed start sizes) place + offset
+record LiesIn (start : ℕ) (sizes : List ℕ) (n func_index offset : ℕ) : Type 0 where
+  below : offset < slice_index sizes func_index
+  there : start + n ≡ slice_index (placed start sizes) func_index + offset
 
 abbrev place_or : Option Found → ℕ
 place_or None = 0
@@ -153,27 +153,27 @@ abbrev offset_or : Option Found → ℕ
 offset_or None = 0
 offset_or (Some f) = f.offset
 
-lies-later : (start size : ℕ) (sizes : List ℕ) (n place offset : ℕ) → size ≤ n → (f : Option Found) → find sizes (n - size) ≡ f
-    → further f ≡ Some (record { place = place; offset = offset })
+lies-later : (start size : ℕ) (sizes : List ℕ) (n func_index offset : ℕ) → size ≤ n → (f : Option Found) → find sizes (n - size) ≡ f
+    → further f ≡ Some (record { place = func_index; offset = offset })
     → ((p o : ℕ) → find sizes (n - size) ≡ Some (record { place = p; offset = o }) → LiesIn (start + size) sizes (n - size) p o)
-    → LiesIn start (size ∷ sizes) n place offset
-lies-later start size sizes n place offset b None e q next = absurd (cc q)
-lies-later start size sizes n place offset b (Some f) e q next =
-    let place_is : suc f.place ≡ place = ap place_or q in
+    → LiesIn start (size ∷ sizes) n func_index offset
+lies-later start size sizes n func_index offset b None e q next = absurd (cc q)
+lies-later start size sizes n func_index offset b (Some f) e q next =
+    let place_is : suc f.place ≡ func_index = ap place_or q in
     let offset_is : f.offset ≡ offset = ap offset_or q in
     let r = next f.place f.offset e in
     let t = r.there in
     subst (λ p. LiesIn start (size ∷ sizes) n p offset) place_is
     (subst (λ o. LiesIn start (size ∷ sizes) n (suc f.place) o) offset_is (record { below = r.below; there = omega (arith, t, b) }))
 
-lies-in : (start : ℕ) (sizes : List ℕ) (n place offset : ℕ) → find sizes n ≡ Some (record { place = place; offset = offset })
-    → LiesIn start sizes n place offset
-lies-in start [] n place offset e = absurd (cc e)
-lies-in start (size ∷ sizes) n place offset e = elim (cases_lt n size) [
+lies-in : (start : ℕ) (sizes : List ℕ) (n func_index offset : ℕ) → find sizes n ≡ Some (record { place = func_index; offset = offset })
+    → LiesIn start sizes n func_index offset
+lies-in start [] n func_index offset e = absurd (cc e)
+lies-in start (size ∷ sizes) n func_index offset e = elim (cases_lt n size) [
   | inl b ↦
-      let q : Some (record { place = 0; offset = n }) ≡ Some (record { place = place; offset = offset }) =
+      let q : Some (record { place = 0; offset = n }) ≡ Some (record { place = func_index; offset = offset }) =
       sym (ap (λ t. if t then Some (record { place = 0; offset = n }) else further (find sizes (n - size))) (is-lt n size b)) ∙ e in
-      let place_is : 0 ≡ place = ap place_or q in
+      let place_is : 0 ≡ func_index = ap place_or q in
       let offset_is : n ≡ offset = ap offset_or q in
       subst (λ p. LiesIn start (size ∷ sizes) n p offset) place_is (subst (λ o. LiesIn start (size ∷ sizes) n 0 o) offset_is (record {
         below = b;
@@ -181,16 +181,16 @@ lies-in start (size ∷ sizes) n place offset e = elim (cases_lt n size) [
             refl;
       }))
   | inr b ↦
-      let q : further (find sizes (n - size)) ≡ Some (record { place = place; offset = offset }) =
+      let q : further (find sizes (n - size)) ≡ Some (record { place = func_index; offset = offset }) =
       sym (ap (λ t. if t then Some (record { place = 0; offset = n }) else further (find sizes (n - size))) (no-lt n size b)) ∙ e in
-      lies-later start size sizes n place offset b (find sizes (n - size)) refl q (λ p o. lies-in (start + size) sizes (n - size) p o)
+      lies-later start size sizes n func_index offset b (find sizes (n - size)) refl q (λ p o. lies-in (start + size) sizes (n - size) p o)
 ]
 
 further-none : (f : Option Found) → further f ≡ None → f ≡ None
 further-none None e = refl
 further-none (Some f) e = absurd (cc e)
 
--- what no part of a list has stands after the list
+-- what no part of a list has is after the list
 behind : (sizes : List ℕ) (n : ℕ) → find sizes n ≡ None → total sizes ≤ n
 behind [] n e = omega arith
 behind (size ∷ sizes) n e = elim (cases_lt n size) [
@@ -214,34 +214,35 @@ root_offset (Root place offset) = offset
 root_offset _ = 0
 
 module _ (s : Sizes) where
-  no-private : (n place offset : ℕ) (f : Option Found) → found_or Copies f (Frame ((n - total s.privates) / 4096)) ≡ Root place offset → ⊥
-  no-private n place offset None e = cc e
-  no-private n place offset (Some f) e = cc e
+  no-private : (n func_index offset : ℕ) (f : Option Found) → found_or Copies f (Frame ((n - total s.privates) / 4096)) ≡ Root func_index offset → ⊥
+  no-private n func_index offset None e = cc e
+  no-private n func_index offset (Some f) e = cc e
 
-  lies-roots : (n place offset : ℕ) (f : Option Found) → find s.roots n ≡ f → found_or Root f (in_privates s (n - total s.roots)) ≡ Root place offset
-      → LiesIn (roots_at s) s.roots n place offset
-  lies-roots n place offset None e q = absurd (no-private (n - total s.roots) place offset (find s.privates (n - total s.roots)) q)
-  lies-roots n place offset (Some f) e q =
-      let place_is : f.place ≡ place = ap root_place q in
+  lies-roots : (n func_index offset : ℕ) (f : Option Found) → find s.roots n ≡ f → found_or Root f (in_privates s (n - total s.roots)) ≡ Root func_index offset
+      → LiesIn (roots_at s) s.roots n func_index offset
+  lies-roots n func_index offset None e q = absurd (no-private (n - total s.roots) func_index offset (find s.privates (n - total s.roots)) q)
+  lies-roots n func_index offset (Some f) e q =
+      let place_is : f.place ≡ func_index = ap root_place q in
       let offset_is : f.offset ≡ offset = ap root_offset q in
       subst (λ p. LiesIn (roots_at s) s.roots n p offset) place_is
       (subst (λ o. LiesIn (roots_at s) s.roots n f.place o) offset_is (lies-in (roots_at s) s.roots n f.place f.offset e))
 
-  lies-inputs : (n place offset : ℕ) (f : Option Found) → find s.inputs n ≡ f → found_or Input f (in_roots s (n - total s.inputs)) ≡ Root place offset
-      → (total s.inputs ≤ n) × LiesIn (roots_at s) s.roots (n - total s.inputs) place offset
-  lies-inputs n place offset None e q = (behind s.inputs n e, lies-roots (n - total s.inputs) place offset (find s.roots (n - total s.inputs)) refl q)
-  lies-inputs n place offset (Some f) e q = absurd (cc q)
+  lies-inputs : (n func_index offset : ℕ) (f : Option Found) → find s.inputs n ≡ f → found_or Input f (in_roots s (n - total s.inputs)) ≡ Root func_index offset
+      → (total s.inputs ≤ n) × LiesIn (roots_at s) s.roots (n - total s.inputs) func_index offset
+  lies-inputs n func_index offset None e q = (behind s.inputs n e, lies-roots (n - total s.inputs) func_index offset (find s.roots (n - total s.inputs)) refl q)
+  lies-inputs n func_index offset (Some f) e q = absurd (cc q)
 
-  lies-data : (n place offset : ℕ) → in_data s n ≡ Root place offset → LiesAt s (data_start + n) place offset
-  lies-data n place offset e = elim (cases_lt n (8 * s.phases)) [
+  lies-data : (n func_index offset : ℕ) → in_data s n ≡ Root func_index offset
+      → LiesAt s (data_start + n) func_index offset
+  lies-data n func_index offset e = elim (cases_lt n (8 * s.phases)) [
     | inl b ↦
-        let q : Control (n / 8) ≡ Root place offset = sym (ap (λ t. if t then Control (n / 8) else in_inputs s (n - 8 * s.phases)) (is-lt n (8 * s.phases) b))
+        let q : Control (n / 8) ≡ Root func_index offset = sym (ap (λ t. if t then Control (n / 8) else in_inputs s (n - 8 * s.phases)) (is-lt n (8 * s.phases) b))
         ∙ e in
         absurd (cc q)
     | inr b ↦
-        let q : in_inputs s (n - 8 * s.phases) ≡ Root place offset = sym (ap (λ t. if t then Control (n / 8) else in_inputs s (n - 8 * s.phases))
+        let q : in_inputs s (n - 8 * s.phases) ≡ Root func_index offset = sym (ap (λ t. if t then Control (n / 8) else in_inputs s (n - 8 * s.phases))
         (no-lt n (8 * s.phases) b)) ∙ e in
-        let r = lies-inputs (n - 8 * s.phases) place offset (find s.inputs (n - 8 * s.phases)) refl q in
+        let r = lies-inputs (n - 8 * s.phases) func_index offset (find s.inputs (n - 8 * s.phases)) refl q in
         let l = r.0 in
         let t = r.1.there in
         record { below = r.1.below; address_is = omega (arith, b, l, t) }

@@ -14,12 +14,12 @@ short lasts range fits near =
     let parts = and_parts (nat_le (origin - 2 ^ 24) ends.low) (nat_le ends.high (origin + 2 ^ 24)) near in
     omega (arith, fits.low, fits.high, leb-true (origin - 2 ^ 24) ends.low parts.0, leb-true ends.high (origin + 2 ^ 24) parts.1)
 
-pub short_x : (own : SourceBox) → IsBox own → own.x.high ≤ own.x.low + 2 ^ 25
-short_x own is = short own.lasts own.x is.x (and_parts (are_near (widened own.lasts own.x)) (are_near (widened own.lasts own.y)) is.near).0
+pub short_x : (source_box : SourceBox) → IsBox source_box → source_box.x.high ≤ source_box.x.low + 2 ^ 25
+short_x source_box is = short source_box.lasts source_box.x is.x (and_parts (are_near (widened source_box.lasts source_box.x)) (are_near (widened source_box.lasts source_box.y)) is.near).0
 
-pub short_y : (own : SourceBox) → IsBox own → own.y.high ≤ own.y.low + 2 ^ 25
-short_y own is = short own.lasts own.y is.y (and_parts (are_near (widened own.lasts own.x)) (are_near (widened own.lasts own.y)) is.near).1
+pub short_y : (source_box : SourceBox) → IsBox source_box → source_box.y.high ≤ source_box.y.low + 2 ^ 25
+short_y source_box is = short source_box.lasts source_box.y is.y (and_parts (are_near (widened source_box.lasts source_box.x)) (are_near (widened source_box.lasts source_box.y)) is.near).1
 
-pub is_box : (own : Option SourceBox) → IsFitBox own → stays own ≡ true → IsBoxOrNone own
+pub is_box : (source_box : Option SourceBox) → IsFitBox source_box → stays source_box ≡ true → IsBoxOrNone source_box
 is_box None fits near = tt
-is_box (Some own) fits near = record { x = fits.0; y = fits.1; near = near }
+is_box (Some source_box) fits near = record { x = fits.0; y = fits.1; near = near }

@@ -36,13 +36,14 @@ abbrev pub are_near : Ends → Bool
 are_near ends = nat_le (origin - 2 ^ 24) ends.low && nat_le ends.high (origin + 2 ^ 24)
 
 abbrev pub is_near : SourceBox → Bool
-is_near own = are_near (widened own.lasts own.x) && are_near (widened own.lasts own.y)
+is_near source_box = are_near (widened source_box.lasts source_box.x) && are_near
+    (widened source_box.lasts source_box.y)
 
 -- what boxes keep
-pub record IsBox (own : SourceBox) : Type 0 where
-  pub x : IsFit own.lasts own.x
-  pub y : IsFit own.lasts own.y
-  pub near : is_near own ≡ true
+pub record IsBox (source_box : SourceBox) : Type 0 where
+  pub x : IsFit source_box.lasts source_box.x
+  pub y : IsFit source_box.lasts source_box.y
+  pub near : is_near source_box ≡ true
 
 abbrev pub IsBoxOrNone : Option SourceBox → Type 0
 IsBoxOrNone None = Unit {0}
@@ -58,7 +59,7 @@ abbrev pub AreBoxes : List (Option SourceBox) → Type 0
 AreBoxes boxes = AllByRecursion IsBoxOrNone boxes
 
 abbrev pub in_front : Option SourceBox → List (Option SourceBox) → Option (List (Option SourceBox))
-in_front own behind = if stays own then Some (own ∷ behind) else None
+in_front source_box later_boxes = if stays source_box then Some (source_box ∷ later_boxes) else None
 
 -- ---- A box is the hull of all ranges in which its source is read. Each dimension is alone. For a Func at a loop all ranges
 -- are widened first if any two of them differ in base; for all others each range is widened.
@@ -83,7 +84,7 @@ with_range lasts None range = range
 with_range lasts (Some own) range = together lasts hull own range
 
 abbrev pub joined : List ℕ → Bool → Option Range → Range → Option Range
-joined lasts counts own range = if counts then Some (with_range lasts own range) else own
+joined lasts counts own_range range = if counts then Some (with_range lasts own_range range) else own_range
 
 -- with one read, of whose dimensions these count
 abbrev pub with_read : Option ConsumerLoop → List ℕ → Bool → Bool → Spread → ReadRange → Spread

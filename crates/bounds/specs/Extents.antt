@@ -15,7 +15,7 @@ extent range = range.high + 1 - range.low
 
 -- how many points a box has, in one iteration
 abbrev pub points : SourceBox → ℕ
-points own = extent own.x * extent own.y
+points source_box = extent source_box.x * extent source_box.y
 
 abbrev pub box_in : Option (Option SourceBox) → Option SourceBox
 box_in None = None
@@ -23,18 +23,18 @@ box_in (Some own) = own
 
 -- how many values the arguments take in a box
 abbrev pub extents_of : SourceBox → Extents
-extents_of own = record { first_argument = extent own.x; second_argument = extent own.y; first_reduction = 0; second_reduction = 0 }
+extents_of source_box = record { first_argument = extent source_box.x; second_argument = extent source_box.y; first_reduction = 0; second_reduction = 0 }
 
 -- how many values each variable of an update takes, over a box
 abbrev pub update_extents : SourceBox → Update → Extents
-update_extents own update = record {
-  first_argument = extent own.x;
-  second_argument = extent own.y;
+update_extents source_box update = record {
+  first_argument = extent source_box.x;
+  second_argument = extent source_box.y;
   first_reduction = update.first.extent;
   second_reduction = second_extent update.second;
 }
 
--- the word that stands at an end of a range: ends are numbers counted from the least one
+-- the word that is at an end of a range: ends are numbers counted from the least one
 abbrev pub word_at : ℕ → ℕ
 word_at end = (end - least + 2 ^ 31) % 2 ^ 32
 

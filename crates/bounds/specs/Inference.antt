@@ -16,7 +16,7 @@ use Rattle.halide_pipeline.specs.declared.definitions.Reduction.{Reduction}
 use Rattle.halide_pipeline.specs.declared.expressions.Expr.{Expr}
 use Rattle.schedule.specs.declared.plans.FuncPlan.{FuncPlan}
 use Rattle.schedule.specs.declared.schedules.Schedule.{Schedule}
-use Rattle.schedule.specs.declared.placements.LoopPlace.{LoopPlace}
+use Rattle.schedule.specs.declared.placements.LoopPosition.{LoopPosition}
 use Rattle.schedule.specs.declared.placements.ComputeLevel.{ComputeLevel}
 use Rattle.schedule.specs.declared.placements.ComputeLevel.TheVariants as places
 use Rattle.schedule.specs.declared.placements.FuncPlacement.{FuncPlacement}
@@ -37,7 +37,7 @@ use Rattle.bounds.specs.Views.{consumer_loop, view_of}
 
 -- a reduction variable has its values one after the other, from the least
 abbrev pub reduction_range : List ℕ → Reduction → Range
-reduction_range lasts own = fit lasts no_base (record { low = spot own.minimum; high = spot own.minimum + (own.extent - 1) })
+reduction_range lasts reduction = fit lasts no_base (record { low = spot reduction.minimum; high = spot reduction.minimum + (reduction.extent - 1) })
 
 abbrev pub second_range : List ℕ → Option Reduction → Range
 second_range lasts None = literal lasts 0
@@ -61,24 +61,24 @@ update_variables view update = record {
 }
 
 abbrev pub own_calls : ℕ → Update → OwnCalls
-own_calls place update = record { func = place; first_in_place = is_first_in_place update; second_in_place = is_second_in_place update }
+own_calls func_index update = record { func = func_index; first_in_place = is_first_in_place update; second_in_place = is_second_in_place update }
 
-module _ (inputs : List Input) (funcs : List Func) (flags : List Bool) (place : ℕ) (view : SourceBox) where
+module _ (inputs : List Input) (funcs : List Func) (flags : List Bool) (func_index : ℕ) (view : SourceBox) where
   -- ---- an update: its left indexes, in which arguments out of place may be anywhere, and its right side. The left side is a read
   -- of the own Func at its indexes.
 
   unfoldable pub left : Update → Expr → Ranged
-  left update index = walked_update view.lasts inputs flags funcs place (own_calls place update) true (update_variables view update) index
+  left update index = walked_update view.lasts inputs flags funcs func_index (own_calls func_index update) true (update_variables view update) index
 
   abbrev pub second_left : Update → Option Expr → Ranged
   second_left update None = record { range = literal view.lasts 0; asked = [] }
   second_left update (Some index) = left update index
 
   unfoldable pub right : Update → Ranged
-  right update = walked_update view.lasts inputs flags funcs (suc place) (own_calls place update) false (update_variables view update) update.right
+  right update = walked_update view.lasts inputs flags funcs (suc func_index) (own_calls func_index update) false (update_variables view update) update.right
 
   abbrev pub left_read : Update → ReadRange
-  left_read update = record { source = sources.Func place; x = (left update update.left_x).range; y = (second_left update update.left_y).range }
+  left_read update = record { source = sources.Func func_index; x = (left update update.left_x).range; y = (second_left update update.left_y).range }
 
   unfoldable pub update_asked : Update → List ReadRange
   update_asked update =
@@ -90,7 +90,7 @@ module _ (inputs : List Input) (funcs : List Func) (flags : List Bool) (place : 
 
   -- ---- all of the Func at this place
   unfoldable pub func_asked : Func → List ReadRange
-  func_asked func = (walked view.lasts inputs flags funcs place (pure_variables view) func.pure).asked ++ updates_asked func.updates
+  func_asked func = (walked view.lasts inputs flags funcs func_index (pure_variables view) func.pure).asked ++ updates_asked func.updates
 
 -- ---- what a Func reads of itself out of place doesn't depend on its box: its arguments may be anywhere
 
@@ -100,7 +100,7 @@ anywhere = fit no_loops no_base (record { low = origin - 2 ^ 24; high = origin +
 abbrev pub unplaced : SourceBox
 unplaced = record { x = anywhere; y = anywhere; lasts = no_loops }
 
--- ---- the output's picture is wanted: so many pixels from 0 on
+-- ---- the output's picture is wanted: this many pixels from 0 on
 
 abbrev pub pixels_range : List ℕ → ℕ → Range
 pixels_range lasts count = fit lasts no_base (record { low = origin; high = origin + (count - 1) })
@@ -114,13 +114,13 @@ wanted output at consumer =
 
 -- the box of the Func at a place, among those from another place on
 abbrev pub box_at : ℕ → ℕ → List (Option SourceBox) → Option SourceBox
-box_at place at [] = None
-box_at place at (first ∷ others) = if at == place then first else box_at place (at + 1) others
+box_at func_index at [] = None
+box_at func_index at (first ∷ others) = if at == func_index then first else box_at func_index (at + 1) others
 
-abbrev pub consumer_of : LoopPlace → Option FuncPlan → Option SourceBox → Option ConsumerLoop
-consumer_of place None own = None
-consumer_of place (Some plan) None = None
-consumer_of place (Some plan) (Some own) = Some (consumer_loop plan own place.inside)
+abbrev pub consumer_of : LoopPosition → Option FuncPlan → Option SourceBox → Option ConsumerLoop
+consumer_of position None source_box = None
+consumer_of position (Some plan) None = None
+consumer_of position (Some plan) (Some source_box) = Some (consumer_loop plan source_box position.inside)
 
 -- ---- what a Func with updates reads of itself: its left indexes and its own calls, where they don't stand in place
 
@@ -204,7 +204,7 @@ module _ (pipeline : Pipeline) (schedule : Schedule) (flags : List Bool) where
   inputs_from boxes place [] = Some []
   inputs_from boxes place (input ∷ others) = with_input boxes place (inputs_from boxes (place + 1) others)
 
--- ---- there are so many boxes
+-- ---- there are this many boxes
 
 abbrev pub HasCount : ℕ → Option (List (Option SourceBox)) → Type 0
 HasCount count None = Unit {0}

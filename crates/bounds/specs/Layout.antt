@@ -28,13 +28,13 @@ input_bytes input = if input.is_bytes then (input.width * input.height + 3) / 4 
 
 -- the box of a Func, if it is computed at root
 abbrev pub root_bytes : ComputeLevel → Option SourceBox → ℕ
-root_bytes places.Root (Some own) = points own * 4
-root_bytes _ own = 0
+root_bytes places.Root (Some source_box) = points source_box * 4
+root_bytes _ source_box = 0
 
 -- all copies of it, if it is computed at a loop
 abbrev pub private_bytes : ComputeLevel → Option SourceBox → ℕ
-private_bytes (places.At place) (Some own) = points own * 4 * 8
-private_bytes _ own = 0
+private_bytes (places.At place) (Some source_box) = points source_box * 4 * 8
+private_bytes _ source_box = 0
 
 abbrev pub root_sizes : List FuncPlacement → List (Option SourceBox) → List ℕ
 root_sizes [] boxes = []
@@ -52,8 +52,8 @@ frame_bytes is_needed = if is_needed then 8 * 4096 else 0
 -- ---- phases: the stages of Funcs computed at root
 
 abbrev pub phases_of : ComputeLevel → Func → Option SourceBox → ℕ
-phases_of places.Root func (Some own) = length func.updates + 1
-phases_of _ func own = 0
+phases_of places.Root func (Some source_box) = length func.updates + 1
+phases_of _ func source_box = 0
 
 abbrev pub phases : List FuncPlacement → List Func → List (Option SourceBox) → ℕ
 phases [] funcs boxes = 0

@@ -22,13 +22,13 @@ sizes_of pipeline schedule boxes = record {
   privates = private_sizes schedule.standings boxes;
 }
 
--- what a byte is part of, and where it stands there
+-- what a byte is part of, and where it is there
 pub data Part : Type 0 where
   -- the ticket word and the gate word of a phase
   Control : (phase : ℕ) → Part
-  Input : (place offset : ℕ) → Part
-  Root : (place offset : ℕ) → Part
-  Copies : (place offset : ℕ) → Part
+  Input : (func_index offset : ℕ) → Part
+  Root : (func_index offset : ℕ) → Part
+  Copies : (func_index offset : ℕ) → Part
   Frame : (hart : ℕ) → Part
   Outside : Part
 

@@ -13,6 +13,6 @@ pub record PlanContents : Type 0 where
   pub boxes : Boxes
 
 -- The schedule is accepted, and the boxes are those that are inferred.
-pub record IsPlan (own : PlanContents) : Type 0 where
-  pub accepted : IsAccepted own.pipeline own.schedule
-  pub boxes : inferred own.pipeline own.schedule ≡ Ok own.boxes
+pub record IsPlan (plan_contents : PlanContents) : Type 0 where
+  pub accepted : IsAccepted plan_contents.pipeline plan_contents.schedule
+  pub boxes : inferred plan_contents.pipeline plan_contents.schedule ≡ Ok plan_contents.boxes

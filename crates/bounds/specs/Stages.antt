@@ -23,13 +23,13 @@ use Rattle.schedule_lines.specs.declared.stages.Stage.{Stage}
 use Rattle.schedule_loops.specs.Visits.{points_written, iteration_count, owns, Visit}
 
 -- A Func that the output reaches and that is computed there, with its loops and its box.
-pub record IsComputedAt (pipeline : Pipeline) (schedule : Schedule) (boxes : Boxes) (placed : ComputeLevel) (place : ℕ) (func : Func) (plan : FuncPlan)
-    (own : SourceBox) : Type 0 where
-  pub func_is : slice_get pipeline.funcs place ≡ Some func
-  pub plan_is : slice_get schedule.funcs place ≡ Some plan
-  pub box_is : slice_get boxes.funcs place ≡ Some (Some own)
+pub record IsComputedAt (pipeline : Pipeline) (schedule : Schedule) (boxes : Boxes) (placed : ComputeLevel) (func_index : ℕ) (func : Func) (plan : FuncPlan)
+    (source_box : SourceBox) : Type 0 where
+  pub func_is : slice_get pipeline.funcs func_index ≡ Some func
+  pub plan_is : slice_get schedule.funcs func_index ≡ Some plan
+  pub box_is : slice_get boxes.funcs func_index ≡ Some (Some source_box)
   pub standing : FuncPlacement
-  pub there : IsReached schedule.standings place standing
+  pub there : IsReached schedule.standings func_index standing
   pub placed_is : standing.place ≡ placed
 
 abbrev pub IsAtRoot : Pipeline → Schedule → Boxes → ℕ → Func → FuncPlan → SourceBox → Type 0
@@ -47,40 +47,40 @@ is_point x y point = point.0 == x && point.1 == y
 
 -- The left side names the point at a visit of the iteration with this number, where Funcs have their pixels.
 abbrev pub names : Pipeline → Planes → ℕ → SourceBox → Update → Stage → ℕ → ℕ → ℕ → Bool
-names pipeline inputs place own update stage number x y =
-    list_any (is_point x y) (points_written (named_point (reads_of inputs (pixels pipeline.funcs inputs place)) (corner_of (Some own)) update)
-    (update_extents own update) stage number)
+names pipeline inputs func_index source_box update stage number x y =
+    list_any (is_point x y) (points_written (named_point (reads_of inputs (pixels pipeline.funcs inputs func_index)) (corner_of (Some source_box)) update)
+    (update_extents source_box update) stage number)
 
 -- ---- which stages there are
 
 -- a stage of the Func at a place: 0 is its pure definition, and its updates follow
-pub record StagePlace : Type 0 where
+pub record StagePosition : Type 0 where
   pub func : ℕ
   pub number : ℕ
 
--- the first so many of a Func
-abbrev pub stages_to : ℕ → ℕ → List StagePlace
+-- the first this many of a Func
+abbrev pub stages_to : ℕ → ℕ → List StagePosition
 stages_to func zero = []
 stages_to func (suc number) = stages_to func number ++ record { func = func; number = number } ∷ []
 
-abbrev pub stages_where : ComputeLevel → Func → Option SourceBox → ℕ → List StagePlace
-stages_where places.Root func (Some own) place = stages_to place (suc (length func.updates))
-stages_where _ func own place = []
+abbrev pub stages_where : ComputeLevel → Func → Option SourceBox → ℕ → List StagePosition
+stages_where places.Root func (Some source_box) func_index = stages_to func_index (suc (length func.updates))
+stages_where _ func source_box func_index = []
 
-abbrev pub stages_at : ℕ → Option FuncPlacement → Option Func → Option (Option SourceBox) → List StagePlace
-stages_at place None func own = []
-stages_at place (Some standing) None own = []
-stages_at place (Some standing) (Some func) None = []
-stages_at place (Some standing) (Some func) (Some own) = stages_where standing.place func own place
+abbrev pub stages_at : ℕ → Option FuncPlacement → Option Func → Option (Option SourceBox) → List StagePosition
+stages_at func_index None func own = []
+stages_at func_index (Some standing) None own = []
+stages_at func_index (Some standing) (Some func) None = []
+stages_at func_index (Some standing) (Some func) (Some own) = stages_where standing.place func own func_index
 
 module _ (pipeline : Pipeline) (schedule : Schedule) (boxes : Boxes) where
-  -- of the first so many Funcs
-  abbrev pub stages_below : ℕ → List StagePlace
+  -- of the first this many Funcs
+  abbrev pub stages_below : ℕ → List StagePosition
   stages_below zero = []
   stages_below (suc place) = stages_below place
       ++ stages_at place (slice_get schedule.standings place) (slice_get pipeline.funcs place) (slice_get boxes.funcs place)
 
-  abbrev pub stages : List StagePlace
+  abbrev pub stages : List StagePosition
   stages = stages_below (length pipeline.funcs)
 
   -- ---- their iterations
@@ -99,7 +99,7 @@ module _ (pipeline : Pipeline) (schedule : Schedule) (boxes : Boxes) where
   iterations_in _ plan own number = 0
 
   -- how many a stage has
-  abbrev pub iterations : StagePlace → ℕ
+  abbrev pub iterations : StagePosition → ℕ
   iterations stage = iterations_in (slice_get pipeline.funcs stage.func) (slice_get schedule.funcs stage.func) (slice_get boxes.funcs stage.func) stage.number
 
   -- ---- the points that they write
@@ -120,7 +120,7 @@ module _ (pipeline : Pipeline) (schedule : Schedule) (boxes : Boxes) where
 
   -- The iteration with this number of a stage writes the point, counted from the corner of the Func's box, where inputs hold this: of a pure
   -- definition those that it visits, of an update those that the left side names at a reduction point, where arguments in place lie in it.
-  abbrev pub writes : Planes → StagePlace → ℕ → ℕ → ℕ → Bool
+  abbrev pub writes : Planes → StagePosition → ℕ → ℕ → ℕ → Bool
   writes inputs stage iteration x y =
       writes_in inputs stage.func (slice_get pipeline.funcs stage.func) (slice_get schedule.funcs stage.func) (slice_get boxes.funcs stage.func) stage.number
       iteration x y

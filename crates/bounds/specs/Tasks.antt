@@ -14,13 +14,14 @@ use Rattle.bounds.specs.declared.boxes.SourceBox.{SourceBox}
 use Rattle.bounds.specs.Extents.{box_in, extents_of, update_extents}
 
 abbrev pub update_tasks : SourceBox → Option Update → Option Stage → Option ℕ
-update_tasks own None stage = None
-update_tasks own (Some update) None = None
-update_tasks own (Some update) (Some stage) = Some (iteration_count (update_extents own update) stage)
+update_tasks source_box None stage = None
+update_tasks source_box (Some update) None = None
+update_tasks source_box (Some update) (Some stage) = Some (iteration_count (update_extents source_box update) stage)
 
 abbrev pub stage_tasks : SourceBox → Func → FuncPlan → Option ℕ → Option ℕ
-stage_tasks own func plan None = Some (iteration_count (extents_of own) plan.pure)
-stage_tasks own func plan (Some at) = update_tasks own (slice_get func.updates at) (slice_get plan.updates at)
+stage_tasks source_box func plan None = Some (iteration_count (extents_of source_box) plan.pure)
+stage_tasks source_box func plan (Some at) = update_tasks source_box (slice_get func.updates at)
+    (slice_get plan.updates at)
 
 abbrev pub func_tasks : Option SourceBox → Option Func → Option FuncPlan → Option ℕ → Option ℕ
 func_tasks None func plan update = None

@@ -1,4 +1,4 @@
--- The boxes of an algorithm under a schedule, or the first fault that stands.
+-- The boxes of an algorithm under a schedule, or the first fault that there is.
 --
 -- The faults are judged in order: a box leaves -2^24 to 2^24; an input is read outside its extents; a shifted split is of a loop below
 -- its factor; a box or the data are too large.
@@ -29,7 +29,8 @@ abbrev pub is_within : List ℕ → Range → ℕ → Bool
 is_within lasts range extent = nat_le origin (widened lasts range).low && nat_lt (widened lasts range).high (origin + extent)
 
 abbrev pub input_holds : Input → SourceBox → Bool
-input_holds input own = is_within own.lasts own.x input.width && is_within own.lasts own.y input.height
+input_holds input source_box = is_within source_box.lasts source_box.x input.width && is_within source_box.lasts
+    source_box.y input.height
 
 abbrev pub inputs_hold : List Input → List (Option SourceBox) → Bool
 inputs_hold [] boxes = true

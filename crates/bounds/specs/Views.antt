@@ -54,7 +54,7 @@ unfoldable pub consumer_loop_in : Extents → List Split → List Loop → LoopI
 consumer_loop_in extents splits loops id = record { inside = id; inner = inner_count id loops; lasts = lasts_in extents splits loops }
 
 abbrev pub consumer_loop : FuncPlan → SourceBox → LoopId → ConsumerLoop
-consumer_loop plan own id = consumer_loop_in (extents_of own) plan.pure.splits plan.pure.loops id
+consumer_loop plan source_box id = consumer_loop_in (extents_of source_box) plan.pure.splits plan.pure.loops id
 
 -- ---- arguments of the consumer
 
@@ -63,7 +63,7 @@ abbrev pub multiple_of : List Split → Variable → Option Loop → Multiple
 multiple_of splits variable None = zero_multiple
 multiple_of splits variable (Some own) = if same_variable own.variable variable then record { more = strides splits own.id; less = 0 } else zero_multiple
 
--- the loops from the one with so many inside it outward
+-- the loops from the one with this many inside it outward
 abbrev pub multiple_at : List Split → List Loop → Variable → ℕ → ℕ → Multiple
 multiple_at splits loops variable inner at = if nat_lt at inner then zero_multiple else multiple_of splits variable (slice_get loops at)
 
@@ -73,21 +73,21 @@ base_in splits loops variable inner =
     ∷ multiple_at splits loops variable inner 3 ∷ multiple_at splits loops variable inner 4 ∷ []
 
 -- An argument with this range is its least value, and what each of its loops adds: those outside into the base, those inside up to
--- the most that they can add. Where an uneven loop stands outside, it counts with its whole range.
+-- the most that they can add. Where an uneven loop is outside, it counts with its whole range.
 abbrev pub argument : List ℕ → Extents → List Split → List Loop → ℕ → Variable → Range → Range
 argument lasts extents splits loops inner variable range =
     if has_uneven splits variable (drop inner loops) then fit lasts no_base (ends_of range)
     else fit lasts (base_in splits loops variable inner) (record { low = range.low; high = range.low + reach extents splits variable (take inner loops) })
 
 unfoldable pub consumer_view_in : Extents → List Split → List Loop → ℕ → SourceBox → ConsumerLoop → SourceBox
-consumer_view_in extents splits loops inner own consumer = record {
-  x = argument consumer.lasts extents splits loops inner variables.FirstArgument own.x;
-  y = argument consumer.lasts extents splits loops inner variables.SecondArgument own.y;
+consumer_view_in extents splits loops inner source_box consumer = record {
+  x = argument consumer.lasts extents splits loops inner variables.FirstArgument source_box.x;
+  y = argument consumer.lasts extents splits loops inner variables.SecondArgument source_box.y;
   lasts = consumer.lasts;
 }
 
 abbrev pub consumer_view : Stage → SourceBox → ConsumerLoop → SourceBox
-consumer_view stage own consumer = consumer_view_in (extents_of own) stage.splits stage.loops (inner_count consumer.inside stage.loops) own consumer
+consumer_view stage source_box consumer = consumer_view_in (extents_of source_box) stage.splits stage.loops (inner_count consumer.inside stage.loops) source_box consumer
 
 -- ---- arguments of a Func that is computed at a loop itself: the loops inside take all their values
 
@@ -110,7 +110,7 @@ settled inner lasts range = record {
 }
 
 abbrev pub settled_box : ℕ → SourceBox → SourceBox
-settled_box inner own = record { x = settled inner own.lasts own.x; y = settled inner own.lasts own.y; lasts = own.lasts }
+settled_box inner source_box = record { x = settled inner source_box.lasts source_box.x; y = settled inner source_box.lasts source_box.y; lasts = source_box.lasts }
 
 -- ---- whichever it is
 
@@ -119,12 +119,12 @@ is_root_at None = false
 is_root_at (Some own) = is_root own.place
 
 abbrev pub view_at_root : Option FuncPlan → SourceBox → ConsumerLoop → SourceBox
-view_at_root None own consumer = own
-view_at_root (Some plan) own consumer = consumer_view plan.pure own consumer
+view_at_root None source_box consumer = source_box
+view_at_root (Some plan) source_box consumer = consumer_view plan.pure source_box consumer
 
 abbrev pub view_of : Option FuncPlan → Option FuncPlacement → SourceBox → Option ConsumerLoop → SourceBox
-view_of plan standing own None = own
-view_of plan standing own (Some consumer) = if is_root_at standing then view_at_root plan own consumer else settled_box consumer.inner own
+view_of plan placement source_box None = source_box
+view_of plan placement source_box (Some consumer) = if is_root_at placement then view_at_root plan source_box consumer else settled_box consumer.inner source_box
 
 -- ---- what stages of a schedule keep: few loops, and few splits by small factors
 

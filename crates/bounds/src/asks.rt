@@ -15,7 +15,7 @@ use bounds_ranges::ranges::{Ends, LEAST, Lasts, ORIGIN, Range, fit, literal};
 use halide_pipeline::{Expr, Func, Pipeline, Reduction, Source, Update};
 use std::alloc::AllocError;
 
-/// A Func as it reads: where it stands in its pipeline, and where its arguments lie.
+/// A Func as it reads: where it is in its pipeline, and where its arguments lie.
 #[derive(Clone, Copy)]
 pub struct ReadingFunc<'a> {
     pub pipeline: &'a Pipeline,
@@ -36,14 +36,14 @@ fn spot(word: u32) -> u64
 }
 
 /// The range of a reduction variable.
-fn reduction_range(lasts: &Lasts, own: &Reduction) -> Range
-    ensures value { result ≡ spec.reduction_range lasts.now own.now }
+fn reduction_range(lasts: &Lasts, reduction: &Reduction) -> Range
+    ensures value { result ≡ spec.reduction_range lasts.now reduction.now }
     ensures fits { IsFit lasts.now result }
 {
-    let low = spot(own.minimum);
+    let low = spot(reduction.minimum);
     let ends = Ends {
         low,
-        high: low + u64::from(own.extent.saturating_sub(1)),
+        high: low + u64::from(reduction.extent.saturating_sub(1)),
     };
     fit(lasts, no_base(), ends)
 }
@@ -92,11 +92,11 @@ fn update_variables(view: &SourceBox, update: &Update) -> Variables
     }
 }
 
-fn own_calls(place: usize, update: &Update) -> OwnCalls
-    ensures { result ≡ spec.own_calls place update.now }
+fn own_calls(func_index: usize, update: &Update) -> OwnCalls
+    ensures { result ≡ spec.own_calls func_index update.now }
 {
     OwnCalls {
-        func: place,
+        func: func_index,
         first_in_place: update.is_first_in_place(),
         second_in_place: update.is_second_in_place(),
     }

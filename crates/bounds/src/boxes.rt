@@ -67,13 +67,13 @@ fn extent(range: &Range) -> u32
 
 /// How many values the arguments take in a box, in one iteration.
 #[tactic(auto, using(crate::proofs::Near::short_x, crate::proofs::Near::short_y))]
-pub fn extents_of(own: &SourceBox) -> Extents
-    requires { spec.IsBox own.now }
-    ensures { result ≡ views.extents_of own.now }
+pub fn extents_of(source_box: &SourceBox) -> Extents
+    requires { spec.IsBox source_box.now }
+    ensures { result ≡ views.extents_of source_box.now }
 {
     Extents {
-        first_argument: extent(&own.x),
-        second_argument: extent(&own.y),
+        first_argument: extent(&source_box.x),
+        second_argument: extent(&source_box.y),
         first_reduction: 0,
         second_reduction: 0,
     }
@@ -91,12 +91,12 @@ fn product(a: u32, b: u32) -> u64
 
 /// How many points a box has, in one iteration.
 #[tactic(auto, using(crate::proofs::Near::short_x, crate::proofs::Near::short_y))]
-pub fn points(own: &SourceBox) -> u64
-    requires { spec.IsBox own.now }
-    ensures is { result ≡ views.points own.now }
+pub fn points(source_box: &SourceBox) -> u64
+    requires { spec.IsBox source_box.now }
+    ensures is { result ≡ views.points source_box.now }
     ensures few { result ≤ 2 ^ 51 }
 {
-    product(extent(&own.x), extent(&own.y))
+    product(extent(&source_box.x), extent(&source_box.y))
 }
 
 /// Whether ends lie from -2^24 to 2^24.
@@ -107,12 +107,13 @@ fn are_near(ends: Ends) -> bool
 }
 
 /// Whether a box stays from -2^24 to 2^24, whatever the values of the loops.
-pub fn is_near(own: &SourceBox) -> bool
-    requires first { IsFit own.now.lasts own.now.x }
-    requires second { IsFit own.now.lasts own.now.y }
-    ensures { result ≡ spec.is_near own.now }
+pub fn is_near(source_box: &SourceBox) -> bool
+    requires first { IsFit source_box.now.lasts source_box.now.x }
+    requires second { IsFit source_box.now.lasts source_box.now.y }
+    ensures { result ≡ spec.is_near source_box.now }
 {
-    are_near(widened(&own.lasts, &own.x)) && are_near(widened(&own.lasts, &own.y))
+    are_near(widened(&source_box.lasts, &source_box.x))
+        && are_near(widened(&source_box.lasts, &source_box.y))
 }
 
 /// The greatest values of the loops of the consumer.
@@ -144,18 +145,18 @@ fn taken(consumer: &Option<ConsumerLoop>, lasts: &Lasts, range: &Range) -> Range
 }
 
 /// The hull of the ranges so far and another one, if that counts.
-fn joined(lasts: &Lasts, counts: bool, own: Option<Range>, range: Range) -> Option<Range>
-    requires own { spec.IsFitOrNone lasts.now own }
+fn joined(lasts: &Lasts, counts: bool, own_range: Option<Range>, range: Range) -> Option<Range>
+    requires own { spec.IsFitOrNone lasts.now own_range }
     requires other { IsFit lasts.now range }
-    ensures value { result ≡ spec.joined lasts.now counts own range }
+    ensures value { result ≡ spec.joined lasts.now counts own_range range }
     ensures fits { spec.IsFitOrNone lasts.now result }
 {
     if !counts {
-        return own;
+        return own_range;
     }
-    match own {
+    match own_range {
         None => Some(range),
-        Some(own) => Some(hull(lasts, &own, &range)),
+        Some(own_range) => Some(hull(lasts, &own_range, &range)),
     }
 }
 
@@ -199,15 +200,15 @@ pub fn gathered(
         asked.now }
     ensures fits { spec.IsSpread (spec.lasts_of sought.now.consumer.now) result }
 {
-    let mut found = spread;
+    let mut found_spread = spread;
     let mut rest = asked;
     'reads: while let [read, others @ ..] = rest {
         if same_source(read.source, sought.source) {
-            found = with_read(sought.consumer, lasts, first, second, found, read);
+            found_spread = with_read(sought.consumer, lasts, first, second, found_spread, read);
         }
         rest = others;
     }
-    found
+    found_spread
 }
 
 /// No ranges so far.

@@ -15,10 +15,10 @@ use crate::views::consumer_loop;
 use bounds_ranges::bases::no_base;
 use bounds_ranges::ranges::{Ends, Lasts, ORIGIN, Range, fit};
 use halide_pipeline::{Func, Input, Pipeline, Source};
-use schedule::{ComputeLevel, LoopPlace, Schedule};
+use schedule::{ComputeLevel, LoopPosition, Schedule};
 use std::alloc::{AllocError, Global};
 
-/// So many pixels from 0 on.
+/// This many pixels from 0 on.
 fn pixels_range(lasts: &Lasts, count: u32) -> Range
     ensures value { result ≡ spec.pixels_range lasts.now count }
     ensures fits { IsFit lasts.now result }
@@ -47,19 +47,19 @@ fn wanted(pipeline: &Pipeline, at: usize, consumer: &Option<ConsumerLoop>) -> Sp
 }
 
 /// The box of the Func at a place, among those from one on.
-fn box_at(place: usize, at: usize, boxes: &[Option<SourceBox>]) -> Option<SourceBox>
+fn box_at(func_index: usize, at: usize, boxes: &[Option<SourceBox>]) -> Option<SourceBox>
     requires few { at + length boxes.now < 2 ^ 63 }
     requires boxes { AreBoxes boxes.now }
-    ensures value { result ≡ spec.box_at place at boxes.now }
+    ensures value { result ≡ spec.box_at func_index at boxes.now }
     ensures near { IsBoxOrNone result }
 {
     match boxes {
         [] => None,
         [first, others @ ..] => {
-            if at == place {
+            if at == func_index {
                 *first
             } else {
-                box_at(place, at + 1, others)
+                box_at(func_index, at + 1, others)
             }
         }
     }
@@ -70,21 +70,21 @@ fn consumer_of(
     alloc: Global,
     schedule: &Schedule,
     at: usize,
-    behind: &[Option<SourceBox>],
-    place: LoopPlace,
+    later_boxes: &[Option<SourceBox>],
+    position: LoopPosition,
 ) -> Result<Option<ConsumerLoop>, AllocError>
-    requires few { at + length behind.now < 2 ^ 63 }
+    requires few { at + length later_boxes.now < 2 ^ 63 }
     requires small { AreSmall schedule.now }
-    requires boxes { AreBoxes behind.now }
-    ensures { IfOk result (λ consumer. consumer ≡ spec.consumer_of place (slice_get schedule.now.funcs place.func)
-        (spec.box_at place.func at behind.now)) }
+    requires boxes { AreBoxes later_boxes.now }
+    ensures { IfOk result (λ consumer. consumer ≡ spec.consumer_of position (slice_get schedule.now.funcs position.func)
+        (spec.box_at position.func at later_boxes.now)) }
 {
-    let Some(plan) = schedule.funcs.get(place.func) else {
+    let Some(plan) = schedule.funcs.get(position.func) else {
         return Ok(None);
     };
-    match box_at(place.func, at, behind) {
+    match box_at(position.func, at, later_boxes) {
         None => Ok(None),
-        Some(own) => Ok(Some(consumer_loop(alloc, plan, &own, place.inside)?)),
+        Some(own) => Ok(Some(consumer_loop(alloc, plan, &own, position.inside)?)),
     }
 }
 
@@ -94,14 +94,14 @@ fn computed_box(
     scheduled: &Scheduled<'_>,
     at: usize,
     func: &Func,
-    behind: &[Option<SourceBox>],
+    later_boxes: &[Option<SourceBox>],
     consumer: &Option<ConsumerLoop>,
 ) -> Result<Option<SourceBox>, AllocError>
-    requires few { at + 1 + length behind.now < 2 ^ 63 }
+    requires few { at + 1 + length later_boxes.now < 2 ^ 63 }
     requires small { AreSmall scheduled.now.schedule.now }
-    requires boxes { AreBoxes behind.now }
+    requires boxes { AreBoxes later_boxes.now }
     ensures value { IfOk result (λ s. s ≡ spec.computed_box scheduled.now.pipeline.now scheduled.now.schedule.now
-        scheduled.now.flags.now at func.now behind.now consumer.now) }
+        scheduled.now.flags.now at func.now later_boxes.now consumer.now) }
     ensures fits { IfOk result (λ own. IsFitBox own) }
 {
     let updates = func.updates.as_slice();
@@ -111,7 +111,7 @@ fn computed_box(
         source: Source::Func(at),
         consumer,
     };
-    let spread = read_from(alloc, scheduled, at + 1, &sought, behind, spread)?;
+    let spread = read_from(alloc, scheduled, at + 1, &sought, later_boxes, spread)?;
     Ok(spread_box(consumer, spread))
 }
 
@@ -121,28 +121,34 @@ fn func_box(
     scheduled: &Scheduled<'_>,
     at: usize,
     func: &Func,
-    behind: &[Option<SourceBox>],
+    later_boxes: &[Option<SourceBox>],
 ) -> Result<Option<SourceBox>, AllocError>
-    requires few { at + 1 + length behind.now < 2 ^ 63 }
+    requires few { at + 1 + length later_boxes.now < 2 ^ 63 }
     requires small { AreSmall scheduled.now.schedule.now }
-    requires boxes { AreBoxes behind.now }
+    requires boxes { AreBoxes later_boxes.now }
     ensures value { IfOk result (λ s. s ≡ spec.func_box scheduled.now.pipeline.now scheduled.now.schedule.now
-        scheduled.now.flags.now at func.now behind.now (slice_get scheduled.now.schedule.now.standings at)) }
-    ensures fits { IfOk result (λ own. IsFitBox own) }
+        scheduled.now.flags.now at func.now later_boxes.now (slice_get scheduled.now.schedule.now.standings at)) }
+    ensures fits { IfOk result (λ source_box. IsFitBox source_box) }
 {
-    let Some(own) = scheduled.schedule.standing(at) else {
+    let Some(source_box) = scheduled.schedule.standing(at) else {
         return Ok(None);
     };
-    if !own.is_reached {
+    if !source_box.is_reached {
         return Ok(None);
     }
-    let consumer = match own.place {
+    let consumer = match source_box.place {
         ComputeLevel::Root => None,
-        ComputeLevel::At(place) => consumer_of(alloc, scheduled.schedule, at + 1, behind, place)?,
+        ComputeLevel::At(place) => consumer_of(
+            alloc,
+            scheduled.schedule,
+            at + 1,
+            later_boxes,
+            place,
+        )?,
         ComputeLevel::Inlined | ComputeLevel::Nowhere => return Ok(None),
     };
-    let own = computed_box(alloc, scheduled, at, func, behind, &consumer)?;
-    Ok(own)
+    let source_box = computed_box(alloc, scheduled, at, func, later_boxes, &consumer)?;
+    Ok(source_box)
 }
 
 /// The boxes of the Funcs from a place on; None where one leaves -2^24 to 2^24.
@@ -176,17 +182,17 @@ fn input_box(
     alloc: Global,
     scheduled: &Scheduled<'_>,
     boxes: &[Option<SourceBox>],
-    place: usize,
+    input_index: usize,
 ) -> Result<Option<SourceBox>, AllocError>
     requires few { length boxes.now < 2 ^ 63 }
     requires small { AreSmall scheduled.now.schedule.now }
     requires boxes { AreBoxes boxes.now }
     ensures value { IfOk result (λ s. s ≡ spec.input_box scheduled.now.pipeline.now scheduled.now.schedule.now
-        scheduled.now.flags.now boxes.now place) }
+        scheduled.now.flags.now boxes.now input_index) }
     ensures fits { IfOk result (λ own. IsFitBox own) }
 {
     let sought = InferredSource {
-        source: Source::Input(place),
+        source: Source::Input(input_index),
         consumer: &None,
     };
     let spread = read_from(alloc, scheduled, 0, &sought, boxes, NO_SPREAD)?;
@@ -198,24 +204,24 @@ pub fn inputs_from(
     alloc: Global,
     scheduled: &Scheduled<'_>,
     boxes: &[Option<SourceBox>],
-    place: usize,
+    input_index: usize,
     inputs: &[Input],
 ) -> Result<Option<SourceBoxes>, AllocError>
     requires few { length boxes.now < 2 ^ 63 }
-    requires places { place + length inputs.now < 2 ^ 63 }
+    requires places { input_index + length inputs.now < 2 ^ 63 }
     requires small { AreSmall scheduled.now.schedule.now }
     requires boxes { AreBoxes boxes.now }
     ensures value { IfOk result (λ s. s ≡ spec.inputs_from scheduled.now.pipeline.now scheduled.now.schedule.now
-        scheduled.now.flags.now boxes.now place inputs.now) }
+        scheduled.now.flags.now boxes.now input_index inputs.now) }
 {
     match inputs {
         [] => Ok(Some(SourceBoxes::new(alloc))),
         [_, others @ ..] => {
-            let behind = inputs_from(alloc, scheduled, boxes, place + 1, others)?;
+            let behind = inputs_from(alloc, scheduled, boxes, input_index + 1, others)?;
             let Some(behind) = behind else {
                 return Ok(None);
             };
-            let own = input_box(alloc, scheduled, boxes, place)?;
+            let own = input_box(alloc, scheduled, boxes, input_index)?;
             let boxes = in_front(own, behind)?;
             Ok(boxes)
         }

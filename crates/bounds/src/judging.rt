@@ -26,11 +26,12 @@ fn is_within(lasts: &Lasts, range: &Range, extent: u32) -> bool
 }
 
 /// Whether an input is read within its extents alone.
-fn input_holds(input: &Input, own: &SourceBox) -> bool
-    requires { IsBox own.now }
-    ensures { result ≡ spec.input_holds input.now own.now }
+fn input_holds(input: &Input, source_box: &SourceBox) -> bool
+    requires { IsBox source_box.now }
+    ensures { result ≡ spec.input_holds input.now source_box.now }
 {
-    is_within(&own.lasts, &own.x, input.width) && is_within(&own.lasts, &own.y, input.height)
+    is_within(&source_box.lasts, &source_box.x, input.width)
+        && is_within(&source_box.lasts, &source_box.y, input.height)
 }
 
 /// Whether all inputs are.
@@ -49,12 +50,16 @@ pub fn inputs_hold(inputs: &[Input], boxes: &[Option<SourceBox>]) -> bool
 }
 
 /// Whether each shifted split of a pure definition is of a loop whose extent is not below its factor.
-fn shifts_hold_of(alloc: Global, plan: &FuncPlan, own: &SourceBox) -> Result<bool, AllocError>
+fn shifts_hold_of(
+    alloc: Global,
+    plan: &FuncPlan,
+    source_box: &SourceBox,
+) -> Result<bool, AllocError>
     requires splits { AreSplits plan.now.pure.splits }
-    requires near { IsBox own.now }
-    ensures { IfOk result (λ holds. holds ≡ shifts_fit (extents_of own.now) plan.now.pure.splits) }
+    requires near { IsBox source_box.now }
+    ensures { IfOk result (λ holds. holds ≡ shifts_fit (extents_of source_box.now) plan.now.pure.splits) }
 {
-    let sizes = sizes_of(alloc, &plan.pure, own)?;
+    let sizes = sizes_of(alloc, &plan.pure, source_box)?;
     Ok(sizes.shifts_fit())
 }
 

@@ -40,7 +40,6 @@ pub struct Layout {
     pub size: u64,
 }
 
-/// Written out, so that a check sees a call wherever one is dropped, and not the drops of its parts.
 impl Drop for Layout {
     fn drop(self) {
         let Layout {
@@ -92,14 +91,14 @@ fn input_sizes(alloc: Global, inputs: &[Input]) -> Result<Vec<u64>, AllocError>
 }
 
 /// The bytes of a Func's box, if it is computed at root.
-fn root_bytes(place: ComputeLevel, own: &Option<SourceBox>) -> u64
-    requires { IsBoxOrNone own.now }
-    ensures is { result ≡ spec.root_bytes place own.now }
+fn root_bytes(level: ComputeLevel, source_box: &Option<SourceBox>) -> u64
+    requires { IsBoxOrNone source_box.now }
+    ensures is { result ≡ spec.root_bytes level source_box.now }
     ensures small { spec.IsSize result }
 {
-    match place {
-        ComputeLevel::Root => match own {
-            Some(own) => points(own) * 4,
+    match level {
+        ComputeLevel::Root => match source_box {
+            Some(source_box) => points(source_box) * 4,
             None => 0,
         },
         ComputeLevel::Inlined | ComputeLevel::At(_) | ComputeLevel::Nowhere => 0,
@@ -107,14 +106,14 @@ fn root_bytes(place: ComputeLevel, own: &Option<SourceBox>) -> u64
 }
 
 /// The bytes of all copies of a Func's box, if it is computed at a loop.
-fn private_bytes(place: ComputeLevel, own: &Option<SourceBox>) -> u64
-    requires { IsBoxOrNone own.now }
-    ensures is { result ≡ spec.private_bytes place own.now }
+fn private_bytes(level: ComputeLevel, source_box: &Option<SourceBox>) -> u64
+    requires { IsBoxOrNone source_box.now }
+    ensures is { result ≡ spec.private_bytes level source_box.now }
     ensures small { spec.IsSize result }
 {
-    match place {
-        ComputeLevel::At(_) => match own {
-            Some(own) => points(own) * 4 * COPIES,
+    match level {
+        ComputeLevel::At(_) => match source_box {
+            Some(source_box) => points(source_box) * 4 * COPIES,
             None => 0,
         },
         ComputeLevel::Inlined | ComputeLevel::Root | ComputeLevel::Nowhere => 0,
@@ -203,13 +202,13 @@ fn placed(alloc: Global, start: u64, sizes: &[u64]) -> Result<Vec<u64>, AllocErr
 }
 
 /// How many phases a Func has.
-fn phases_of(place: ComputeLevel, func: &Func, own: &Option<SourceBox>) -> u64
+fn phases_of(level: ComputeLevel, func: &Func, source_box: &Option<SourceBox>) -> u64
     requires { spec.HasFewUpdates func.now }
     ensures few { result ≤ 5 }
-    ensures is { result ≡ spec.phases_of place func.now own.now }
+    ensures is { result ≡ spec.phases_of level func.now source_box.now }
 {
-    match place {
-        ComputeLevel::Root => match own {
+    match level {
+        ComputeLevel::Root => match source_box {
             Some(_) => func.updates.len() as u64 + 1,
             None => 0,
         },

@@ -50,19 +50,19 @@ fn read_by(
     alloc: Global,
     scheduled: &Scheduled<'_>,
     at: usize,
-    own: &SourceBox,
+    source_box: &SourceBox,
     sought: &InferredSource<'_>,
     spread: Spread,
 ) -> Result<Spread, AllocError>
     requires few { at < 2 ^ 63 }
     requires small { AreSmall scheduled.now.schedule.now }
-    requires near { IsBox own.now }
+    requires near { IsBox source_box.now }
     requires spread { IsSpread (lasts_of sought.now.consumer.now) spread }
     ensures value { IfOk result (λ s. s ≡ spec.read_by scheduled.now.pipeline.now scheduled.now.schedule.now
-        scheduled.now.flags.now at own.now sought.now.consumer.now sought.now.source spread) }
+        scheduled.now.flags.now at source_box.now sought.now.consumer.now sought.now.source spread) }
     ensures fits { IfOk result (λ s. IsSpread (lasts_of sought.now.consumer.now) s) }
 {
-    let view = view(alloc, scheduled.schedule, at, own, sought.consumer)?;
+    let view = view(alloc, scheduled.schedule, at, source_box, sought.consumer)?;
     match scheduled.pipeline.func(at) {
         None => Ok(spread),
         Some(func) => {

@@ -25,7 +25,6 @@ impl Model for SourceBoxes {
     ghost invariant = { λ s. AreBoxes s.boxes.items };
 }
 
-/// Written out, so that a check sees a call wherever one is dropped, and not the drops of its parts.
 impl Drop for SourceBoxes {
     fn drop(self) {
         let SourceBoxes { boxes } = self;
@@ -52,39 +51,39 @@ impl SourceBoxes {
     }
 
     /// The boxes with one in front.
-    fn with_first(self, own: Option<SourceBox>) -> Result<SourceBoxes, AllocError>
-        requires { spec.IsBoxOrNone own }
-        ensures { IfOk result (λ boxes. boxes ≡ own ∷ self) }
+    fn with_first(self, source_box: Option<SourceBox>) -> Result<SourceBoxes, AllocError>
+        requires { spec.IsBoxOrNone source_box }
+        ensures { IfOk result (λ boxes. boxes ≡ source_box ∷ self) }
     {
         let SourceBoxes { mut boxes } = self;
-        boxes.insert(0, own)?;
+        boxes.insert(0, source_box)?;
         Ok(SourceBoxes { boxes })
     }
 }
 
 /// Whether there is no box, or one that stays from -2^24 to 2^24.
-fn stays(own: &Option<SourceBox>) -> bool
-    requires { spec.IsFitBox own.now }
-    ensures { result ≡ spec.stays own.now }
+fn stays(source_box: &Option<SourceBox>) -> bool
+    requires { spec.IsFitBox source_box.now }
+    ensures { result ≡ spec.stays source_box.now }
 {
-    match own {
+    match source_box {
         None => true,
-        Some(own) => is_near(own),
+        Some(source_box) => is_near(source_box),
     }
 }
 
 /// The boxes with one in front, unless that leaves -2^24 to 2^24.
 #[tactic(auto, using(crate::proofs::Near::is_box))]
 pub fn in_front(
-    own: Option<SourceBox>,
-    behind: SourceBoxes,
+    source_box: Option<SourceBox>,
+    source_boxes: SourceBoxes,
 ) -> Result<Option<SourceBoxes>, AllocError>
-    requires { spec.IsFitBox own }
-    ensures { IfOk result (λ boxes. boxes ≡ spec.in_front own behind) }
+    requires { spec.IsFitBox source_box }
+    ensures { IfOk result (λ boxes. boxes ≡ spec.in_front source_box source_boxes) }
 {
-    if !stays(&own) {
+    if !stays(&source_box) {
         return Ok(None);
     }
-    let boxes = behind.with_first(own)?;
+    let boxes = source_boxes.with_first(source_box)?;
     Ok(Some(boxes))
 }

@@ -31,11 +31,11 @@ fn second_extent(second: &Option<Reduction>) -> u32
 }
 
 /// How many values each variable of an update takes, over a box.
-pub fn update_extents(own: &SourceBox, update: &Update) -> Extents
-    requires { IsBox own.now }
-    ensures { result ≡ views.update_extents own.now update.now }
+pub fn update_extents(source_box: &SourceBox, update: &Update) -> Extents
+    requires { IsBox source_box.now }
+    ensures { result ≡ views.update_extents source_box.now update.now }
 {
-    let arguments = extents_of(own);
+    let arguments = extents_of(source_box);
     Extents {
         first_argument: arguments.first_argument,
         second_argument: arguments.second_argument,
@@ -45,12 +45,12 @@ pub fn update_extents(own: &SourceBox, update: &Update) -> Extents
 }
 
 /// How many tasks the phase of a pure definition has.
-fn pure_tasks(alloc: Global, plan: &FuncPlan, own: &SourceBox) -> Result<u32, AllocError>
+fn pure_tasks(alloc: Global, plan: &FuncPlan, source_box: &SourceBox) -> Result<u32, AllocError>
     requires splits { AreSplits plan.now.pure.splits }
-    requires near { IsBox own.now }
-    ensures { IfOk result (λ count. count ≡ iteration_count (views.extents_of own.now) plan.now.pure) }
+    requires near { IsBox source_box.now }
+    ensures { IfOk result (λ count. count ≡ iteration_count (views.extents_of source_box.now) plan.now.pure) }
 {
-    let sizes = sizes_of(alloc, &plan.pure, own)?;
+    let sizes = sizes_of(alloc, &plan.pure, source_box)?;
     Ok(sizes.iterations(&plan.pure))
 }
 
@@ -59,13 +59,13 @@ fn update_tasks(
     alloc: Global,
     update: &Update,
     stage: &Stage,
-    own: &SourceBox,
+    source_box: &SourceBox,
 ) -> Result<u32, AllocError>
     requires splits { AreSplits stage.now.splits }
-    requires near { IsBox own.now }
-    ensures { IfOk result (λ count. count ≡ iteration_count (views.update_extents own.now update.now) stage.now) }
+    requires near { IsBox source_box.now }
+    ensures { IfOk result (λ count. count ≡ iteration_count (views.update_extents source_box.now update.now) stage.now) }
 {
-    let extents = update_extents(own, update);
+    let extents = update_extents(source_box, update);
     let sizes = LoopSizes::new(alloc, extents, stage.splits.as_slice())?;
     Ok(sizes.iterations(stage))
 }
@@ -75,15 +75,15 @@ fn stage_tasks(
     alloc: Global,
     func: &Func,
     plan: &FuncPlan,
-    own: &SourceBox,
+    source_box: &SourceBox,
     update: Option<usize>,
 ) -> Result<Option<u32>, AllocError>
     requires plan { IsPlan func.now plan.now }
-    requires near { IsBox own.now }
-    ensures { IfOk result (λ count. count ≡ spec.stage_tasks own.now func.now plan.now update) }
+    requires near { IsBox source_box.now }
+    ensures { IfOk result (λ count. count ≡ spec.stage_tasks source_box.now func.now plan.now update) }
 {
     let Some(at) = update else {
-        let count = pure_tasks(alloc, plan, own)?;
+        let count = pure_tasks(alloc, plan, source_box)?;
         return Ok(Some(count));
     };
     let Some(update) = func.updates.get(at) else {
@@ -92,19 +92,19 @@ fn stage_tasks(
     match plan.updates.get(at) {
         None => Ok(None),
         Some(stage) => {
-            let count = update_tasks(alloc, update, stage, own)?;
+            let count = update_tasks(alloc, update, stage, source_box)?;
             Ok(Some(count))
         }
     }
 }
 
 /// The box at a place.
-fn box_at(boxes: &[Option<SourceBox>], place: usize) -> Option<SourceBox>
+fn box_at(boxes: &[Option<SourceBox>], func_index: usize) -> Option<SourceBox>
     requires { AreBoxes boxes.now }
-    ensures is { result ≡ box_in (slice_get boxes.now place) }
+    ensures is { result ≡ box_in (slice_get boxes.now func_index) }
     ensures near { IfSome result IsBox }
 {
-    match boxes.get(place) {
+    match boxes.get(func_index) {
         None => None,
         Some(own) => *own,
     }

@@ -1,4 +1,4 @@
-//! The boxes of an algorithm under a schedule, or the first fault that stands.
+//! The boxes of an algorithm under a schedule, or the first fault that there is.
 
 ghost use Rattle.std.specs.Prelude.{◌≤◌, length};
 ghost use Rattle.schedule.specs.Accepted.{IsAccepted};
@@ -26,7 +26,6 @@ pub struct Boxes {
     pub layout: Layout,
 }
 
-/// Written out, so that a check sees a call wherever one is dropped, and not the drops of its parts.
 impl Drop for Boxes {
     fn drop(self) {
         let Boxes {
@@ -81,7 +80,7 @@ fn judged(
     sized(inputs, funcs, layout)
 }
 
-/// The boxes of all sources of a pipeline, under a schedule that was read for it: exactly where no fault stands, and
+/// The boxes of all sources of a pipeline, under a schedule that was read for it: exactly where no fault is, and
 /// else the first fault (`specs/Verdict.antt`).
 ///
 /// # Errors

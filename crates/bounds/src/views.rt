@@ -60,13 +60,17 @@ fn lasts_in(sizes: &LoopSizes, loops: &[Loop]) -> Lasts
 }
 
 /// The sizes of the loops of a pure definition over a box.
-pub fn sizes_of(alloc: Global, stage: &Stage, own: &SourceBox) -> Result<LoopSizes, AllocError>
+pub fn sizes_of(
+    alloc: Global,
+    stage: &Stage,
+    source_box: &SourceBox,
+) -> Result<LoopSizes, AllocError>
     requires splits { AreSplits stage.now.splits }
-    requires near { IsBox own.now }
+    requires near { IsBox source_box.now }
     ensures { IfOk result (λ sizes. sizes
-        ≡ record { extents = spec_extents.extents_of own.now; splits = stage.now.splits }) }
+        ≡ record { extents = spec_extents.extents_of source_box.now; splits = stage.now.splits }) }
 {
-    let sizes = LoopSizes::new(alloc, extents_of(own), stage.splits.as_slice())?;
+    let sizes = LoopSizes::new(alloc, extents_of(source_box), stage.splits.as_slice())?;
     Ok(sizes)
 }
 
@@ -86,24 +90,24 @@ fn consumer_loop_in(sizes: &LoopSizes, loops: &[Loop], id: LoopId) -> ConsumerLo
 pub fn consumer_loop(
     alloc: Global,
     plan: &FuncPlan,
-    own: &SourceBox,
+    source_box: &SourceBox,
     id: LoopId,
 ) -> Result<ConsumerLoop, AllocError>
     requires small { spec.IsSmall plan.now.pure }
-    requires near { IsBox own.now }
-    ensures { IfOk result (λ consumer. consumer ≡ spec.consumer_loop plan.now own.now id) }
+    requires near { IsBox source_box.now }
+    ensures { IfOk result (λ consumer. consumer ≡ spec.consumer_loop plan.now source_box.now id) }
 {
-    let sizes = sizes_of(alloc, &plan.pure, own)?;
+    let sizes = sizes_of(alloc, &plan.pure, source_box)?;
     Ok(consumer_loop_in(&sizes, plan.pure.loops.as_slice(), id))
 }
 
 /// How far an iteration of a loop takes a variable.
-fn multiple_of(sizes: &LoopSizes, variable: Variable, own: &Loop) -> Multiple
-    ensures { result ≡ spec.multiple_of sizes.now.splits variable (Some own.now) }
+fn multiple_of(sizes: &LoopSizes, variable: Variable, stage_loop: &Loop) -> Multiple
+    ensures { result ≡ spec.multiple_of sizes.now.splits variable (Some stage_loop.now) }
 {
-    if own.variable == variable {
+    if stage_loop.variable == variable {
         Multiple {
-            more: u64::from(sizes.size(own.id).stride),
+            more: u64::from(sizes.size(stage_loop.id).stride),
             less: 0,
         }
     } else {
@@ -111,7 +115,7 @@ fn multiple_of(sizes: &LoopSizes, variable: Variable, own: &Loop) -> Multiple
     }
 }
 
-/// How far an iteration of the loop at a place takes a variable, if it is not one of the first so many.
+/// How far an iteration of the loop at a place takes a variable, if it is not one of the first this many.
 fn multiple_at(
     sizes: &LoopSizes,
     loops: &[Loop],
@@ -130,7 +134,7 @@ fn multiple_at(
     }
 }
 
-/// The multiples of a variable in the loops after the first so many.
+/// The multiples of a variable in the loops after the first this many.
 fn base_in(sizes: &LoopSizes, loops: &[Loop], variable: Variable, inner: usize) -> Base
     ensures { result ≡ spec.base_in sizes.now.splits loops.now variable inner }
 {
@@ -155,7 +159,7 @@ fn reach(sizes: &LoopSizes, loops: &[Loop], variable: Variable) -> u64
     }
 }
 
-/// The range of an argument of the consumer, of whose loops the first so many take all their values.
+/// The range of an argument of the consumer, of whose loops the first this many take all their values.
 fn argument(
     lasts: &Lasts,
     sizes: &LoopSizes,
@@ -188,33 +192,40 @@ fn argument(
     }
 }
 
-/// The arguments of the consumer, of whose loops the first so many take all their values.
+/// The arguments of the consumer, of whose loops the first this many take all their values.
 #[tactic(auto, unfolding(crate::specs::Views::consumer_view_in))]
 fn consumer_view_in(
     sizes: &LoopSizes,
     loops: &[Loop],
     inner: usize,
-    own: &SourceBox,
+    source_box: &SourceBox,
     consumer: &ConsumerLoop,
 ) -> SourceBox
     requires few { length loops.now ≤ 5 }
     requires inside { inner ≤ length loops.now }
-    requires near { IsBox own.now }
-    ensures value { result ≡ spec.consumer_view_in sizes.now.extents sizes.now.splits loops.now inner own.now
+    requires near { IsBox source_box.now }
+    ensures value { result ≡ spec.consumer_view_in sizes.now.extents sizes.now.splits loops.now inner source_box.now
         consumer.now }
     ensures x { IsFit result.lasts result.x }
     ensures y { IsFit result.lasts result.y }
 {
     let lasts = consumer.lasts;
     SourceBox {
-        x: argument(&lasts, sizes, loops, inner, Variable::FirstArgument, &own.x),
+        x: argument(
+            &lasts,
+            sizes,
+            loops,
+            inner,
+            Variable::FirstArgument,
+            &source_box.x,
+        ),
         y: argument(
             &lasts,
             sizes,
             loops,
             inner,
             Variable::SecondArgument,
-            &own.y,
+            &source_box.y,
         ),
         lasts,
     }
@@ -224,33 +235,33 @@ fn consumer_view_in(
 fn consumer_view(
     alloc: Global,
     stage: &Stage,
-    own: &SourceBox,
+    source_box: &SourceBox,
     consumer: &ConsumerLoop,
 ) -> Result<SourceBox, AllocError>
     requires small { spec.IsSmall stage.now }
-    requires near { IsBox own.now }
-    ensures value { IfOk result (λ view. view ≡ spec.consumer_view stage.now own.now consumer.now) }
+    requires near { IsBox source_box.now }
+    ensures value { IfOk result (λ view. view ≡ spec.consumer_view stage.now source_box.now consumer.now) }
     ensures x { IfOk result (λ view. IsFit view.lasts view.x) }
     ensures y { IfOk result (λ view. IsFit view.lasts view.y) }
 {
-    let sizes = sizes_of(alloc, stage, own)?;
+    let sizes = sizes_of(alloc, stage, source_box)?;
     let loops = stage.loops.as_slice();
     let inner = inner_count(consumer.inside, loops);
-    Ok(consumer_view_in(&sizes, loops, inner, own, consumer))
+    Ok(consumer_view_in(&sizes, loops, inner, source_box, consumer))
 }
 
-/// The multiple of a loop that is one of the first so many.
-fn inner_multiple(inner: usize, at: usize, own: Multiple) -> Multiple
-    ensures { result ≡ if nat_lt at inner then own else zero_multiple }
+/// The multiple of a loop that is one of the first this many.
+fn inner_multiple(inner: usize, at: usize, multiple: Multiple) -> Multiple
+    ensures { result ≡ if nat_lt at inner then multiple else zero_multiple }
 {
     if at < inner {
-        own
+        multiple
     } else {
         Multiple { more: 0, less: 0 }
     }
 }
 
-/// The multiples of the first so many loops.
+/// The multiples of the first this many loops.
 fn inner_part(inner: usize, base: Base) -> Base
     ensures { result ≡ spec.inner_part inner base }
 {
@@ -264,18 +275,18 @@ fn inner_part(inner: usize, base: Base) -> Base
     ]
 }
 
-/// The multiple of a loop that is not one of the first so many.
-fn outer_multiple(inner: usize, at: usize, own: Multiple) -> Multiple
-    ensures { result ≡ if not (nat_lt at inner) then own else zero_multiple }
+/// The multiple of a loop that is not one of the first this many.
+fn outer_multiple(inner: usize, at: usize, multiple: Multiple) -> Multiple
+    ensures { result ≡ if not (nat_lt at inner) then multiple else zero_multiple }
 {
     if at < inner {
         Multiple { more: 0, less: 0 }
     } else {
-        own
+        multiple
     }
 }
 
-/// The multiples of the loops after the first so many.
+/// The multiples of the loops after the first this many.
 fn outer_part(inner: usize, base: Base) -> Base
     ensures { result ≡ spec.outer_part inner base }
 {
@@ -289,7 +300,7 @@ fn outer_part(inner: usize, base: Base) -> Base
     ]
 }
 
-/// A range, where the first so many loops take all their values.
+/// A range, where the first this many loops take all their values.
 #[tactic(auto, using(crate::proofs::Settling::less_parts, crate::proofs::Settling::more_parts))]
 fn settled(inner: usize, lasts: &Lasts, range: &Range) -> Range
     requires { IsFit lasts.now range.now }
@@ -304,16 +315,16 @@ fn settled(inner: usize, lasts: &Lasts, range: &Range) -> Range
     }
 }
 
-fn settled_box(inner: usize, own: &SourceBox) -> SourceBox
-    requires { IsBox own.now }
-    ensures value { result ≡ spec.settled_box inner own.now }
+fn settled_box(inner: usize, source_box: &SourceBox) -> SourceBox
+    requires { IsBox source_box.now }
+    ensures value { result ≡ spec.settled_box inner source_box.now }
     ensures x { IsFit result.lasts result.x }
     ensures y { IsFit result.lasts result.y }
 {
     SourceBox {
-        x: settled(inner, &own.lasts, &own.x),
-        y: settled(inner, &own.lasts, &own.y),
-        lasts: own.lasts,
+        x: settled(inner, &source_box.lasts, &source_box.x),
+        y: settled(inner, &source_box.lasts, &source_box.y),
+        lasts: source_box.lasts,
     }
 }
 
@@ -333,26 +344,27 @@ pub fn view(
     alloc: Global,
     schedule: &Schedule,
     at: usize,
-    own: &SourceBox,
+    source_box: &SourceBox,
     consumer: &Option<ConsumerLoop>,
 ) -> Result<SourceBox, AllocError>
     requires small { spec.AreSmall schedule.now }
-    requires near { IsBox own.now }
+    requires near { IsBox source_box.now }
     ensures value { IfOk result (λ view. view
-        ≡ spec.view_of (slice_get schedule.now.funcs at) (slice_get schedule.now.standings at) own.now consumer.now) }
+        ≡ spec.view_of (slice_get schedule.now.funcs at) (slice_get schedule.now.standings at) source_box.now
+        consumer.now) }
     ensures x { IfOk result (λ view. IsFit view.lasts view.x) }
     ensures y { IfOk result (λ view. IsFit view.lasts view.y) }
 {
     let Some(consumer) = consumer else {
-        return Ok(*own);
+        return Ok(*source_box);
     };
     if !is_root_at(schedule, at) {
-        return Ok(settled_box(consumer.inner, own));
+        return Ok(settled_box(consumer.inner, source_box));
     }
     match schedule.funcs.get(at) {
-        None => Ok(*own),
+        None => Ok(*source_box),
         Some(plan) => {
-            let view = consumer_view(alloc, &plan.pure, own, consumer)?;
+            let view = consumer_view(alloc, &plan.pure, source_box, consumer)?;
             Ok(view)
         }
     }

@@ -9,7 +9,7 @@ use Rattle.bounds_inlining.specs.inner.Summing.{most, Same, waited, need_at}
 pub same_add : (a b c d : ℕ) → Same a b → Same c d → Same (a + c) (b + d)
 same_add a b c d e f = omega (arith, e, f)
 
--- so many times
+-- this many times
 pub same_times : (n a b : ℕ) → Same a b → Same (n * a) (n * b)
 same_times zero a b e = let p : 0 * a ≡ 0 = omega arith in let q : 0 * b ≡ 0 = omega arith in omega (arith, p, q)
 same_times (suc n) a b e = elim (cases_lt a most) [
@@ -46,11 +46,11 @@ times_parts n o f s x y = omega (arith, group n f x, group n s y, times_add n o 
     times_add : (a b c : ℕ) → a * (b + c) ≡ a * b + a * c
     times_add a b c = omega arith
 
-pub applied_same : (own f s nn t1 t2 p1 p2 x y m n : ℕ) → Same nn own → Same t1 (f * x) → Same t2 (s * y) → Same p1 (t1 + t2) → Same p2 (nn + p1) → Same x m
+pub applied_same : (func_index f s nn t1 t2 p1 p2 x y m n : ℕ) → Same nn func_index → Same t1 (f * x) → Same t2 (s * y) → Same p1 (t1 + t2) → Same p2 (nn + p1) → Same x m
     → Same y n
-    → Same p2 (own + (f * m + s * n))
-applied_same own f s nn t1 t2 p1 p2 x y m n hn h1 h2 hp hq hx hy =
-    hq ∙ same_add nn own p1 (f * m + s * n) hn
+    → Same p2 (func_index + (f * m + s * n))
+applied_same func_index f s nn t1 t2 p1 p2 x y m n hn h1 h2 hp hq hx hy =
+    hq ∙ same_add nn func_index p1 (f * m + s * n) hn
     (hp ∙ same_add t1 (f * m) t2 (s * n) (h1 ∙ same_times f x m hx) (h2 ∙ same_times s y n hy))
 
 pub both_same : (nn k x y m n p q : ℕ) → Same nn k → Same p (x + y) → Same q (nn + p) → Same x m → Same y n → Same q (k + m + n)

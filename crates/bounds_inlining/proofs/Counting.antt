@@ -98,42 +98,43 @@ module _ (flags : List Bool) (funcs : List Func) (table : List (Option CountCall
   abbrev is_inlined : ℕ → Bool
   is_inlined = flagged flags
 
-  func_before : (place count : ℕ) → place < count → func_in funcs is_inlined (count + 1) place ≡ func_in funcs is_inlined count place
-  func_before place count less = rw (lt-ltb place (count + 1) (omega (arith, less))) (rw (lt-ltb place count less) refl)
+  func_before : (func_index count : ℕ) → func_index < count → func_in funcs is_inlined (count + 1) func_index ≡ func_in funcs is_inlined count func_index
+  func_before func_index count less = rw (lt-ltb func_index (count + 1) (omega (arith, less)))
+      (rw (lt-ltb func_index count less) refl)
 
-  inside_same : (place count : ℕ) → place < count → inside counting is_inlined funcs (count + 1) place ≡ inside counting is_inlined funcs count place
-  inside_same place count less =
-      inside_is counting is_inlined funcs (count + 1) place
-      ∙ ap (λ (f : Option Func). made_in counting (inside counting is_inlined funcs place) f) (func_before place count less)
-      ∙ sym (inside_is counting is_inlined funcs count place)
+  inside_same : (func_index count : ℕ) → func_index < count → inside counting is_inlined funcs (count + 1) func_index ≡ inside counting is_inlined funcs count func_index
+  inside_same func_index count less =
+      inside_is counting is_inlined funcs (count + 1) func_index
+      ∙ ap (λ (f : Option Func). made_in counting (inside counting is_inlined funcs func_index) f) (func_before func_index count less)
+      ∙ sym (inside_is counting is_inlined funcs count func_index)
 
-  at_count : (count : ℕ) → length table ≡ count → Counts flags funcs table → SameCall (call_of call) (made_at flags funcs count) → (place : ℕ)
-      → SameCall (counted (table ++ call ∷ []) place) (inside counting is_inlined funcs (count + 1) place)
-  at_count count size known next place = elim (cases_lt place count) [
+  at_count : (count : ℕ) → length table ≡ count → Counts flags funcs table → SameCall (call_of call) (made_at flags funcs count) → (func_index : ℕ)
+      → SameCall (counted (table ++ call ∷ []) func_index) (inside counting is_inlined funcs (count + 1) func_index)
+  at_count count size known next func_index = elim (cases_lt func_index count) [
     | inl less ↦
-        let here : SameCall (counted table place) (inside counting is_inlined funcs count place) =
-        subst (λ (n : ℕ). SameCall (counted table place) (inside counting is_inlined funcs n place)) size (known place) in
-        same_counted (counted (table ++ call ∷ []) place) (inside counting is_inlined funcs (count + 1) place) (counted table place) (inside counting is_inlined
-        funcs count place)
-        (ap call_at (get_before table (call ∷ []) place (omega (arith, less, size)))) (inside_same place count less) here
-    | inr more ↦ elim (cases_eq place count) [
+        let here : SameCall (counted table func_index) (inside counting is_inlined funcs count func_index) =
+        subst (λ (n : ℕ). SameCall (counted table func_index) (inside counting is_inlined funcs n func_index)) size (known func_index) in
+        same_counted (counted (table ++ call ∷ []) func_index) (inside counting is_inlined funcs (count + 1) func_index) (counted table func_index) (inside counting is_inlined
+        funcs count func_index)
+        (ap call_at (get_before table (call ∷ []) func_index (omega (arith, less, size)))) (inside_same func_index count less) here
+    | inr more ↦ elim (cases_eq func_index count) [
       | inl same ↦
-          same_counted (counted (table ++ call ∷ []) place) (inside counting is_inlined funcs (count + 1) place) (call_of call) (made_at flags funcs count)
-          (ap call_at (get_last table call place (same ∙ sym size)))
+          same_counted (counted (table ++ call ∷ []) func_index) (inside counting is_inlined funcs (count + 1) func_index) (call_of call) (made_at flags funcs count)
+          (ap call_at (get_last table call func_index (same ∙ sym size)))
           (ap (λ (at : ℕ). inside counting is_inlined funcs (count + 1) at) same ∙ inside_is counting is_inlined funcs (count + 1) count) next
       | inr other ↦
-          same_counted (counted (table ++ call ∷ []) place) (inside counting is_inlined funcs (count + 1) place) None None
-          (ap call_at (slice_get_past (table ++ call ∷ []) place (omega (arith, more_length table call, size, more, other))))
-          (inside_past counting is_inlined funcs (count + 1) place (omega (arith, more, other))) tt
+          same_counted (counted (table ++ call ∷ []) func_index) (inside counting is_inlined funcs (count + 1) func_index) None None
+          (ap call_at (slice_get_past (table ++ call ∷ []) func_index (omega (arith, more_length table call, size, more, other))))
+          (inside_past counting is_inlined funcs (count + 1) func_index (omega (arith, more, other))) tt
     ]
   ]
 
   pub counts_more : (count : ℕ) → length table ≡ count → Counts flags funcs table → SameCall (call_of call) (made_at flags funcs count)
       → Counts flags funcs (table ++ call ∷ [])
-  counts_more count size known next place =
+  counts_more count size known next func_index =
       let grown : length (table ++ call ∷ []) ≡ count + 1 = more_length table call ∙ ap (λ (n : ℕ). n + 1) size in
-      subst (λ (n : ℕ). SameCall (counted (table ++ call ∷ []) place) (inside counting is_inlined funcs n place)) (sym grown) (at_count count size known next
-      place)
+      subst (λ (n : ℕ). SameCall (counted (table ++ call ∷ []) func_index) (inside counting is_inlined funcs n func_index)) (sym grown) (at_count count size known next
+      func_index)
 
 pub grown_length : {A : Type 0} → (xs : List A) (y : A) (count : ℕ) → length xs ≡ count → length (xs ++ y ∷ []) ≡ count + 1
 grown_length xs y count size = more_length xs y ∙ ap (λ (n : ℕ). n + 1) size

@@ -61,39 +61,42 @@ module _ (flags : List Bool) (funcs : List Func) (table : List (Option Need)) (c
   abbrev is_inlined : ℕ → Bool
   is_inlined = flagged flags
 
-  func_before : (place count : ℕ) → place < count → func_in funcs is_inlined (count + 1) place ≡ func_in funcs is_inlined count place
-  func_before place count less = rw (lt-ltb place (count + 1) (omega (arith, less))) (rw (lt-ltb place count less) refl)
+  func_before : (func_index count : ℕ) → func_index < count → func_in funcs is_inlined (count + 1) func_index ≡ func_in funcs is_inlined count func_index
+  func_before func_index count less = rw (lt-ltb func_index (count + 1) (omega (arith, less)))
+      (rw (lt-ltb func_index count less) refl)
 
-  inside_same : (place count : ℕ) → place < count → inside needing is_inlined funcs (count + 1) place ≡ inside needing is_inlined funcs count place
-  inside_same place count less =
-      inside_is needing is_inlined funcs (count + 1) place
-      ∙ ap (λ (f : Option Func). made_in needing (inside needing is_inlined funcs place) f) (func_before place count less)
-      ∙ sym (inside_is needing is_inlined funcs count place)
+  inside_same : (func_index count : ℕ) → func_index < count → inside needing is_inlined funcs (count + 1) func_index ≡ inside needing is_inlined funcs count func_index
+  inside_same func_index count less =
+      inside_is needing is_inlined funcs (count + 1) func_index
+      ∙ ap (λ (f : Option Func). made_in needing (inside needing is_inlined funcs func_index) f) (func_before func_index count less)
+      ∙ sym (inside_is needing is_inlined funcs count func_index)
 
-  at_count : (count : ℕ) → length table ≡ count → Needs flags funcs table → SameCall (need_of call) (need_made flags funcs count) → (place : ℕ)
-      → SameCall (needed (table ++ call ∷ []) place) (inside needing is_inlined funcs (count + 1) place)
-  at_count count size known next place = elim (cases_lt place count) [
+  at_count : (count : ℕ) → length table ≡ count → Needs flags funcs table → SameCall (need_of call) (need_made flags funcs count) → (func_index : ℕ)
+      → SameCall (needed (table ++ call ∷ []) func_index) (inside needing is_inlined funcs (count + 1) func_index)
+  at_count count size known next func_index = elim (cases_lt func_index count) [
     | inl less ↦
-        let here : SameCall (needed table place) (inside needing is_inlined funcs count place) =
-        subst (λ (n : ℕ). SameCall (needed table place) (inside needing is_inlined funcs n place)) size (known place) in
-        same_needed (needed (table ++ call ∷ []) place) (inside needing is_inlined funcs (count + 1) place) (needed table place) (inside needing is_inlined
-        funcs count place)
-        (ap need_in (get_before table (call ∷ []) place (omega (arith, less, size)))) (inside_same place count less) here
-    | inr more ↦ elim (cases_eq place count) [
+        let here : SameCall (needed table func_index) (inside needing is_inlined funcs count func_index) =
+        subst (λ (n : ℕ). SameCall (needed table func_index) (inside needing is_inlined funcs n func_index)) size
+        (known func_index) in
+        same_needed (needed (table ++ call ∷ []) func_index) (inside needing is_inlined funcs (count + 1) func_index) (needed table func_index) (inside needing is_inlined
+        funcs count func_index)
+        (ap need_in (get_before table (call ∷ []) func_index (omega (arith, less, size)))) (inside_same func_index count less) here
+    | inr more ↦ elim (cases_eq func_index count) [
       | inl same ↦
-          same_needed (needed (table ++ call ∷ []) place) (inside needing is_inlined funcs (count + 1) place) (need_of call) (need_made flags funcs count)
-          (ap need_in (get_last table call place (same ∙ sym size)))
+          same_needed (needed (table ++ call ∷ []) func_index) (inside needing is_inlined funcs (count + 1) func_index) (need_of call) (need_made flags funcs count)
+          (ap need_in (get_last table call func_index (same ∙ sym size)))
           (ap (λ (at : ℕ). inside needing is_inlined funcs (count + 1) at) same ∙ inside_is needing is_inlined funcs (count + 1) count) next
       | inr other ↦
-          same_needed (needed (table ++ call ∷ []) place) (inside needing is_inlined funcs (count + 1) place) None None
-          (ap need_in (slice_get_past (table ++ call ∷ []) place (omega (arith, more_length table call, size, more, other))))
-          (inside_past needing is_inlined funcs (count + 1) place (omega (arith, more, other))) tt
+          same_needed (needed (table ++ call ∷ []) func_index) (inside needing is_inlined funcs (count + 1) func_index)
+          None None
+          (ap need_in (slice_get_past (table ++ call ∷ []) func_index (omega (arith, more_length table call, size, more, other))))
+          (inside_past needing is_inlined funcs (count + 1) func_index (omega (arith, more, other))) tt
     ]
   ]
 
   pub needs_more : (count : ℕ) → length table ≡ count → Needs flags funcs table → SameCall (need_of call) (need_made flags funcs count)
       → Needs flags funcs (table ++ call ∷ [])
-  needs_more count size known next place =
+  needs_more count size known next func_index =
       let grown : length (table ++ call ∷ []) ≡ count + 1 = more_length table call ∙ ap (λ (n : ℕ). n + 1) size in
-      subst (λ (n : ℕ). SameCall (needed (table ++ call ∷ []) place) (inside needing is_inlined funcs n place)) (sym grown) (at_count count size known next
-      place)
+      subst (λ (n : ℕ). SameCall (needed (table ++ call ∷ []) func_index) (inside needing is_inlined funcs n func_index)) (sym grown) (at_count count size known next
+      func_index)

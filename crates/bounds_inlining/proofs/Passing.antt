@@ -41,7 +41,7 @@ all_hold : (test : Point → Bool) (points : List Point) → Hold test points �
 all_hold test [] all = refl
 all_hold test (point ∷ points) all = and_from (test point) (list_all test points) all.0 (all_hold test points all.1)
 
--- a point of an input or of one of the first so many Funcs
+-- a point of an input or of one of the first this many Funcs
 abbrev IsBelow : ℕ → Source → Type 0
 IsBelow count (sources.Input place) = Unit {0}
 IsBelow count (sources.Func place) = place < count
@@ -92,59 +92,61 @@ module _ (test : Point → Bool) (is_inlined : ℕ → Bool) (funcs : List Func)
 
   -- all that the definition at a place reads
   abbrev passing_in : ℕ → ℕ → ℕ → Bool
-  passing_in place x y = passes_in (passing place) planes (pixels funcs planes place) (slice_get funcs place) x y
+  passing_in func_index x y = passes_in (passing func_index) planes (pixels funcs planes func_index)
+      (slice_get funcs func_index) x y
 
-  passes_input : (count place x y : ℕ) → passing count (point_at (sources.Input place) x y) ≡ test (point_at (sources.Input place) x y)
+  passes_input : (count func_index x y : ℕ) → passing count (point_at (sources.Input func_index) x y) ≡ test (point_at (sources.Input func_index) x y)
   unfolding passes
-  passes_input zero place x y = refl
-  passes_input (suc count) place x y = passes_input count place x y
+  passes_input zero func_index x y = refl
+  passes_input (suc count) func_index x y = passes_input count func_index x y
 
-  passes_computed : (count place x y : ℕ) → is_inlined place ≡ false → passing count (point_at (sources.Func place) x y)
-      ≡ test (point_at (sources.Func place) x y)
+  passes_computed : (count func_index x y : ℕ) → is_inlined func_index ≡ false
+      → passing count (point_at (sources.Func func_index) x y)
+      ≡ test (point_at (sources.Func func_index) x y)
   unfolding passes
-  passes_computed zero place x y is = refl
-  passes_computed (suc count) place x y is = rw is (passes_computed count place x y is)
+  passes_computed zero func_index x y is = refl
+  passes_computed (suc count) func_index x y is = rw is (passes_computed count func_index x y is)
 
   pub passes_tested : (count : ℕ) (s : Source) (x y : ℕ) → is_computed is_inlined s ≡ true → passing count (point_at s x y) ≡ test (point_at s x y)
-  passes_tested count (sources.Input place) x y is = passes_input count place x y
-  passes_tested count (sources.Func place) x y is = by_flag (is_inlined place) refl is
+  passes_tested count (sources.Input func_index) x y is = passes_input count func_index x y
+  passes_tested count (sources.Func func_index) x y is = by_flag (is_inlined func_index) refl is
     where
-      by_flag : (flag : Bool) → is_inlined place ≡ flag → not flag ≡ true → passing count (point_at (sources.Func place) x y)
-          ≡ test (point_at (sources.Func place) x y)
+      by_flag : (flag : Bool) → is_inlined func_index ≡ flag → not flag ≡ true → passing count (point_at (sources.Func func_index) x y)
+          ≡ test (point_at (sources.Func func_index) x y)
       by_flag true f n = absurd cc
-      by_flag false f n = passes_computed count place x y f
+      by_flag false f n = passes_computed count func_index x y f
 
-  pub passes_before : (count place x y : ℕ) → place < count → is_inlined place ≡ true → passing count (point_at (sources.Func place) x y) ≡ passing_in place x y
+  pub passes_before : (count func_index x y : ℕ) → func_index < count → is_inlined func_index ≡ true → passing count (point_at (sources.Func func_index) x y) ≡ passing_in func_index x y
   unfolding passes
-  passes_before zero place x y before is = absurd (omega (arith, before))
-  passes_before (suc count) place x y before is = elim (cases_eq place count) [
+  passes_before zero func_index x y before is = absurd (omega (arith, before))
+  passes_before (suc count) func_index x y before is = elim (cases_eq func_index count) [
     | inl same ↦
-        let here : (place == count) ≡ true = grind (arith, nat_tests) in
+        let here : (func_index == count) ≡ true = grind (arith, nat_tests) in
         rw is (rw here (ap (λ (at : ℕ). passing_in at x y) (sym same)))
     | inr other ↦
-        let here : (place == count) ≡ false = grind (arith, nat_tests, other) in
-        rw is (rw here (passes_before count place x y (omega (arith, other, before)) is))
+        let here : (func_index == count) ≡ false = grind (arith, nat_tests, other) in
+        rw is (rw here (passes_before count func_index x y (omega (arith, other, before)) is))
   ]
 
   passes_more : (count more : ℕ) → count ≤ more → (point : Point) → IsBelow count point.source → passing count point ≡ true → passing more point ≡ true
   passes_more count more few point below passed = by_source point.source refl below
     where
-      by_flag : (place : ℕ) (flag : Bool) → is_inlined place ≡ flag → point.source ≡ sources.Func place → place < count → passing more point ≡ true
-      by_flag place true f is before =
-          let here : point ≡ point_at (sources.Func place) point.x point.y = ap (λ (s : Source). point_at s point.x point.y) is in
-          ap (passing more) here ∙ passes_before more place point.x point.y (omega (arith, few, before)) f
-          ∙ sym (passes_before count place point.x point.y before f) ∙ sym (ap (passing count) here) ∙ passed
-      by_flag place false f is before =
-          let here : point ≡ point_at (sources.Func place) point.x point.y = ap (λ (s : Source). point_at s point.x point.y) is in
-          ap (passing more) here ∙ passes_computed more place point.x point.y f ∙ sym (passes_computed count place point.x point.y f)
+      by_flag : (func_index : ℕ) (flag : Bool) → is_inlined func_index ≡ flag → point.source ≡ sources.Func func_index → func_index < count → passing more point ≡ true
+      by_flag func_index true f is before =
+          let here : point ≡ point_at (sources.Func func_index) point.x point.y = ap (λ (s : Source). point_at s point.x point.y) is in
+          ap (passing more) here ∙ passes_before more func_index point.x point.y (omega (arith, few, before)) f
+          ∙ sym (passes_before count func_index point.x point.y before f) ∙ sym (ap (passing count) here) ∙ passed
+      by_flag func_index false f is before =
+          let here : point ≡ point_at (sources.Func func_index) point.x point.y = ap (λ (s : Source). point_at s point.x point.y) is in
+          ap (passing more) here ∙ passes_computed more func_index point.x point.y f ∙ sym (passes_computed count func_index point.x point.y f)
           ∙ sym (ap (passing count) here) ∙ passed
 
       by_source : (s : Source) → point.source ≡ s → IsBelow count s → passing more point ≡ true
-      by_source (sources.Input place) is before =
-          let here : point ≡ point_at (sources.Input place) point.x point.y = ap (λ (s : Source). point_at s point.x point.y) is in
-          ap (passing more) here ∙ passes_input more place point.x point.y ∙ sym (passes_input count place point.x point.y) ∙ sym (ap (passing count) here)
+      by_source (sources.Input func_index) is before =
+          let here : point ≡ point_at (sources.Input func_index) point.x point.y = ap (λ (s : Source). point_at s point.x point.y) is in
+          ap (passing more) here ∙ passes_input more func_index point.x point.y ∙ sym (passes_input count func_index point.x point.y) ∙ sym (ap (passing count) here)
           ∙ passed
-      by_source (sources.Func place) is before = by_flag place (is_inlined place) refl is before
+      by_source (sources.Func func_index) is before = by_flag func_index (is_inlined func_index) refl is before
 
   pub pass_more : (count more : ℕ) → count ≤ more → (points : List Point) → AreBelow count points → Hold (passing count) points → Hold (passing more) points
   pass_more count more few [] below passed = tt
@@ -161,7 +163,7 @@ module _ (test : Point → Bool) (reads : Reads) (is_inlined : ℕ → Bool) (in
   holding count = passes test is_inlined funcs planes count
 
   abbrev pixel : ℕ → ℕ → ℕ → ℕ
-  pixel place x y = func_plane place (slice_get funcs place) planes (pixels funcs planes place) x y
+  pixel func_index x y = func_plane func_index (slice_get funcs func_index) planes (pixels funcs planes func_index) x y
 
   -- one value; and what is read passes where what is seen holds
   abbrev Meets : ℕ → Seen → Seen → Type 0
@@ -173,24 +175,26 @@ module _ (test : Point → Bool) (reads : Reads) (is_inlined : ℕ → Bool) (in
 
   -- and inlined Funcs by their pixels
   abbrev Finds : ℕ → Reads → Type 0
-  Finds count other = (place x y : ℕ) → place < count → is_inlined place ≡ true → other (sources.Func place) x y ≡ pixel place x y
+  Finds count other = (func_index x y : ℕ) → func_index < count → is_inlined func_index ≡ true → other (sources.Func func_index) x y ≡ pixel func_index x y
 
   abbrev second_value : Option Seen → ℕ
   second_value y = (second_of (none (seeing reads)) y).value
 
   -- what a call answers by a function of its arguments
   abbrev Answers : (Seen → Option Seen → Seen) → ℕ → Type 0
-  Answers made place = (x : Seen) (y : Option Seen) → ((made x y).value ≡ pixel place x.value (second_value y))
-      × (Hold test (made x y).points → (Hold test x.points × Hold test (second_points y)) × (passes_in (holding place) planes (pixels funcs planes place)
-      (slice_get funcs place) x.value (second_value y) ≡ true))
+  Answers made func_index = (x : Seen) (y : Option Seen) → ((made x y).value ≡ pixel func_index x.value
+      (second_value y))
+      × (Hold test (made x y).points → (Hold test x.points × Hold test (second_points y)) × (passes_in (holding func_index) planes (pixels funcs planes func_index)
+      (slice_get funcs func_index) x.value (second_value y) ≡ true))
 
   abbrev AnswersIn : Option (Seen → Option Seen → Seen) → ℕ → Type 0
-  AnswersIn None place = ⊥
-  AnswersIn (Some made) place = Answers made place
+  AnswersIn None func_index = ⊥
+  AnswersIn (Some made) func_index = Answers made func_index
 
   abbrev CallsBelow : ℕ → Type 0
-  CallsBelow count = (place n : ℕ) → place < count → is_func_of (slice_get funcs place) n ≡ true → is_inlined place ≡ true
-      → AnswersIn (made_in (seeing reads) (inside (seeing reads) is_inlined funcs place) (slice_get funcs place)) place
+  CallsBelow count = (func_index n : ℕ) → func_index < count → is_func_of (slice_get funcs func_index) n ≡ true → is_inlined func_index ≡ true
+      → AnswersIn (made_in (seeing reads) (inside (seeing reads) is_inlined funcs func_index)
+      (slice_get funcs func_index)) func_index
 
   module _ (count : ℕ) (other : Reads) (made : CallsBelow count) (agrees : Agrees count other) (finds : Finds count other) where
     -- what a call reads beside its indexes, and answers
@@ -210,31 +214,34 @@ module _ (test : Point → Bool) (reads : Reads) (is_inlined : ℕ → Bool) (in
       λ held. let k = stands.1 held in (k.0, passes_tested test is_inlined funcs planes count s x.value (second_value y) is ∙ k.1),
     )
 
-    inlined_reaches : (place : ℕ) → place < count → is_inlined place ≡ true → (f : Option (Seen → Option Seen → Seen)) → AnswersIn f place
-        → (x : Seen) (y : Option Seen) (a : Seen) → Reaches (sources.Func place) x y (answered a x y f)
-    inlined_reaches place before flag None answers x y a = absurd answers
-    inlined_reaches place before flag (Some f) answers x y a =
+    inlined_reaches : (func_index : ℕ) → func_index < count → is_inlined func_index ≡ true → (f : Option (Seen → Option Seen → Seen)) → AnswersIn f func_index
+        → (x : Seen) (y : Option Seen) (a : Seen) → Reaches (sources.Func func_index) x y (answered a x y f)
+    inlined_reaches func_index before flag None answers x y a = absurd answers
+    inlined_reaches func_index before flag (Some f) answers x y a =
         let k = answers x y in (
-          k.0 ∙ sym (finds place x.value (second_value y) before flag),
-          λ held. let m = k.1 held in (m.0, passes_before test is_inlined funcs planes count place x.value (second_value y) before flag ∙ m.1),
+          k.0 ∙ sym (finds func_index x.value (second_value y) before flag),
+          λ held. let m = k.1 held in (m.0, passes_before test is_inlined funcs planes count func_index x.value (second_value y) before flag ∙ m.1),
         )
 
-    place_reaches : (flag : Bool) (place n : ℕ) → is_inlined place ≡ flag → is_read inputs funcs count (sources.Func place) n ≡ true
-        → (x : Seen) (y : Option Seen) (a : Seen) → Stands (sources.Func place) x y a
-        → Reaches (sources.Func place) x y (answered a x y (inside (seeing reads) is_inlined funcs count place))
-    place_reaches false place n flag read x y a stands =
-        rw (inside_computed (seeing reads) is_inlined funcs count place flag) (computed_reaches (sources.Func place) n (ap not flag) read x y a stands)
-    place_reaches true place n flag read x y a stands =
-        let k = and_parts (nat_lt place count) (is_func_of (slice_get funcs place) n) read in
-        let before = ltb-true place count k.0 in
-        rw (inside_before (seeing reads) is_inlined funcs count place before flag)
-        (inlined_reaches place before flag (made_in (seeing reads) (inside (seeing reads) is_inlined funcs place) (slice_get funcs place))
-        (made place n before k.1 flag) x y a)
+    place_reaches : (flag : Bool) (func_index n : ℕ) → is_inlined func_index ≡ flag → is_read inputs funcs count (sources.Func func_index) n ≡ true
+        → (x : Seen) (y : Option Seen) (a : Seen) → Stands (sources.Func func_index) x y a
+        → Reaches (sources.Func func_index) x y (answered a x y
+        (inside (seeing reads) is_inlined funcs count func_index))
+    place_reaches false func_index n flag read x y a stands =
+        rw (inside_computed (seeing reads) is_inlined funcs count func_index flag) (computed_reaches (sources.Func func_index) n (ap not flag) read x y a stands)
+    place_reaches true func_index n flag read x y a stands =
+        let k = and_parts (nat_lt func_index count) (is_func_of (slice_get funcs func_index) n) read in
+        let before = ltb-true func_index count k.0 in
+        rw (inside_before (seeing reads) is_inlined funcs count func_index before flag)
+        (inlined_reaches func_index before flag (made_in (seeing reads) (inside (seeing reads) is_inlined funcs func_index) (slice_get funcs func_index))
+        (made func_index n before k.1 flag) x y a)
 
     reaches : (s : Source) (n : ℕ) → is_read inputs funcs count s n ≡ true → (x : Seen) (y : Option Seen) (a : Seen) → Stands s x y a
         → Reaches s x y (answered a x y (answer (inside (seeing reads) is_inlined funcs count) s))
-    reaches (sources.Input place) n read x y a stands = computed_reaches (sources.Input place) n refl read x y a stands
-    reaches (sources.Func place) n read x y a stands = place_reaches (is_inlined place) place n refl read x y a stands
+    reaches (sources.Input func_index) n read x y a stands = computed_reaches (sources.Input func_index) n refl read x y
+        a stands
+    reaches (sources.Func func_index) n read x y a stands = place_reaches (is_inlined func_index) func_index n refl read
+        x y a stands
 
     module _ (has : Variable → Bool) (vars : Variable → Seen) (environment : Environment) (are_vars : (v : Variable) → has v ≡ true
         → (vars v).value ≡ variable environment v) where
@@ -318,45 +325,45 @@ module _ (test : Point → Bool) (reads : Reads) (is_inlined : ℕ → Bool) (in
   arguments_are x y variables.FirstReduction = refl
   arguments_are x y variables.SecondReduction = refl
 
-  -- what is seen of expressions that call the first so many Funcs
+  -- what is seen of expressions that call the first this many Funcs
   abbrev Within : ℕ → Type 0
   Within count = (has : Variable → Bool) (vars : Variable → Seen) (environment : Environment) → ((v : Variable) → has v ≡ true
       → (vars v).value ≡ variable environment v)
       → (e : Expr) → keeps (is_read inputs funcs count) has e ≡ true
       → Meets count (inlined (seeing reads) is_inlined funcs count vars e) (seen (found count) environment e)
 
-  func_at : (place n : ℕ) (own : Option Func) → slice_get funcs place ≡ own → is_func_of own n ≡ true → is_inlined place ≡ true → Within place
-      → AnswersIn (made_in (seeing reads) (inside (seeing reads) is_inlined funcs place) own) place
+  func_at : (func_index n : ℕ) (own : Option Func) → slice_get funcs func_index ≡ own → is_func_of own n ≡ true → is_inlined func_index ≡ true → Within func_index
+      → AnswersIn (made_in (seeing reads) (inside (seeing reads) is_inlined funcs func_index) own) func_index
   unfolding seeing
-  func_at place n None is ok flag inner = absurd cc
-  func_at place n (Some func) is ok flag inner = λ x y.
+  func_at func_index n None is ok flag inner = absurd cc
+  func_at func_index n (Some func) is ok flag inner = λ x y.
       let second = second_of (none (seeing reads)) y in
       let point = at_point x.value second.value in
       let m = inner (is_argument (dimensions func)) (arguments (none (seeing reads)) (unread x) (unread second)) point (λ v has. arguments_are x second v)
-      func.pure (are place func is).pure in
-      let here : pixel place x.value second.value ≡ value (found place) point func.pure =
-      ap (λ (f : Option Func). func_plane place f planes (pixels funcs planes place) x.value second.value) is
-      ∙ pure_only reads is_inlined inputs funcs planes are simple place func x.value second.value (length func.updates) (simple place func is flag) in (
-        m.0 ∙ values_are_seen (found place) point func.pure ∙ sym here,
+      func.pure (are func_index func is).pure in
+      let here : pixel func_index x.value second.value ≡ value (found func_index) point func.pure =
+      ap (λ (f : Option Func). func_plane func_index f planes (pixels funcs planes func_index) x.value second.value) is
+      ∙ pure_only reads is_inlined inputs funcs planes are simple func_index func x.value second.value (length func.updates) (simple func_index func is flag) in (
+        m.0 ∙ values_are_seen (found func_index) point func.pure ∙ sym here,
         λ held.
             let k = all_parts (λ (p : Point). test p ≡ true) x.points _ held in
             let l = all_parts (λ (p : Point). test p ≡ true) (second_points y) _ k.1 in (
               (k.0, l.0),
-              ap (λ (f : Option Func). passes_in (holding place) planes (pixels funcs planes place) f x.value second.value) is
-                  ∙ all_hold (holding place) (points_read (found place) point func.pure) (m.1 l.1),
+              ap (λ (f : Option Func). passes_in (holding func_index) planes (pixels funcs planes func_index) f x.value second.value) is
+                  ∙ all_hold (holding func_index) (points_read (found func_index) point func.pure) (m.1 l.1),
             ),
       )
 
   finds_pixels : (count : ℕ) → Finds count (found count)
-  finds_pixels count place x y before flag = pixels_before funcs planes count place x y before
+  finds_pixels count func_index x y before flag = pixels_before funcs planes count func_index x y before
 
   within : (bound count : ℕ) → count ≤ bound → Agrees count (found count) → Within count
-  within zero count few agrees = meets count (found count) (λ place n before ok flag. absurd (omega (arith, few, before))) agrees (finds_pixels count)
+  within zero count few agrees = meets count (found count) (λ func_index n before ok flag. absurd (omega (arith, few, before))) agrees (finds_pixels count)
   within (suc bound) count few agrees =
       meets count (found count)
-      (λ place n before ok flag.
-      func_at place n (slice_get funcs place) refl ok flag
-      (within bound place (omega (arith, few, before)) (fewer reads is_inlined inputs funcs planes are simple count place (omega (arith, before)) agrees)))
+      (λ func_index n before ok flag.
+      func_at func_index n (slice_get funcs func_index) refl ok flag
+      (within bound func_index (omega (arith, few, before)) (fewer reads is_inlined inputs funcs planes are simple count func_index (omega (arith, before)) agrees)))
       agrees (finds_pixels count)
 
   -- ---- in an update
@@ -366,22 +373,22 @@ module _ (test : Point → Bool) (reads : Reads) (is_inlined : ℕ → Bool) (in
     abbrev standing : Reads
     standing = reads_of planes (with_plane own plane (pixels funcs planes own))
 
-    other_place : (place : ℕ) → is_inlined place ≡ true → place ≡ own → ⊥
-    other_place place flag same = let e : is_inlined own ≡ true = subst (λ (at : ℕ). is_inlined at ≡ true) same flag in absurd cc
+    other_place : (func_index : ℕ) → is_inlined func_index ≡ true → func_index ≡ own → ⊥
+    other_place func_index flag same = let e : is_inlined own ≡ true = subst (λ (at : ℕ). is_inlined at ≡ true) same flag in absurd cc
 
     finds_standing : Finds (suc own) standing
-    finds_standing place x y before flag =
-        let no = other_place place flag in
-        let here : (place == own) ≡ false = grind (arith, nat_tests, no) in
-        rw here (pixels_before funcs planes own place x y (omega (arith, no, before)))
+    finds_standing func_index x y before flag =
+        let no = other_place func_index flag in
+        let here : (func_index == own) ≡ false = grind (arith, nat_tests, no) in
+        rw here (pixels_before funcs planes own func_index x y (omega (arith, no, before)))
 
     within_update : (has : Variable → Bool) (environment : Environment) (e : Expr) → keeps (is_read inputs funcs (suc own)) has e ≡ true
         → Meets (suc own) (inlined (seeing reads) is_inlined funcs (suc own) (seen_variable environment) e) (seen standing environment e)
     within_update has environment e kept =
         meets (suc own) standing
-        (λ place n before ok flag.
-        func_at place n (slice_get funcs place) refl ok flag
-        (within own place (omega (arith, before)) (fewer reads is_inlined inputs funcs planes are simple own place (omega (arith, before)) agrees)))
+        (λ func_index n before ok flag.
+        func_at func_index n (slice_get funcs func_index) refl ok flag
+        (within own func_index (omega (arith, before)) (fewer reads is_inlined inputs funcs planes are simple own func_index (omega (arith, before)) agrees)))
         (own_agrees reads is_inlined inputs funcs planes are simple own plane computed agrees stands) finds_standing
         has (seen_variable environment) environment (λ v held. refl) e kept
 
@@ -415,7 +422,7 @@ passing_is_closed test is_inlined inputs funcs planes are simple more place x y 
         (at_point x y) func.pure) held
     pure_trace func (suc updates) none held = absurd (omega (arith, none))
 
-    by_func : (own : Option Func) → slice_get funcs place ≡ own → passes_in (passes test is_inlined funcs planes place) planes (pixels funcs planes place)
+    by_func : (own_func : Option Func) → slice_get funcs place ≡ own_func → passes_in (passes test is_inlined funcs planes place) planes (pixels funcs planes place)
         (slice_get funcs place) x y ≡ true
         → Hold (passes test is_inlined funcs planes more) (func_trace place (slice_get funcs place) planes (pixels funcs planes place) untraced x y)
     by_func None is holds = rw is tt

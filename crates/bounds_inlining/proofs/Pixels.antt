@@ -76,7 +76,7 @@ module _ (reads : Reads) (is_inlined : ℕ → Bool) (inputs : List Input) (func
           kept_folds_related Same (is_read inputs funcs count) has (through_at (values reads) (inside (values reads) is_inlined funcs count) vars)
           (value_at other environment) levels e kept
 
-  -- what calls of the first so many Funcs find
+  -- what calls of the first this many Funcs find
   abbrev found : ℕ → Reads
   found count = reads_of planes (pixels funcs planes count)
 
@@ -145,38 +145,39 @@ module _ (reads : Reads) (is_inlined : ℕ → Bool) (inputs : List Input) (func
 
   -- ---- in an update
 
-  module _ (own : ℕ) (plane : Plane) (computed : is_inlined own ≡ false) (agrees : Agrees own (found own)) (stands : (x y : ℕ)
-      → reads (sources.Func own) x y ≡ plane x y) where
+  module _ (func_index : ℕ) (plane : Plane) (computed : is_inlined func_index ≡ false) (agrees : Agrees func_index (found func_index)) (stands : (x y : ℕ)
+      → reads (sources.Func func_index) x y ≡ plane x y) where
     abbrev standing : Reads
-    standing = reads_of planes (with_plane own plane (pixels funcs planes own))
+    standing = reads_of planes (with_plane func_index plane (pixels funcs planes func_index))
 
-    other_place : (place : ℕ) → is_inlined place ≡ true → place ≡ own → ⊥
-    other_place place flag same = let e : is_inlined own ≡ true = subst (λ (at : ℕ). is_inlined at ≡ true) same flag in absurd cc
+    other_place : (place : ℕ) → is_inlined place ≡ true → place ≡ func_index → ⊥
+    other_place place flag same = let e : is_inlined func_index ≡ true = subst (λ (at : ℕ). is_inlined at ≡ true) same flag in absurd cc
 
-    own_answers : Answers (suc own) (λ place. standing (sources.Func place))
+    own_answers : Answers (suc func_index) (λ place. standing (sources.Func place))
     unfolding inside
     own_answers place n below ok flag a x y =
         let no = other_place place flag in
-        let test : (place == own) ≡ false = grind (arith, nat_tests, no) in
-        rw flag (rw test (answers_at own agrees place n (omega (arith, no, below)) ok flag a x y))
+        let test : (place == func_index) ≡ false = grind (arith, nat_tests, no) in
+        rw flag (rw test (answers_at func_index agrees place n (omega (arith, no, below)) ok flag a x y))
 
-    pub own_agrees : Agrees (suc own) standing
+    pub own_agrees : Agrees (suc func_index) standing
     own_agrees (sources.Input at) n x y is read = agrees (sources.Input at) n x y is read
-    own_agrees (sources.Func at) n x y is read = elim (cases_eq at own) [
+    own_agrees (sources.Func at) n x y is read = elim (cases_eq at func_index) [
       | inl same ↦
-          let test : (at == own) ≡ true = grind (arith, nat_tests) in
+          let test : (at == func_index) ≡ true = grind (arith, nat_tests) in
           rw test (subst (λ (place : ℕ). reads (sources.Func place) x y ≡ plane x y) (sym same) (stands x y))
       | inr other ↦
-          let test : (at == own) ≡ false = grind (arith, nat_tests, other) in
-          let k = and_parts (nat_lt at (suc own)) (is_func_of (slice_get funcs at) n) read in
-          let b = ltb-true at (suc own) k.0 in
-          rw test (agrees (sources.Func at) n x y is (and_from (nat_lt at own) (is_func_of (slice_get funcs at) n) (lt-ltb at own (omega (arith, other, b)))
+          let test : (at == func_index) ≡ false = grind (arith, nat_tests, other) in
+          let k = and_parts (nat_lt at (suc func_index)) (is_func_of (slice_get funcs at) n) read in
+          let b = ltb-true at (suc func_index) k.0 in
+          rw test (agrees (sources.Func at) n x y is (and_from (nat_lt at func_index) (is_func_of (slice_get funcs at) n) (lt-ltb at func_index (omega (arith, other, b)))
           k.1))
     ]
 
-    keeps_updates : (has : Variable → Bool) (environment : Environment) (e : Expr) → keeps (is_read inputs funcs (suc own)) has e ≡ true
-        → inlined (values reads) is_inlined funcs (suc own) (variable environment) e ≡ value standing environment e
-    keeps_updates has environment e kept = fits (suc own) standing own_answers own_agrees has (variable environment) environment (λ v held. refl) e kept
+    keeps_updates : (has : Variable → Bool) (environment : Environment) (e : Expr) → keeps (is_read inputs funcs (suc func_index)) has e ≡ true
+        → inlined (values reads) is_inlined funcs (suc func_index) (variable environment) e ≡ value standing environment
+        e
+    keeps_updates has environment e kept = fits (suc func_index) standing own_answers own_agrees has (variable environment) environment (λ v held. refl) e kept
 
 pub inlining_keeps_values : InliningKeepsValues
 inlining_keeps_values reads is_inlined inputs funcs planes are simple count answers has environment e kept = keeps_values reads is_inlined inputs funcs planes

@@ -56,53 +56,55 @@ module _ {A : Type 0} (algebra : Algebra A) (within : Inside A) (variables : Var
 -- ---- what answers calls
 
 module _ {A : Type 0} (algebra : Algebra A) (is_inlined : ℕ → Bool) (funcs : List Func) where
-  -- a Func that stands too late
-  pub inside_past : (count place : ℕ) → count ≤ place → inside algebra is_inlined funcs count place ≡ None
+  -- a Func that is too late
+  pub inside_past : (count func_index : ℕ) → count ≤ func_index
+      → inside algebra is_inlined funcs count func_index ≡ None
   unfolding inside
-  inside_past zero place past = refl
-  inside_past (suc count) place past =
-      let test : (place == count) ≡ false = grind (arith, nat_tests, past) in
-      rw test (by_test (is_inlined place) (inside_past count place (omega (arith, past))))
+  inside_past zero func_index past = refl
+  inside_past (suc count) func_index past =
+      let test : (func_index == count) ≡ false = grind (arith, nat_tests, past) in
+      rw test (by_test (is_inlined func_index) (inside_past count func_index (omega (arith, past))))
     where
-      by_test : (b : Bool) → inside algebra is_inlined funcs count place ≡ None
-          → cond (b && false) (made_in algebra (inside algebra is_inlined funcs count) (slice_get funcs count)) (inside algebra is_inlined funcs count place)
+      by_test : (b : Bool) → inside algebra is_inlined funcs count func_index ≡ None
+          → cond (b && false) (made_in algebra (inside algebra is_inlined funcs count) (slice_get funcs count)) (inside algebra is_inlined funcs count func_index)
           ≡ None
       by_test true e = e
       by_test false e = e
 
-  pub inside_before : (count place : ℕ) → place < count → is_inlined place ≡ true
-      → inside algebra is_inlined funcs count place ≡ made_in algebra (inside algebra is_inlined funcs place) (slice_get funcs place)
+  pub inside_before : (count func_index : ℕ) → func_index < count → is_inlined func_index ≡ true
+      → inside algebra is_inlined funcs count func_index ≡ made_in algebra (inside algebra is_inlined funcs func_index) (slice_get funcs func_index)
   unfolding inside
-  inside_before zero place before is = absurd (omega (arith, before))
-  inside_before (suc count) place before is = elim (cases_eq place count) [
+  inside_before zero func_index before is = absurd (omega (arith, before))
+  inside_before (suc count) func_index before is = elim (cases_eq func_index count) [
     | inl same ↦
-        let test : (place == count) ≡ true = grind (arith, nat_tests) in
+        let test : (func_index == count) ≡ true = grind (arith, nat_tests) in
         rw is (rw test (ap (λ (at : ℕ). made_in algebra (inside algebra is_inlined funcs at) (slice_get funcs at)) (sym same)))
     | inr other ↦
-        let test : (place == count) ≡ false = grind (arith, nat_tests, other) in
-        rw is (rw test (inside_before count place (omega (arith, other, before)) is))
+        let test : (func_index == count) ≡ false = grind (arith, nat_tests, other) in
+        rw is (rw test (inside_before count func_index (omega (arith, other, before)) is))
   ]
 
   -- a call of a Func, by what stands for it
-  pub inside_is : (count place : ℕ) → inside algebra is_inlined funcs count place ≡ made_in algebra (inside algebra is_inlined funcs place)
-      (func_in funcs is_inlined count place)
-  inside_is count place = by_flag (is_inlined place) (nat_lt place count) refl refl
+  pub inside_is : (count func_index : ℕ) → inside algebra is_inlined funcs count func_index ≡ made_in algebra (inside algebra is_inlined funcs func_index)
+      (func_in funcs is_inlined count func_index)
+  inside_is count func_index = by_flag (is_inlined func_index) (nat_lt func_index count) refl refl
     where
-      by_flag : (flag before : Bool) → is_inlined place ≡ flag → nat_lt place count ≡ before
-          → inside algebra is_inlined funcs count place ≡ made_in algebra (inside algebra is_inlined funcs place) (cond (nat_lt place count && is_inlined place)
-          (slice_get funcs place) None)
-      by_flag true true f b = rw b (rw f (inside_before count place (ltb-true place count b) f))
-      by_flag false true f b = rw b (rw f (inside_computed algebra is_inlined funcs count place f))
-      by_flag flag false f b = rw b (inside_past count place (ltb-false place count b))
+      by_flag : (flag before : Bool) → is_inlined func_index ≡ flag → nat_lt func_index count ≡ before
+          → inside algebra is_inlined funcs count func_index ≡ made_in algebra (inside algebra is_inlined funcs func_index) (cond (nat_lt func_index count && is_inlined func_index)
+          (slice_get funcs func_index) None)
+      by_flag true true f b = rw b (rw f (inside_before count func_index (ltb-true func_index count b) f))
+      by_flag false true f b = rw b (rw f (inside_computed algebra is_inlined funcs count func_index f))
+      by_flag flag false f b = rw b (inside_past count func_index (ltb-false func_index count b))
 
--- a Func that is there is one of the first so many
-pub func_in_parts : (funcs : List Func) (is_inlined : ℕ → Bool) (count place : ℕ) (func : Func) → func_in funcs is_inlined count place ≡ Some func
-    → (place < count) × (slice_get funcs place ≡ Some func)
-func_in_parts funcs is_inlined count place func found = by_test (nat_lt place count) (is_inlined place) refl found
+-- a Func that is there is one of the first this many
+pub func_in_parts : (funcs : List Func) (is_inlined : ℕ → Bool) (count func_index : ℕ) (func : Func) → func_in funcs is_inlined count func_index ≡ Some func
+    → (func_index < count) × (slice_get funcs func_index ≡ Some func)
+func_in_parts funcs is_inlined count func_index func found = by_test (nat_lt func_index count) (is_inlined func_index)
+    refl found
   where
-    by_test : (before flag : Bool) → nat_lt place count ≡ before → cond (before && flag) (slice_get funcs place) None ≡ Some func
-        → (place < count) × (slice_get funcs place ≡ Some func)
-    by_test true true b is = (ltb-true place count b, is)
+    by_test : (before flag : Bool) → nat_lt func_index count ≡ before → cond (before && flag) (slice_get funcs func_index) None ≡ Some func
+        → (func_index < count) × (slice_get funcs func_index ≡ Some func)
+    by_test true true b is = (ltb-true func_index count b, is)
     by_test true false b is = absurd cc
     by_test false flag b is = absurd cc
 
@@ -121,21 +123,21 @@ pub less_size : (funcs : List Func) (count n m : ℕ) → n < m → size funcs c
 unfolding size
 less_size funcs count n m less = omega (arith, less)
 
-pub less_place : (funcs : List Func) (place count n m : ℕ) → place < count → n ≤ pure_nodes funcs → size funcs place n < size funcs count m
+pub less_place : (funcs : List Func) (func_index count n m : ℕ) → func_index < count → n ≤ pure_nodes funcs → size funcs func_index n < size funcs count m
 unfolding size
-less_place funcs place count n m less few =
+less_place funcs func_index count n m less few =
     let width = pure_nodes funcs + 1 in
-    let more : suc place * width ≤ count * width = mul-le-mul_right width less in
-    let one : suc place * width ≡ place * width + width = omega arith in
+    let more : suc func_index * width ≤ count * width = mul-le-mul_right width less in
+    let one : suc func_index * width ≡ func_index * width + width = omega arith in
     omega (arith, more, one, few)
 
-pub few_nodes : (funcs : List Func) (place : ℕ) (func : Func) → slice_get funcs place ≡ Some func → nodes func.pure ≤ pure_nodes funcs
-few_nodes [] place func is = absurd cc
+pub few_nodes : (funcs : List Func) (func_index : ℕ) (func : Func) → slice_get funcs func_index ≡ Some func → nodes func.pure ≤ pure_nodes funcs
+few_nodes [] func_index func is = absurd cc
 few_nodes (first ∷ funcs) zero func is =
     let e : first ≡ func = cc in
     let n : nodes first.pure ≡ nodes func.pure = ap (λ (f : Func). nodes f.pure) e in
     omega (arith, n)
-few_nodes (first ∷ funcs) (suc place) func is = let r = few_nodes funcs place func is in omega (arith, r)
+few_nodes (first ∷ funcs) (suc func_index) func is = let r = few_nodes funcs func_index func is in omega (arith, r)
 
 module _ (expr : Expr) where
   pub nodes-Binary : (operation : Operation) (a b : Expr) → expr ≡ e.Binary operation a b → nodes expr ≡ 1 + nodes a + nodes b

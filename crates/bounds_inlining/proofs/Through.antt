@@ -52,12 +52,12 @@ module _ {A B : Type 0} (R : A → B → Type 0) where
 
   module _ (p : Algebra A) (q : Algebra B) (levels : RelatesAllLevels p q) where
     abbrev pub AnswersAll : Inside A → Inside B → Type 0
-    AnswersAll left right = (place : ℕ) → Answers (left place) (right place)
+    AnswersAll left right = (func_index : ℕ) → Answers (left func_index) (right func_index)
 
     module _ (left : Inside A) (right : Inside B) (answers : AnswersAll left right) where
       source_answers : (s : Source) → Answers (answer left s) (answer right s)
-      source_answers (sources.Input place) = tt
-      source_answers (sources.Func place) = answers place
+      source_answers (sources.Input func_index) = tt
+      source_answers (sources.Func func_index) = answers func_index
 
       module _ (va : Variable → A) (vb : Variable → B) (vars : (v : Variable) → R (va v) (vb v)) where
         through_levels : (y : Expr-F (Both R)) → R (through_at p left va (left_of R y)) (through_at q right vb (right_of R y))
@@ -92,10 +92,10 @@ module _ {A B : Type 0} (R : A → B → Type 0) where
         (args x z rx) (args (second_of (none p) y) (second_of (none q) u) (seconds_related (none p) y (none q) u rn ry))) func.pure)
         rx ry
 
-    module _ (made : RelatesMade) where
+    module _ (relates_made : RelatesMade) where
       made_answers : (left : Inside A) (right : Inside B) → AnswersAll left right → (func : Option Func) → Answers (made_in p left func) (made_in q right func)
       made_answers left right answers None = tt
-      made_answers left right answers (Some func) = made left right answers func
+      made_answers left right answers (Some func) = relates_made left right answers func
 
       either : (test : Bool) (f : Option (A → Option A → A)) (g : Option (B → Option B → B)) (h : Option (A → Option A → A)) (k : Option (B → Option B → B))
           → Answers f g → Answers h k → Answers (cond test f h) (cond test g k)
@@ -105,11 +105,11 @@ module _ {A B : Type 0} (R : A → B → Type 0) where
       pub inside_related : (is_inlined : ℕ → Bool) (funcs : List Func) (count : ℕ)
           → AnswersAll (inside p is_inlined funcs count) (inside q is_inlined funcs count)
       unfolding inside
-      inside_related is_inlined funcs zero place = tt
-      inside_related is_inlined funcs (suc count) place =
+      inside_related is_inlined funcs zero func_index = tt
+      inside_related is_inlined funcs (suc count) func_index =
           let before = inside_related is_inlined funcs count in
-          either (is_inlined place && place == count) _ _ _ _ (made_answers (inside p is_inlined funcs count) (inside q is_inlined funcs count) before
-          (slice_get funcs count)) (before place)
+          either (is_inlined func_index && func_index == count) _ _ _ _ (made_answers (inside p is_inlined funcs count) (inside q is_inlined funcs count) before
+          (slice_get funcs count)) (before func_index)
 
       pub inlined_related : (is_inlined : ℕ → Bool) (funcs : List Func) (count : ℕ) (va : Variable → A) (vb : Variable → B) → ((v : Variable) → R (va v) (vb v))
           → (e : Expr) → R (inlined p is_inlined funcs count va e) (inlined q is_inlined funcs count vb e)

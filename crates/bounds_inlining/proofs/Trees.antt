@@ -163,7 +163,7 @@ module _ (is_inlined : ℕ → Bool) (has : Variable → Bool) where
   abbrev calls_computed : Expr → Bool
   calls_computed e = keeps (λ s n. is_computed is_inlined s) has e
 
-  -- so it is of a tree, whatever stands beside it
+  -- so it is of a tree, whatever is beside it
   abbrev CallsComputed : Tree → Tree → Type 0
   CallsComputed tree other = calls_computed tree.expr ≡ true
 

@@ -71,14 +71,14 @@ abbrev pub made_in : {A : Type 0} → Algebra A → Inside A → Option Func →
 made_in algebra inside None = None
 made_in algebra inside (Some func) = Some (made_of algebra inside func)
 
--- the first so many Funcs, of which these are inlined
+-- the first this many Funcs, of which these are inlined
 unfoldable pub inside : {A : Type 0} → Algebra A → (ℕ → Bool) → List Func → ℕ → Inside A
 inside algebra is_inlined funcs zero place = None
 inside algebra is_inlined funcs (suc count) place =
     if is_inlined place && place == count then made_in algebra (inside algebra is_inlined funcs count) (slice_get funcs count)
     else inside algebra is_inlined funcs count place
 
--- what is made of an expression that calls the first so many Funcs
+-- what is made of an expression that calls the first this many Funcs
 abbrev pub inlined : {A : Type 0} → Algebra A → (ℕ → Bool) → List Func → ℕ → (Variable → A) → Expr → A
 inlined algebra is_inlined funcs count variables e = through algebra (inside algebra is_inlined funcs count) variables e
 
@@ -90,16 +90,17 @@ flag_of (Some own) = own
 
 -- the Funcs whose flags are set
 abbrev pub flagged : List Bool → ℕ → Bool
-flagged flags place = flag_of (slice_get flags place)
+flagged flags func_index = flag_of (slice_get flags func_index)
 
 -- an input, or a Func that isn't inlined
 abbrev pub is_computed : (ℕ → Bool) → Source → Bool
 is_computed is_inlined (sources.Input place) = true
 is_computed is_inlined (sources.Func place) = not (is_inlined place)
 
--- the Func at a place, if it is one of the first so many and is inlined
+-- the Func at a place, if it is one of the first this many and is inlined
 abbrev pub func_in : List Func → (ℕ → Bool) → ℕ → ℕ → Option Func
-func_in funcs is_inlined count place = if nat_lt place count && is_inlined place then slice_get funcs place else None
+func_in funcs is_inlined count func_index = if nat_lt func_index count && is_inlined func_index then slice_get funcs
+    func_index else None
 
 -- ---- How many nodes an expression has with its inlined Funcs put in place, and how many registers its parts need at once.
 

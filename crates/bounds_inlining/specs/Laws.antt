@@ -18,11 +18,12 @@ use Rattle.bounds_inlining.specs.Values.{values, seeing}
 
 -- the Funcs of a pipeline
 abbrev pub AreFuncs : List Input → List Func → Type 0
-AreFuncs inputs funcs = (place : ℕ) (func : Func) → slice_get funcs place ≡ Some func → IsFunc inputs funcs place func
+AreFuncs inputs funcs = (func_index : ℕ) (func : Func) → slice_get funcs func_index ≡ Some func
+    → IsFunc inputs funcs func_index func
 
 -- a Func that is inlined has no updates
 abbrev pub AreSimple : (ℕ → Bool) → List Func → Type 0
-AreSimple is_inlined funcs = (place : ℕ) (func : Func) → slice_get funcs place ≡ Some func → is_inlined place ≡ true → length func.updates ≡ 0
+AreSimple is_inlined funcs = (func_index : ℕ) (func : Func) → slice_get funcs func_index ≡ Some func → is_inlined func_index ≡ true → length func.updates ≡ 0
 
 -- ---- two folds
 
@@ -55,7 +56,7 @@ FoldsAreRelated {A} {B} R = (p : Algebra A) (q : Algebra B) (is_inlined : ℕ �
 
 -- ---- values
 
--- The inputs and those of the first so many Funcs that are computed answer by their pixels.
+-- The inputs and those of the first this many Funcs that are computed answer by their pixels.
 abbrev pub AnswerPixels : Reads → (ℕ → Bool) → List Input → List Func → Planes → ℕ → Type 0
 AnswerPixels reads is_inlined inputs funcs planes count = (s : Source) (n x y : ℕ) → is_computed is_inlined s ≡ true → is_read inputs funcs count s n ≡ true
     → reads s x y ≡ reads_of planes (pixels funcs planes count) s x y
@@ -69,15 +70,16 @@ InliningKeepsValues = (reads : Reads) (is_inlined : ℕ → Bool) (inputs : List
     → (has : Variable → Bool) (environment : Environment) (e : Expr) → keeps (is_read inputs funcs count) has e ≡ true
     → inlined (values reads) is_inlined funcs count (variable environment) e ≡ value (reads_of planes (pixels funcs planes count)) environment e
 
--- So it is in an update, whose Func answers by what stands.
+-- So it is in an update, whose Func answers by what is there.
 abbrev pub InliningKeepsUpdates : Type 0
 InliningKeepsUpdates = (reads : Reads) (is_inlined : ℕ → Bool) (inputs : List Input) (funcs : List Func) (planes : Planes) → AreFuncs inputs funcs
     → AreSimple is_inlined funcs
-    → (own : ℕ) (plane : Plane) → is_inlined own ≡ false → AnswerPixels reads is_inlined inputs funcs planes own
-    → ((x y : ℕ) → reads (sources.Func own) x y ≡ plane x y)
-    → (has : Variable → Bool) (environment : Environment) (e : Expr) → keeps (is_read inputs funcs (suc own)) has e ≡ true
-    → inlined (values reads) is_inlined funcs (suc own) (variable environment) e
-    ≡ value (reads_of planes (with_plane own plane (pixels funcs planes own))) environment e
+    → (func_index : ℕ) (plane : Plane) → is_inlined func_index ≡ false
+    → AnswerPixels reads is_inlined inputs funcs planes func_index
+    → ((x y : ℕ) → reads (sources.Func func_index) x y ≡ plane x y)
+    → (has : Variable → Bool) (environment : Environment) (e : Expr) → keeps (is_read inputs funcs (suc func_index)) has e ≡ true
+    → inlined (values reads) is_inlined funcs (suc func_index) (variable environment) e
+    ≡ value (reads_of planes (with_plane func_index plane (pixels funcs planes func_index))) environment e
 
 -- ---- reads
 

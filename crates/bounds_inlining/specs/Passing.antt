@@ -18,16 +18,16 @@ use Rattle.bounds_inlining.specs.Laws.{AreFuncs, AreSimple, AnswerPixels, seen_v
 
 -- a point of the Func at this place, where that is inlined
 abbrev pub is_place : (ℕ → Bool) → ℕ → Source → Bool
-is_place is_inlined own (sources.Input place) = false
-is_place is_inlined own (sources.Func place) = is_inlined place && place == own
+is_place is_inlined func_index (sources.Input place) = false
+is_place is_inlined func_index (sources.Func place) = is_inlined place && place == func_index
 
 -- All points that a definition reads at a point pass.
 abbrev pub passes_in : (Point → Bool) → Planes → Planes → Option Func → ℕ → ℕ → Bool
 passes_in passes planes earlier None x y = true
 passes_in passes planes earlier (Some func) x y = list_all passes (points_read (reads_of planes earlier) (at_point x y) func.pure)
 
--- A point of an inlined Func, one of the first so many, passes if all points do that its definition reads there. Every
--- other point is tested itself.
+-- A point of an inlined Func, one of the first this many, passes if all points do that its definition reads there.
+-- Every other point is tested itself.
 unfoldable pub passes : (Point → Bool) → (ℕ → Bool) → List Func → Planes → ℕ → Point → Bool
 passes test is_inlined funcs planes zero point = test point
 passes test is_inlined funcs planes (suc count) point =
@@ -51,21 +51,22 @@ SeenPointsPass = (test : Point → Bool) (reads : Reads) (is_inlined : ℕ → B
     → Hold test (inlined (seeing reads) is_inlined funcs count (seen_variable environment) e).points
     → (more : ℕ) → count ≤ more → Hold (passes test is_inlined funcs planes more) (points_read (reads_of planes (pixels funcs planes count)) environment e)
 
--- So it is in an update, whose Func answers by what stands.
+-- So it is in an update, whose Func answers by what is there.
 abbrev pub SeenPointsPassInUpdates : Type 0
 SeenPointsPassInUpdates = (test : Point → Bool) (reads : Reads) (is_inlined : ℕ → Bool) (inputs : List Input) (funcs : List Func) (planes : Planes)
     → AreFuncs inputs funcs → AreSimple is_inlined funcs
-    → (own : ℕ) (plane : Plane) → is_inlined own ≡ false → AnswerPixels reads is_inlined inputs funcs planes own
-    → ((x y : ℕ) → reads (sources.Func own) x y ≡ plane x y)
-    → (has : Variable → Bool) (environment : Environment) (e : Expr) → keeps (is_read inputs funcs (suc own)) has e ≡ true
-    → Hold test (inlined (seeing reads) is_inlined funcs (suc own) (seen_variable environment) e).points
-    → (more : ℕ) → own < more
-    → Hold (passes test is_inlined funcs planes more) (points_read (reads_of planes (with_plane own plane (pixels funcs planes own))) environment e)
+    → (func_index : ℕ) (plane : Plane) → is_inlined func_index ≡ false
+    → AnswerPixels reads is_inlined inputs funcs planes func_index
+    → ((x y : ℕ) → reads (sources.Func func_index) x y ≡ plane x y)
+    → (has : Variable → Bool) (environment : Environment) (e : Expr) → keeps (is_read inputs funcs (suc func_index)) has e ≡ true
+    → Hold test (inlined (seeing reads) is_inlined funcs (suc func_index) (seen_variable environment) e).points
+    → (more : ℕ) → func_index < more
+    → Hold (passes test is_inlined funcs planes more) (points_read (reads_of planes (with_plane func_index plane (pixels funcs planes func_index))) environment e)
 
 -- Where a point of an inlined Func passes, all that its pixel reads itself does.
 abbrev pub PassingIsClosed : Type 0
 PassingIsClosed = (test : Point → Bool) (is_inlined : ℕ → Bool) (inputs : List Input) (funcs : List Func) (planes : Planes) → AreFuncs inputs funcs
     → AreSimple is_inlined funcs
-    → (more place x y : ℕ) → place < more → is_inlined place ≡ true
-    → passes test is_inlined funcs planes more (record { source = sources.Func place; x = x; y = y }) ≡ true
-    → Hold (passes test is_inlined funcs planes more) (direct_trace funcs planes place x y)
+    → (more func_index x y : ℕ) → func_index < more → is_inlined func_index ≡ true
+    → passes test is_inlined funcs planes more (record { source = sources.Func func_index; x = x; y = y }) ≡ true
+    → Hold (passes test is_inlined funcs planes more) (direct_trace funcs planes func_index x y)

@@ -1,7 +1,7 @@
 -- Nodes are those of the tree with the inlined Funcs put in place and of what it drops; need is the tree's.
 --
 -- The tree is an expression in which each call of an inlined Func is that Func's own expression, with the call's arguments in the place of its
--- variables. An argument that isn't used stands nowhere in it: such ones are listed beside it, as often as the call that drops them stands.
+-- variables. An argument that isn't used occurs nowhere in it: such ones are listed beside it, as often as the call that drops them is.
 -- This project's own.
 use Rattle.std.specs.Prelude.{◌≡◌, ℕ, ◌+◌, Bool, true, if◌then◌else◌, List, [], ◌∷◌, ◌++◌, Option, Some, None}
 use Rattle.halide_pipeline.specs.declared.definitions.Func.{Func}
@@ -58,7 +58,7 @@ putting = record {
 abbrev pub own_variable : Variable → Tree
 own_variable v = record { expr = roll-Expr (layer.Variable v); dropped = [] }
 
--- an expression with the inlined Funcs among the first so many put in place
+-- an expression with the inlined Funcs among the first this many put in place
 abbrev pub put_in : (ℕ → Bool) → List Func → ℕ → Expr → Tree
 put_in is_inlined funcs count e = inlined putting is_inlined funcs count own_variable e
 

@@ -1,6 +1,6 @@
 //! How many nodes an expression has with its inlined Funcs put in place.
 //!
-//! The nodes of an inlined Func's definition are a sum: its own, and those of its arguments so many times. One sum is
+//! The nodes of an inlined Func's definition are a sum: its own, and those of its arguments this many times. One sum is
 //! kept for each inlined Func, so that no definition is gone through twice.
 
 ghost use Rattle.std.specs.Prelude.{◌≡◌, ℕ, ◌+◌, ◌-◌, ◌*◌, ◌^◌, ◌<◌, Bool, List, length, min, None, Some, IfOk};
@@ -15,7 +15,7 @@ use crate::funcs::inlined_func;
 use halide_pipeline::{Expr, Func, Source, Variable};
 use std::alloc::{AllocError, Global};
 
-/// So many nodes, and those of the first and the second argument so many times. Numbers past the greatest `u32`
+/// This many nodes, and those of the first and the second argument this many times. Numbers past the greatest `u32`
 /// count as that.
 #[derive(Clone, Copy, Debug)]
 pub struct Sum {
@@ -42,7 +42,7 @@ fn plus(a: Sum, b: Sum) -> Sum
     }
 }
 
-/// A sum so many times.
+/// A sum this many times.
 fn times(n: u32, a: Sum) -> Sum
     ensures { (x y : ℕ) → inner.Same (inner.sum_at result x y) (inner.times n (inner.sum_at a x y)) }
 {
@@ -53,7 +53,7 @@ fn times(n: u32, a: Sum) -> Sum
     }
 }
 
-/// So many nodes alone.
+/// This many nodes alone.
 fn number(n: u32) -> Sum
     ensures { (x y : ℕ) → inner.Same (inner.sum_at result x y) n }
 {
@@ -195,14 +195,14 @@ fn call_at(
     table: &[Option<CountCall>],
     funcs: &[Func],
     flags: &[bool],
-    place: usize,
+    func_index: usize,
 ) -> Option<CountCall>
     requires known { inner.Counts flags.now funcs.now table.now }
-    requires next { length table.now ≡ place }
-    requires few { place < length funcs.now }
-    ensures { inner.SameCall (inner.call_of result) (inner.made_at flags.now funcs.now place) }
+    requires next { length table.now ≡ func_index }
+    requires few { func_index < length funcs.now }
+    ensures { inner.SameCall (inner.call_of result) (inner.made_at flags.now funcs.now func_index) }
 {
-    match inlined_func(funcs, flags, place + 1, place) {
+    match inlined_func(funcs, flags, func_index + 1, func_index) {
         None => None,
         Some(func) => Some(call_for(&func.pure, sum_of(table, &func.pure))),
     }

@@ -196,13 +196,18 @@ fn need_of(table: &[Option<Need>], expr: &Expr) -> Need
 }
 
 /// What a call of the Func at a place needs, if it is inlined, by what is known of those before it.
-fn call_at(table: &[Option<Need>], funcs: &[Func], flags: &[bool], place: usize) -> Option<Need>
+fn call_at(
+    table: &[Option<Need>],
+    funcs: &[Func],
+    flags: &[bool],
+    func_index: usize,
+) -> Option<Need>
     requires known { inner.Needs flags.now funcs.now table.now }
-    requires next { length table.now ≡ place }
-    requires few { place < length funcs.now }
-    ensures { inner.SameCall (inner.need_of result) (inner.need_made flags.now funcs.now place) }
+    requires next { length table.now ≡ func_index }
+    requires few { func_index < length funcs.now }
+    ensures { inner.SameCall (inner.need_of result) (inner.need_made flags.now funcs.now func_index) }
 {
-    match inlined_func(funcs, flags, place + 1, place) {
+    match inlined_func(funcs, flags, func_index + 1, func_index) {
         None => None,
         Some(func) => Some(need_of(table, &func.pure)),
     }

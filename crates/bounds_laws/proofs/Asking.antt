@@ -64,9 +64,9 @@ module _ (sought : ℕ) (inputs : List Input) (funcs : List Func) (flags : List 
 
   module _ (lasts : List ℕ) (x : Ranged) (y : Option Ranged) where
     -- what arguments ask is asked
-    made_kept : (before : Inside Ranged) (found : Option Func) (other : Ranged) → Asks other
+    made_kept : (before : Inside Ranged) (found_func : Option Func) (other : Ranged) → Asks other
         → (asks sought x.asked ≡ true) ⊎ (asks sought (second_asked y) ≡ true)
-        → Asks (answered other x y (made_in (ranging lasts inputs) before found))
+        → Asks (answered other x y (made_in (ranging lasts inputs) before found_func))
     unfolding ranging
     made_kept before None other asked args = asked
     made_kept before (Some own) other asked (inl e) = asks_first sought x.asked _ e
@@ -74,9 +74,9 @@ module _ (sought : ℕ) (inputs : List Input) (funcs : List Func) (flags : List 
 
     kept : (count : ℕ) (s : Source) (other : Ranged) → Asks other → (asks sought x.asked ≡ true) ⊎ (asks sought (second_asked y) ≡ true)
         → Asks (answered other x y (answer (within lasts count) s))
-    kept count (sources.Input place) other asked args = asked
-    kept count (sources.Func place) other asked args =
-        rw (inside_is (ranging lasts inputs) is_inlined funcs count place) (made_kept (within lasts place) (func_in funcs is_inlined count place) other asked
+    kept count (sources.Input func_index) other asked args = asked
+    kept count (sources.Func func_index) other asked args =
+        rw (inside_is (ranging lasts inputs) is_inlined funcs count func_index) (made_kept (within lasts func_index) (func_in funcs is_inlined count func_index) other asked
         args)
 
     called : (count func : ℕ) → func < count → Leads func → (other : Ranged) → (func ≡ sought → Asks other)
@@ -91,8 +91,8 @@ module _ (sought : ℕ) (inputs : List Input) (funcs : List Func) (flags : List 
 
   module _ (func count : ℕ) (before : func < count) (leads : Leads func) where
     source_is : (s : Source) → is_func func s ≡ true → s ≡ sources.Func func
-    source_is (sources.Input place) e = absurd cc
-    source_is (sources.Func place) e = ap (λ (n : ℕ). sources.Func n) (eqb-true place func e)
+    source_is (sources.Input func_index) e = absurd cc
+    source_is (sources.Func func_index) e = ap (λ (n : ℕ). sources.Func n) (eqb-true func_index func e)
 
     module _ (lasts : List ℕ) where
       -- a call of it, where what isn't inlined asks what arguments ask and then for the source itself
@@ -183,47 +183,47 @@ module _ (sought : ℕ) (inputs : List Input) (funcs : List Func) (flags : List 
 
   -- ---- a later Func that calls such a Func
 
-  module _ (func place : ℕ) (before : func < place) (leads : Leads func) (view : SourceBox) where
+  module _ (func func_index : ℕ) (before : func < func_index) (leads : Leads func) (view : SourceBox) where
     second_asks : (update : Update) (index : Option Expr) → second_calls func index ≡ true
-        → asks sought (second_left inputs funcs flags place view update index).asked ≡ true
+        → asks sought (second_left inputs funcs flags func_index view update index).asked ≡ true
     unfolding left
     second_asks update None e = absurd cc
-    second_asks update (Some index) e = update_part_asks func place before leads view.lasts (own_calls place update) (range_of (update_variables view update))
+    second_asks update (Some index) e = update_part_asks func func_index before leads view.lasts (own_calls func_index update) (range_of (update_variables view update))
         index e true
 
-    update_asks : (update : Update) → update_calls func update ≡ true → asks sought (update_asked inputs funcs flags place view update) ≡ true
+    update_asks : (update : Update) → update_calls func update ≡ true → asks sought (update_asked inputs funcs flags func_index view update) ≡ true
     unfolding update_asked left right
     update_asks update e = elim (or_cases (calls func update.left_x || second_calls func update.left_y) (calls func update.right) e) [
       | inl l ↦ elim (or_cases (calls func update.left_x) (second_calls func update.left_y) l) [
-        | inl m ↦ asks_first sought first _ (update_part_asks func place before leads view.lasts (own_calls place update)
+        | inl m ↦ asks_first sought first _ (update_part_asks func func_index before leads view.lasts (own_calls func_index update)
             (range_of (update_variables view update)) update.left_x m true)
         | inr m ↦ asks_second sought first _ (asks_first sought second _ (second_asks update update.left_y m))
       ]
       | inr r ↦ asks_second sought first _ (asks_second sought second _
-          (or_right _ (asks sought (right inputs funcs flags place view update).asked)
-          (update_part_asks func (suc place) (omega (arith, before)) leads view.lasts (own_calls place update) (range_of (update_variables view update))
+          (or_right _ (asks sought (right inputs funcs flags func_index view update).asked)
+          (update_part_asks func (suc func_index) (omega (arith, before)) leads view.lasts (own_calls func_index update) (range_of (update_variables view update))
           update.right r false)))
     ]
       where
         first : List ReadRange
-        first = (left inputs funcs flags place view update update.left_x).asked
+        first = (left inputs funcs flags func_index view update update.left_x).asked
 
         second : List ReadRange
-        second = (second_left inputs funcs flags place view update update.left_y).asked
+        second = (second_left inputs funcs flags func_index view update update.left_y).asked
 
-    updates_ask : (updates : List Update) → updates_call func updates ≡ true → asks sought (updates_asked inputs funcs flags place view updates) ≡ true
+    updates_ask : (updates : List Update) → updates_call func updates ≡ true → asks sought (updates_asked inputs funcs flags func_index view updates) ≡ true
     updates_ask [] e = absurd cc
     updates_ask (update ∷ others) e = elim (or_cases (update_calls func update) (updates_call func others) e) [
-      | inl l ↦ asks_first sought (update_asked inputs funcs flags place view update) _ (update_asks update l)
-      | inr r ↦ asks_second sought (update_asked inputs funcs flags place view update) _ (updates_ask others r)
+      | inl l ↦ asks_first sought (update_asked inputs funcs flags func_index view update) _ (update_asks update l)
+      | inr r ↦ asks_second sought (update_asked inputs funcs flags func_index view update) _ (updates_ask others r)
     ]
 
-    pub func_asks : (own : Func) → func_calls func own ≡ true → asks sought (func_asked inputs funcs flags place view own) ≡ true
+    pub func_asks : (own : Func) → func_calls func own ≡ true → asks sought (func_asked inputs funcs flags func_index view own) ≡ true
     unfolding func_calls func_asked
     func_asks own e = elim (or_cases (calls func own.pure) (updates_call func own.updates) e) [
-      | inl l ↦ asks_first sought pure _ (expression_asks func place before leads view.lasts (unasked_variable (range_of (pure_variables view))) own.pure l)
+      | inl l ↦ asks_first sought pure _ (expression_asks func func_index before leads view.lasts (unasked_variable (range_of (pure_variables view))) own.pure l)
       | inr r ↦ asks_second sought pure _ (updates_ask own.updates r)
     ]
       where
         pure : List ReadRange
-        pure = (walked view.lasts inputs flags funcs place (pure_variables view) own.pure).asked
+        pure = (walked view.lasts inputs flags funcs func_index (pure_variables view) own.pure).asked

@@ -36,113 +36,118 @@ use Rattle.bounds_laws.proofs.FoundFuncs.{IsAt, boxes_at, sought_is}
 
 -- ---- near
 
-front_stays : (test : Bool) (own : Option SourceBox) (behind found : List (Option SourceBox)) → cond test (Some (own ∷ behind)) None ≡ Some found → test ≡ true
-front_stays true own behind found e = refl
-front_stays false own behind found e = absurd cc
+front_stays : (test : Bool) (source_box : Option SourceBox) (behind later_boxes : List (Option SourceBox)) → cond test (Some (source_box ∷ behind)) None ≡ Some later_boxes → test ≡ true
+front_stays true source_box behind later_boxes e = refl
+front_stays false source_box behind later_boxes e = absurd cc
 
 module _ (pipeline : Pipeline) (schedule : Schedule) (flags : List Bool) where
-  near_step : (at : ℕ) (func : Func) (others : List Func) (rest : Option (List (Option SourceBox))) (found : List (Option SourceBox))
-      → ((behind : List (Option SourceBox)) → rest ≡ Some behind → (before : ℕ) (own : SourceBox) → slice_get behind before ≡ Some (Some own)
-      → is_near own ≡ true)
-      → with_func pipeline schedule flags at func rest ≡ Some found → (before : ℕ) (own : SourceBox) → slice_get found before ≡ Some (Some own)
-      → is_near own ≡ true
-  near_step at func others None found next e before own there = absurd cc
-  near_step at func others (Some behind) found next e before own there =
+  near_step : (at : ℕ) (func : Func) (others : List Func) (rest : Option (List (Option SourceBox))) (later_boxes : List (Option SourceBox))
+      → ((behind : List (Option SourceBox)) → rest ≡ Some behind → (before : ℕ) (source_box : SourceBox) → slice_get behind before ≡ Some (Some source_box)
+      → is_near source_box ≡ true)
+      → with_func pipeline schedule flags at func rest ≡ Some later_boxes → (before : ℕ) (source_box : SourceBox) → slice_get later_boxes before ≡ Some (Some source_box)
+      → is_near source_box ≡ true
+  near_step at func others None later_boxes next e before source_box there = absurd cc
+  near_step at func others (Some behind) later_boxes next e before source_box there =
       by_place before (ap (λ (l : List (Option SourceBox)). slice_get l before) (in_front_is (func_box pipeline schedule flags at func behind
-      (slice_get schedule.standings at)) behind found e) ∙ there)
+      (slice_get schedule.standings at)) behind later_boxes e) ∙ there)
     where
-      by_place : (k : ℕ) → slice_get (func_box pipeline schedule flags at func behind (slice_get schedule.standings at) ∷ behind) k ≡ Some (Some own)
-          → is_near own ≡ true
+      by_place : (k : ℕ) → slice_get (func_box pipeline schedule flags at func behind (slice_get schedule.standings at) ∷ behind) k ≡ Some (Some source_box)
+          → is_near source_box ≡ true
       by_place zero is =
-          ap stays (sym (got (func_box pipeline schedule flags at func behind (slice_get schedule.standings at)) (Some own) is))
+          ap stays (sym (got (func_box pipeline schedule flags at func behind (slice_get schedule.standings at)) (Some source_box) is))
           ∙ front_stays (stays (func_box pipeline schedule flags at func behind (slice_get schedule.standings at))) (func_box pipeline schedule flags at func
-          behind (slice_get schedule.standings at)) behind found e
-      by_place (suc k) is = next behind refl k own is
+          behind (slice_get schedule.standings at)) behind later_boxes e
+      by_place (suc k) is = next behind refl k source_box is
 
-  nothing_there : (found : List (Option SourceBox)) → [] ≡ found → (before : ℕ) (own : Option SourceBox) → slice_get found before ≡ Some own → ⊥
-  nothing_there [] e zero own there = cc
-  nothing_there [] e (suc before) own there = cc
-  nothing_there (other ∷ found) e before own there = cc
+  nothing_there : (later_boxes : List (Option SourceBox)) → [] ≡ later_boxes → (before : ℕ) (source_box : Option SourceBox) → slice_get later_boxes before ≡ Some source_box → ⊥
+  nothing_there [] e zero source_box there = cc
+  nothing_there [] e (suc before) source_box there = cc
+  nothing_there (other ∷ later_boxes) e before source_box there = cc
 
-  near_in : (at : ℕ) (funcs : List Func) (found : List (Option SourceBox)) → boxes_from pipeline schedule flags at funcs ≡ Some found
-      → (before : ℕ) (own : SourceBox) → slice_get found before ≡ Some (Some own) → is_near own ≡ true
-  near_in at [] found e before own there = absurd (nothing_there found (got [] found e) before (Some own) there)
-  near_in at (func ∷ others) found e before own there =
-      near_step at func others (boxes_from pipeline schedule flags (at + 1) others) found (λ behind is. near_in (at + 1) others behind is) e before own there
+  near_in : (at : ℕ) (funcs : List Func) (later_boxes : List (Option SourceBox)) → boxes_from pipeline schedule flags at funcs ≡ Some later_boxes
+      → (before : ℕ) (source_box : SourceBox) → slice_get later_boxes before ≡ Some (Some source_box)
+      → is_near source_box ≡ true
+  near_in at [] later_boxes e before source_box there = absurd
+      (nothing_there later_boxes (got [] later_boxes e) before (Some source_box) there)
+  near_in at (func ∷ others) later_boxes e before source_box there =
+      near_step at func others (boxes_from pipeline schedule flags (at + 1) others) later_boxes (λ behind is. near_in (at + 1) others behind is) e before source_box there
 
 -- ---- the loops of a box
 
-pub lasts_by : (lasts : List ℕ) (x y : Option Range) (own : SourceBox) → box_of lasts x y ≡ Some own → own.lasts ≡ lasts
-lasts_by lasts None y own e = absurd cc
-lasts_by lasts (Some x) None own e = absurd cc
-lasts_by lasts (Some x) (Some y) own e = let same = got (record { x = x; y = y; lasts = lasts }) own e in sym (ap (λ (b : SourceBox). b.lasts) same)
+pub lasts_by : (lasts : List ℕ) (x y : Option Range) (source_box : SourceBox) → box_of lasts x y ≡ Some source_box
+    → source_box.lasts ≡ lasts
+lasts_by lasts None y source_box e = absurd cc
+lasts_by lasts (Some x) None source_box e = absurd cc
+lasts_by lasts (Some x) (Some y) source_box e = let same = got (record { x = x; y = y; lasts = lasts }) source_box e in sym (ap (λ (b : SourceBox). b.lasts) same)
 
 -- ---- a Func that has a box
 
-pub record HasBox (pipeline : Pipeline) (schedule : Schedule) (boxes : Boxes) (place : ℕ) (own : SourceBox) : Type 0 where
+pub record HasBox (pipeline : Pipeline) (schedule : Schedule) (boxes : Boxes) (func_index : ℕ) (source_box : SourceBox) : Type 0 where
   pub func : Func
-  pub func_is : slice_get pipeline.funcs place ≡ Some func
+  pub func_is : slice_get pipeline.funcs func_index ≡ Some func
   pub standing : FuncPlacement
-  pub there : IsReached schedule.standings place standing
-  pub computed : IsComputed place standing.place
-  pub near : is_near own ≡ true
-  pub lasts : own.lasts ≡ lasts_of (consumer_in schedule boxes.funcs standing.place)
+  pub there : IsReached schedule.standings func_index standing
+  pub computed : IsComputed func_index standing.place
+  pub near : is_near source_box ≡ true
+  pub lasts : source_box.lasts ≡ lasts_of (consumer_in schedule boxes.funcs standing.place)
 
 module _ (pipeline : Pipeline) (schedule : Schedule) (boxes : Boxes) (accepted : IsAccepted pipeline schedule) (is : inferred pipeline schedule ≡ Ok boxes)
   where
     flags : List Bool
     flags = flags_of schedule.standings
 
-    produced : (place : ℕ) (own : FuncPlacement) → slice_get schedule.standings place ≡ Some own → IsProduced pipeline schedule.funcs place own
-    produced place own found =
-        let here : 0 + place ≡ place = omega arith in
+    produced : (func_index : ℕ) (own : FuncPlacement) → slice_get schedule.standings func_index ≡ Some own → IsProduced pipeline schedule.funcs func_index own
+    produced func_index own found =
+        let here : 0 + func_index ≡ func_index = omega arith in
         subst (λ (n : ℕ). IsProduced pipeline schedule.funcs n own) here (numbered_at (IsProduced pipeline schedule.funcs) 0 schedule.standings
         accepted.consumers
-        place own found)
+        func_index own found)
 
-    placed_so : (place : ℕ) (own : FuncPlacement) → slice_get schedule.standings place ≡ Some own
-        → (func : Func) (behind : List (Option SourceBox)) (box : SourceBox)
-        → (where_ : ComputeLevel) → own.place ≡ where_ → Some box ≡ placed_box pipeline schedule flags place func behind where_ → IsComputed place where_
-    placed_so place own found func behind box places.Root e some = tt
-    placed_so place own found func behind box (places.At consumer) e some = (produced place own found consumer e).later
-    placed_so place own found func behind box places.Inlined e some = absurd cc
-    placed_so place own found func behind box places.Nowhere e some = absurd cc
+    placed_so : (func_index : ℕ) (own : FuncPlacement) → slice_get schedule.standings func_index ≡ Some own
+        → (func : Func) (later_boxes : List (Option SourceBox)) (box : SourceBox)
+        → (where_ : ComputeLevel) → own.place ≡ where_ → Some box ≡ placed_box pipeline schedule flags func_index func later_boxes where_ → IsComputed func_index where_
+    placed_so func_index own found func later_boxes box places.Root e some = tt
+    placed_so func_index own found func later_boxes box (places.At consumer) e some =
+        (produced func_index own found consumer e).later
+    placed_so func_index own found func later_boxes box places.Inlined e some = absurd cc
+    placed_so func_index own found func later_boxes box places.Nowhere e some = absurd cc
 
-    module _ (place : ℕ) (own : SourceBox) (at : IsAt pipeline schedule flags 0 place pipeline.funcs boxes.funcs (Some own)) (near : is_near own ≡ true) where
-      by_reached : (standing : FuncPlacement) → slice_get schedule.standings place ≡ Some standing → (reached : Bool) → standing.is_reached ≡ reached
-          → Some own ≡ cond reached (placed_box pipeline schedule flags place at.func at.behind standing.place) None → HasBox pipeline schedule boxes place own
-      by_reached standing found false r e = absurd cc
-      by_reached standing found true r e =
-          let computed = placed_so place standing found at.func at.behind own standing.place refl e in
-          let consumer = consumer_in schedule boxes.funcs standing.place in
-          let spread = read_from pipeline schedule flags (place + 1) consumer (sources.Func place) at.behind (own_updates pipeline flags place consumer
-          (wanted pipeline.output place consumer) at.func.updates) in
+    module _ (func_index : ℕ) (own : SourceBox) (at : IsAt pipeline schedule flags 0 func_index pipeline.funcs boxes.funcs (Some own)) (near : is_near own ≡ true) where
+      by_reached : (placement : FuncPlacement) → slice_get schedule.standings func_index ≡ Some placement → (reached : Bool) → placement.is_reached ≡ reached
+          → Some own ≡ cond reached (placed_box pipeline schedule flags func_index at.func at.behind placement.place) None → HasBox pipeline schedule boxes func_index own
+      by_reached placement found false r e = absurd cc
+      by_reached placement found true r e =
+          let computed = placed_so func_index placement found at.func at.behind own placement.place refl e in
+          let consumer = consumer_in schedule boxes.funcs placement.place in
+          let spread = read_from pipeline schedule flags (func_index + 1) consumer (sources.Func func_index) at.behind (own_updates pipeline flags func_index consumer
+          (wanted pipeline.output func_index consumer) at.func.updates) in
           record {
             func = at.func;
             func_is = at.func_is;
-            standing = standing;
+            standing = placement;
             there = record { standing = found; reached = r };
             computed = computed;
             near = near;
             lasts = lasts_by (lasts_of consumer) spread.x spread.y own
-                (sym (e ∙ sym (ap (λ (s : Option FuncPlacement). func_box pipeline schedule flags place at.func at.behind s) found
-                ∙ ap (λ (test : Bool). cond test (placed_box pipeline schedule flags place at.func at.behind standing.place) None) r)
-                ∙ sought_is pipeline schedule flags boxes.funcs place at.func at.behind at.later standing found r computed));
+                (sym (e ∙ sym (ap (λ (s : Option FuncPlacement). func_box pipeline schedule flags func_index at.func at.behind s) found
+                ∙ ap (λ (test : Bool). cond test (placed_box pipeline schedule flags func_index at.func at.behind placement.place) None) r)
+                ∙ sought_is pipeline schedule flags boxes.funcs func_index at.func at.behind at.later placement found r computed));
           }
 
-      by_standing : (standing : Option FuncPlacement) → slice_get schedule.standings place ≡ standing
-          → Some own ≡ func_box pipeline schedule flags place at.func at.behind standing → HasBox pipeline schedule boxes place own
+      by_standing : (placement : Option FuncPlacement) → slice_get schedule.standings func_index ≡ placement
+          → Some own ≡ func_box pipeline schedule flags func_index at.func at.behind placement → HasBox pipeline schedule boxes func_index own
       by_standing None found e = absurd cc
-      by_standing (Some standing) found e = by_reached standing found standing.is_reached refl e
+      by_standing (Some placement) found e = by_reached placement found placement.is_reached refl e
 
-    pub has_box : (place : ℕ) (own : SourceBox) → slice_get boxes.funcs place ≡ Some (Some own) → HasBox pipeline schedule boxes place own
+    pub has_box : (func_index : ℕ) (own : SourceBox) → slice_get boxes.funcs func_index ≡ Some (Some own) → HasBox pipeline schedule boxes func_index own
     unfolding flags
-    has_box place own there =
+    has_box func_index own there =
         let found = are_found pipeline schedule boxes is in
-        let at = boxes_at pipeline schedule flags 0 pipeline.funcs boxes.funcs found.funcs place (Some own) there in
-        let near = near_in pipeline schedule flags 0 pipeline.funcs boxes.funcs found.funcs place own there in
-        let here : 0 + place ≡ place = omega arith in
-        by_standing place own at near (slice_get schedule.standings place) refl
+        let at = boxes_at pipeline schedule flags 0 pipeline.funcs boxes.funcs found.funcs func_index (Some own) there
+        in
+        let near = near_in pipeline schedule flags 0 pipeline.funcs boxes.funcs found.funcs func_index own there in
+        let here : 0 + func_index ≡ func_index = omega arith in
+        by_standing func_index own at near (slice_get schedule.standings func_index) refl
         (at.own_is ∙ ap (λ (n : ℕ). func_box pipeline schedule flags n at.func at.behind (slice_get schedule.standings n)) here)
 
 -- ---- points of a box are near
@@ -156,10 +161,14 @@ near_one lasts values range x below near l =
       high = omega (arith, s.high, leb-true (widened lasts range).high (origin + 2 ^ 24) k.1);
     }
 
-pub near_points : (own : SourceBox) (values : List ℕ) (x y : ℕ) → Below values own.lasts → is_near own ≡ true → LiesIn values own x y → IsNear x × IsNear y
-near_points own values x y below near l =
-    let k = and_parts (are_near (widened own.lasts own.x)) (are_near (widened own.lasts own.y)) near in
-    (near_one own.lasts values own.x x below k.0 l.first, near_one own.lasts values own.y y below k.1 l.second)
+pub near_points : (source_box : SourceBox) (values : List ℕ) (x y : ℕ) → Below values source_box.lasts → is_near source_box ≡ true → LiesIn values source_box x y → IsNear x × IsNear y
+near_points source_box values x y below near l =
+    let k = and_parts (are_near (widened source_box.lasts source_box.x))
+    (are_near (widened source_box.lasts source_box.y)) near in (
+      near_one source_box.lasts values source_box.x x below k.0 l.first,
+      near_one source_box.lasts values source_box.y y
+          below k.1 l.second,
+    )
 
 -- ---- what is judged
 
@@ -168,9 +177,9 @@ passed_test : (test : Bool) (wrong : BoundsFault) (next : Result Boxes BoundsFau
 passed_test true wrong next boxes e = (refl, e)
 passed_test false wrong next boxes e = absurd cc
 
-kept_is : (test : Bool) (own boxes : Boxes) (wrong : BoundsFault) → cond test (Ok own) (Err wrong) ≡ Ok boxes → (test ≡ true) × (own ≡ boxes)
-kept_is true own boxes wrong e = (refl, cc)
-kept_is false own boxes wrong e = absurd cc
+kept_is : (test : Bool) (own_boxes boxes : Boxes) (wrong : BoundsFault) → cond test (Ok own_boxes) (Err wrong) ≡ Ok boxes → (test ≡ true) × (own_boxes ≡ boxes)
+kept_is true own_boxes boxes wrong e = (refl, cc)
+kept_is false own_boxes boxes wrong e = absurd cc
 
 pub record IsJudged (pipeline : Pipeline) (schedule : Schedule) (boxes : Boxes) : Type 0 where
   pub inputs : inputs_hold pipeline.inputs boxes.inputs ≡ true
@@ -206,18 +215,21 @@ module _ (pipeline : Pipeline) (schedule : Schedule) (boxes : Boxes) where
 
 -- ---- points of an input's box lie within its extents
 
-pub input_at : (inputs : List Input) (boxes : List (Option SourceBox)) (place : ℕ) (input : Input) (own : SourceBox) → inputs_hold inputs boxes ≡ true
-    → slice_get inputs place ≡ Some input → slice_get boxes place ≡ Some (Some own) → input_holds input own ≡ true
-input_at [] boxes place input own held i b = absurd cc
-input_at (first ∷ inputs) [] place input own held i b = absurd cc
-input_at (first ∷ inputs) (None ∷ boxes) zero input own held i b = absurd cc
-input_at (first ∷ inputs) (None ∷ boxes) (suc place) input own held i b = input_at inputs boxes place input own held i b
-input_at (first ∷ inputs) (Some other ∷ boxes) zero input own held i b =
+pub input_at : (inputs : List Input) (boxes : List (Option SourceBox)) (func_index : ℕ) (input : Input) (source_box : SourceBox) → inputs_hold inputs boxes ≡ true
+    → slice_get inputs func_index ≡ Some input → slice_get boxes func_index ≡ Some (Some source_box)
+    → input_holds input source_box ≡ true
+input_at [] boxes func_index input source_box held i b = absurd cc
+input_at (first ∷ inputs) [] func_index input source_box held i b = absurd cc
+input_at (first ∷ inputs) (None ∷ boxes) zero input source_box held i b = absurd cc
+input_at (first ∷ inputs) (None ∷ boxes) (suc func_index) input source_box held i b = input_at inputs boxes func_index
+    input source_box held i b
+input_at (first ∷ inputs) (Some other ∷ boxes) zero input source_box held i b =
     let same_input = got first input i in
-    let same_box = got other own (got (Some other) (Some own) b) in
-    ap (λ (n : Input). input_holds n own) (sym same_input) ∙ ap (λ (c : SourceBox). input_holds first c) (sym same_box)
+    let same_box = got other source_box (got (Some other) (Some source_box) b) in
+    ap (λ (n : Input). input_holds n source_box) (sym same_input) ∙ ap (λ (c : SourceBox). input_holds first c)
+    (sym same_box)
     ∙ (and_parts (input_holds first other) (inputs_hold inputs boxes) held).0
-input_at (first ∷ inputs) (Some other ∷ boxes) (suc place) input own held i b = input_at inputs boxes place input own (and_parts (input_holds first other)
+input_at (first ∷ inputs) (Some other ∷ boxes) (suc func_index) input source_box held i b = input_at inputs boxes func_index input source_box (and_parts (input_holds first other)
     (inputs_hold inputs boxes) held).1 i b
 
 one_within : (lasts values : List ℕ) (range : Range) (x extent : ℕ) → Below values lasts → is_within lasts range extent ≡ true → Lies lasts values range x
@@ -227,25 +239,27 @@ one_within lasts values range x extent below within l =
     let k = and_parts (nat_le origin (widened lasts range).low) (nat_lt (widened lasts range).high (origin + extent)) within in
     omega (arith, s.low, s.high, leb-true origin (widened lasts range).low k.0, ltb-true (widened lasts range).high (origin + extent) k.1, l.word)
 
-pub points_within : (input : Input) (own : SourceBox) (values : List ℕ) (x y : ℕ) → Below values own.lasts → input_holds input own ≡ true
-    → LiesIn values own x y → (x < input.width) × (y < input.height)
-points_within input own values x y below held l =
-    let k = and_parts (is_within own.lasts own.x input.width) (is_within own.lasts own.y input.height) held in
-    (one_within own.lasts values own.x x input.width below k.0 l.first, one_within own.lasts values own.y y input.height below k.1 l.second)
+pub points_within : (input : Input) (source_box : SourceBox) (values : List ℕ) (x y : ℕ) → Below values source_box.lasts → input_holds input source_box ≡ true
+    → LiesIn values source_box x y → (x < input.width) × (y < input.height)
+points_within input source_box values x y below held l =
+    let k = and_parts (is_within source_box.lasts source_box.x input.width)
+    (is_within source_box.lasts source_box.y input.height) held in
+    (one_within source_box.lasts values source_box.x x input.width below k.0 l.first, one_within source_box.lasts values source_box.y y input.height below k.1 l.second)
 
 -- ---- shifts
 
-pub shifts_at : (plans : List FuncPlan) (boxes : List (Option SourceBox)) (place : ℕ) (plan : FuncPlan) (own : SourceBox) → shifts_hold plans boxes ≡ true
-    → slice_get plans place ≡ Some plan → slice_get boxes place ≡ Some (Some own) → shifts_fit (extents_of own) plan.pure.splits ≡ true
-shifts_at [] boxes place plan own held p b = absurd cc
-shifts_at (first ∷ plans) [] place plan own held p b = absurd cc
-shifts_at (first ∷ plans) (None ∷ boxes) zero plan own held p b = absurd cc
-shifts_at (first ∷ plans) (None ∷ boxes) (suc place) plan own held p b = shifts_at plans boxes place plan own held p b
-shifts_at (first ∷ plans) (Some other ∷ boxes) zero plan own held p b =
+pub shifts_at : (plans : List FuncPlan) (boxes : List (Option SourceBox)) (func_index : ℕ) (plan : FuncPlan) (source_box : SourceBox) → shifts_hold plans boxes ≡ true
+    → slice_get plans func_index ≡ Some plan → slice_get boxes func_index ≡ Some (Some source_box) → shifts_fit (extents_of source_box) plan.pure.splits ≡ true
+shifts_at [] boxes func_index plan source_box held p b = absurd cc
+shifts_at (first ∷ plans) [] func_index plan source_box held p b = absurd cc
+shifts_at (first ∷ plans) (None ∷ boxes) zero plan source_box held p b = absurd cc
+shifts_at (first ∷ plans) (None ∷ boxes) (suc func_index) plan source_box held p b = shifts_at plans boxes func_index
+    plan source_box held p b
+shifts_at (first ∷ plans) (Some other ∷ boxes) zero plan source_box held p b =
     let same_plan = got first plan p in
-    let same_box = got other own (got (Some other) (Some own) b) in
-    ap (λ (q : FuncPlan). shifts_fit (extents_of own) q.pure.splits) (sym same_plan) ∙ ap (λ (c : SourceBox). shifts_fit (extents_of c) first.pure.splits)
+    let same_box = got other source_box (got (Some other) (Some source_box) b) in
+    ap (λ (q : FuncPlan). shifts_fit (extents_of source_box) q.pure.splits) (sym same_plan) ∙ ap (λ (c : SourceBox). shifts_fit (extents_of c) first.pure.splits)
     (sym same_box)
     ∙ (and_parts (shifts_fit (extents_of other) first.pure.splits) (shifts_hold plans boxes) held).0
-shifts_at (first ∷ plans) (Some other ∷ boxes) (suc place) plan own held p b =
-    shifts_at plans boxes place plan own (and_parts (shifts_fit (extents_of other) first.pure.splits) (shifts_hold plans boxes) held).1 p b
+shifts_at (first ∷ plans) (Some other ∷ boxes) (suc func_index) plan source_box held p b =
+    shifts_at plans boxes func_index plan source_box (and_parts (shifts_fit (extents_of other) first.pure.splits) (shifts_hold plans boxes) held).1 p b

@@ -30,50 +30,54 @@ use Rattle.bounds_laws.proofs.Readers.{from_fits}
 
 -- ---- two ends, over the consumer's loops
 
-record IsOver (lasts : List ℕ) (own : SourceBox) : Type 0 where
-  pub lasts_are : own.lasts ≡ lasts
-  pub x : IsFit own.lasts own.x
-  pub y : IsFit own.lasts own.y
+record IsOver (lasts : List ℕ) (source_box : SourceBox) : Type 0 where
+  pub lasts_are : source_box.lasts ≡ lasts
+  pub x : IsFit source_box.lasts source_box.x
+  pub y : IsFit source_box.lasts source_box.y
 
-over_by : (lasts : List ℕ) (a b : Option Range) (own : SourceBox) → Some own ≡ box_of lasts a b → IsFitOrNone lasts a → IsFitOrNone lasts b → IsOver lasts own
-over_by lasts None b own e fa fb = absurd cc
-over_by lasts (Some a) None own e fa fb = absurd cc
-over_by lasts (Some a) (Some b) own e fa fb =
-    let same : own ≡ record { x = a; y = b; lasts = lasts } = cc in
+over_by : (lasts : List ℕ) (a b : Option Range) (source_box : SourceBox) → Some source_box ≡ box_of lasts a b → IsFitOrNone lasts a → IsFitOrNone lasts b → IsOver lasts source_box
+over_by lasts None b source_box e fa fb = absurd cc
+over_by lasts (Some a) None source_box e fa fb = absurd cc
+over_by lasts (Some a) (Some b) source_box e fa fb =
+    let same : source_box ≡ record { x = a; y = b; lasts = lasts } = cc in
     subst (λ (o : SourceBox). IsOver lasts o) (sym same) (record { lasts_are = refl; x = fa; y = fb })
 
-over : (consumer : Option ConsumerLoop) (spread : Spread) (own : SourceBox) → IsSpread (lasts_of consumer) spread → Some own ≡ spread_box consumer spread
-    → IsOver (lasts_of consumer) own
-over consumer spread own fits e = over_by (lasts_of consumer) spread.x spread.y own e fits.x fits.y
+over : (consumer : Option ConsumerLoop) (spread : Spread) (source_box : SourceBox) → IsSpread (lasts_of consumer) spread → Some source_box ≡ spread_box consumer spread
+    → IsOver (lasts_of consumer) source_box
+over consumer spread source_box fits e = over_by (lasts_of consumer) spread.x spread.y source_box e fits.x fits.y
 
 -- ---- near
 
 module _ (pipeline : Pipeline) (schedule : Schedule) (flags : List Bool) where
   abbrev Near : List (Option SourceBox) → Type 0
-  Near found = (before : ℕ) (own : Option SourceBox) → slice_get found before ≡ Some own → stays own ≡ true
+  Near later_boxes = (before : ℕ) (source_box : Option SourceBox) → slice_get later_boxes before ≡ Some source_box
+      → stays source_box ≡ true
 
-  front_by : (test : Bool) (own : Option SourceBox) (behind found : List (Option SourceBox)) → stays own ≡ test
-      → cond test (Some (own ∷ behind)) None ≡ Some found → Near behind → Near (own ∷ behind)
-  front_by false own behind found t e near before other there = absurd cc
-  front_by true own behind found t e near zero other there = ap stays (got other own (sym there)) ∙ t
-  front_by true own behind found t e near (suc before) other there = near before other there
+  front_by : (test : Bool) (source_box : Option SourceBox) (behind later_boxes : List (Option SourceBox))
+      → stays source_box ≡ test
+      → cond test (Some (source_box ∷ behind)) None ≡ Some later_boxes → Near behind → Near (source_box ∷ behind)
+  front_by false source_box behind later_boxes t e near before other there = absurd cc
+  front_by true source_box behind later_boxes t e near zero other there = ap stays (got other source_box (sym there)) ∙
+      t
+  front_by true source_box behind later_boxes t e near (suc before) other there = near before other there
 
-  nothing : (found : List (Option SourceBox)) → [] ≡ found → Near found
-  nothing [] e zero own there = absurd cc
-  nothing [] e (suc before) own there = absurd cc
-  nothing (other ∷ found) e before own there = absurd cc
+  nothing : (later_boxes : List (Option SourceBox)) → [] ≡ later_boxes → Near later_boxes
+  nothing [] e zero source_box there = absurd cc
+  nothing [] e (suc before) source_box there = absurd cc
+  nothing (other ∷ later_boxes) e before source_box there = absurd cc
 
-  step : (at : ℕ) (func : Func) (rest : Option (List (Option SourceBox))) (found : List (Option SourceBox)) → ((behind : List (Option SourceBox))
+  step : (at : ℕ) (func : Func) (rest : Option (List (Option SourceBox))) (later_boxes : List (Option SourceBox)) → ((behind : List (Option SourceBox))
       → rest ≡ Some behind → Near behind)
-      → with_func pipeline schedule flags at func rest ≡ Some found → Near found
-  step at func None found next e = absurd cc
-  step at func (Some behind) found next e =
-      let own = func_box pipeline schedule flags at func behind (slice_get schedule.standings at) in
-      subst Near (in_front_is own behind found e) (front_by (stays own) own behind found refl e (next behind refl))
+      → with_func pipeline schedule flags at func rest ≡ Some later_boxes → Near later_boxes
+  step at func None later_boxes next e = absurd cc
+  step at func (Some behind) later_boxes next e =
+      let source_box = func_box pipeline schedule flags at func behind (slice_get schedule.standings at) in
+      subst Near (in_front_is source_box behind later_boxes e)
+      (front_by (stays source_box) source_box behind later_boxes refl e (next behind refl))
 
-  near_from : (at : ℕ) (funcs : List Func) (found : List (Option SourceBox)) → boxes_from pipeline schedule flags at funcs ≡ Some found → Near found
-  near_from at [] found e = nothing found (got [] found e)
-  near_from at (func ∷ others) found e = step at func (boxes_from pipeline schedule flags (at + 1) others) found (λ behind is. near_from (at + 1) others behind
+  near_from : (at : ℕ) (funcs : List Func) (later_boxes : List (Option SourceBox)) → boxes_from pipeline schedule flags at funcs ≡ Some later_boxes → Near later_boxes
+  near_from at [] later_boxes e = nothing later_boxes (got [] later_boxes e)
+  near_from at (func ∷ others) later_boxes e = step at func (boxes_from pipeline schedule flags (at + 1) others) later_boxes (λ behind is. near_from (at + 1) others behind
       is) e
 
 pub boxes_are_produced : BoxesAreProduced

@@ -88,31 +88,31 @@ module _ (pipeline : Pipeline) (standings : List FuncPlacement) (rules : IsWellF
   both_good reader count a b f g = all_both (Good reader count) a b f g
 
   -- what an inlined Func reads that the reader calls, the reader reads
-  lifted : (reader count place : ℕ) → place < count → place < reader → is_inlined place ≡ true → place_calls pipeline reader place ≡ true → (s : Source)
-      → IsReadThrough pipeline standings place place s
+  lifted : (reader count func_index : ℕ) → func_index < count → func_index < reader → is_inlined func_index ≡ true → place_calls pipeline reader func_index ≡ true → (s : Source)
+      → IsReadThrough pipeline standings func_index func_index s
       → IsReadThrough pipeline standings reader count s
-  lifted reader count place few before flag called (sources.Input other) good = good
-  lifted reader count place few before flag called (sources.Func other) (plain, (below, inl e)) = absurd (omega (arith, e, below))
-  lifted reader count place few before flag called (sources.Func other) (plain, (below, inr r)) =
-      (plain, (omega (arith, few, below), inr (Through reader place other before flag called r)))
+  lifted reader count func_index few before flag called (sources.Input other) good = good
+  lifted reader count func_index few before flag called (sources.Func other) (plain, (below, inl e)) = absurd (omega (arith, e, below))
+  lifted reader count func_index few before flag called (sources.Func other) (plain, (below, inr r)) =
+      (plain, (omega (arith, few, below), inr (Through reader func_index other before flag called r)))
 
-  all_lifted : (reader count place : ℕ) → place < count → place < reader → is_inlined place ≡ true → place_calls pipeline reader place ≡ true
-      → (points : List Point) → AllGood place place points → AllGood reader count points
-  all_lifted reader count place few before flag called [] good = tt
-  all_lifted reader count place few before flag called (point ∷ points) good =
-      (lifted reader count place few before flag called point.source good.0, all_lifted reader count place few before flag called points good.1)
+  all_lifted : (reader count func_index : ℕ) → func_index < count → func_index < reader → is_inlined func_index ≡ true → place_calls pipeline reader func_index ≡ true
+      → (points : List Point) → AllGood func_index func_index points → AllGood reader count points
+  all_lifted reader count func_index few before flag called [] good = tt
+  all_lifted reader count func_index few before flag called (point ∷ points) good =
+      (lifted reader count func_index few before flag called point.source good.0, all_lifted reader count func_index few before flag called points good.1)
 
   more_good : (reader : ℕ) (points : List Point) → AllGood reader reader points → AllGood reader (suc reader) points
   more_good reader [] good = tt
   more_good reader (point ∷ points) good = (by_source point.source good.0, more_good reader points good.1)
     where
       by_source : (s : Source) → IsReadThrough pipeline standings reader reader s → IsReadThrough pipeline standings reader (suc reader) s
-      by_source (sources.Input place) read = read
-      by_source (sources.Func place) read = (read.0, (omega (arith, read.1.0), read.1.1))
+      by_source (sources.Input func_index) read = read
+      by_source (sources.Func func_index) read = (read.0, (omega (arith, read.1.0), read.1.1))
 
-  input_some : (own : Option Input) (n : ℕ) → is_input_of own n ≡ true → is_some own ≡ true
+  input_some : (input : Option Input) (n : ℕ) → is_input_of input n ≡ true → is_some input ≡ true
   input_some None n e = absurd cc
-  input_some (Some own) n e = refl
+  input_some (Some input) n e = refl
 
   abbrev Claim : ℕ → ℕ → Type 0
   Claim reader count =
@@ -121,67 +121,70 @@ module _ (pipeline : Pipeline) (standings : List FuncPlacement) (rules : IsWellF
       → ((func : ℕ) → calls func e ≡ true → place_calls pipeline reader func ≡ true)
       → AllGood reader count (through (seeing reads) (inside (seeing reads) is_inlined pipeline.funcs count) vars e).points
 
-  -- no inlined Func among the first so many is the reader
+  -- no inlined Func among the first this many is the reader
   abbrev Precede : ℕ → ℕ → Type 0
-  Precede count reader = (place : ℕ) → place < count → is_inlined place ≡ true → place < reader
+  Precede count reader = (func_index : ℕ) → func_index < count → is_inlined func_index ≡ true → func_index < reader
 
-  made_good : (reader count place : ℕ) → place < count → place < reader → is_inlined place ≡ true → place_calls pipeline reader place ≡ true → Claim place place
-      → (found : Option Func) → slice_get pipeline.funcs place ≡ found → (n : ℕ) → is_func_of found n ≡ true → (a x : Seen) (y : Option Seen)
+  made_good : (reader count func_index : ℕ) → func_index < count → func_index < reader → is_inlined func_index ≡ true → place_calls pipeline reader func_index ≡ true → Claim func_index func_index
+      → (found_func : Option Func) → slice_get pipeline.funcs func_index ≡ found_func → (n : ℕ) → is_func_of found_func n ≡ true → (a x : Seen) (y : Option Seen)
       → AllGood reader count x.points → AllGood reader count (second_points y)
-      → AllGood reader count (answered a x y (made_in (seeing reads) (inside (seeing reads) is_inlined pipeline.funcs place) found)).points
+      → AllGood reader count (answered a x y (made_in (seeing reads) (inside (seeing reads) is_inlined pipeline.funcs func_index) found_func)).points
   unfolding seeing place_calls func_calls
-  made_good reader count place few before flag called claim None is n some a x y gx gy = absurd cc
-  made_good reader count place few before flag called claim (Some func) is n some a x y gx gy =
+  made_good reader count func_index few before flag called claim None is n some a x y gx gy = absurd cc
+  made_good reader count func_index few before flag called claim (Some func) is n some a x y gx gy =
       let vars = arguments (none (seeing reads)) (unread x) (unread (second_of (none (seeing reads)) y)) in
-      let v = through (seeing reads) (inside (seeing reads) is_inlined pipeline.funcs place) vars func.pure in
+      let v = through (seeing reads) (inside (seeing reads) is_inlined pipeline.funcs func_index) vars func.pure in
       both_good reader count x.points (second_points y ++ v.points) gx
       (both_good reader count (second_points y) v.points gy
-      (all_lifted reader count place few before flag called v.points (claim vars nothing (is_argument (dimensions func)) func.pure
-      (rules.funcs place func is).pure calling)))
+      (all_lifted reader count func_index few before flag called v.points (claim vars nothing (is_argument (dimensions func)) func.pure
+      (rules.funcs func_index func is).pure calling)))
     where
-      nothing : (v : Variable) → AllGood place place (arguments (none (seeing reads)) (unread x) (unread (second_of (none (seeing reads)) y)) v).points
+      nothing : (v : Variable) → AllGood func_index func_index (arguments (none (seeing reads)) (unread x) (unread (second_of (none (seeing reads)) y)) v).points
       nothing variables.FirstArgument = tt
       nothing variables.SecondArgument = tt
       nothing variables.FirstReduction = tt
       nothing variables.SecondReduction = tt
 
-      calling : (other : ℕ) → calls other func.pure ≡ true → place_calls pipeline place other ≡ true
+      calling : (other : ℕ) → calls other func.pure ≡ true → place_calls pipeline func_index other ≡ true
       calling other e = ap (place_calls_of other) is ∙ or_left (calls other func.pure) (updates_call other func.updates) e
 
-  module _ (reader count : ℕ) (few : count ≤ suc reader) (precede : Precede count reader) (claims : (place : ℕ) → place < count → is_inlined place ≡ true
-      → Claim place place) where
+  module _ (reader count : ℕ) (few : count ≤ suc reader) (precede : Precede count reader) (claims : (func_index : ℕ) → func_index < count → is_inlined func_index ≡ true
+      → Claim func_index func_index) where
     answered_good : (s : Source) (n : ℕ) → is_read pipeline.inputs pipeline.funcs count s n ≡ true → ((func : ℕ) → is_func func s ≡ true
         → place_calls pipeline reader func ≡ true)
         → (a x : Seen) (y : Option Seen) → (IsReadThrough pipeline standings reader count s → AllGood reader count a.points) → AllGood reader count x.points
         → AllGood reader count (second_points y)
         → AllGood reader count (answered a x y (answer (inside (seeing reads) is_inlined pipeline.funcs count) s)).points
-    answered_good (sources.Input place) n read called a x y ga gx gy = ga (input_some (slice_get pipeline.inputs place) n read)
-    answered_good (sources.Func place) n read called a x y ga gx gy = by_flag (is_inlined place) refl
+    answered_good (sources.Input func_index) n read called a x y ga gx gy = ga (input_some (slice_get pipeline.inputs func_index) n read)
+    answered_good (sources.Func func_index) n read called a x y ga gx gy = by_flag (is_inlined func_index) refl
       where
-        parts : (nat_lt place count ≡ true) × (is_func_of (slice_get pipeline.funcs place) n ≡ true)
-        parts = and_parts (nat_lt place count) (is_func_of (slice_get pipeline.funcs place) n) read
+        parts : (nat_lt func_index count ≡ true) × (is_func_of (slice_get pipeline.funcs func_index) n ≡ true)
+        parts = and_parts (nat_lt func_index count) (is_func_of (slice_get pipeline.funcs func_index) n) read
 
-        before : place < count
-        before = ltb-true place count parts.0
+        before : func_index < count
+        before = ltb-true func_index count parts.0
 
-        own_call : place_calls pipeline reader place ≡ true
-        own_call = called place (eq-eqb place place refl)
+        own_call : place_calls pipeline reader func_index ≡ true
+        own_call = called func_index (eq-eqb func_index func_index refl)
 
-        by_place : (place ≡ reader) ⊎ ReadsThrough pipeline standings reader place
-        by_place = elim (cases_lt place reader) [
-          | inl l ↦ inr (Calls reader place l own_call)
+        by_place : (func_index ≡ reader) ⊎ ReadsThrough pipeline standings reader func_index
+        by_place = elim (cases_lt func_index reader) [
+          | inl l ↦ inr (Calls reader func_index l own_call)
           | inr l ↦ inl (omega (arith, l, before, few))
         ]
 
-        own_read : is_inlined place ≡ false → IsReadThrough pipeline standings reader count (sources.Func place)
+        own_read : is_inlined func_index ≡ false → IsReadThrough pipeline standings reader count
+            (sources.Func func_index)
         own_read flag = (flag, (before, by_place))
 
-        by_flag : (flag : Bool) → is_inlined place ≡ flag
-            → AllGood reader count (answered a x y (inside (seeing reads) is_inlined pipeline.funcs count place)).points
-        by_flag false f = rw (inside_computed (seeing reads) is_inlined pipeline.funcs count place f) (ga (own_read f))
+        by_flag : (flag : Bool) → is_inlined func_index ≡ flag
+            → AllGood reader count (answered a x y (inside (seeing reads) is_inlined pipeline.funcs count
+            func_index)).points
+        by_flag false f = rw (inside_computed (seeing reads) is_inlined pipeline.funcs count func_index f)
+            (ga (own_read f))
         by_flag true f =
-            rw (inside_before (seeing reads) is_inlined pipeline.funcs count place before f)
-            (made_good reader count place before (precede place before f) f own_call (claims place before f) (slice_get pipeline.funcs place) refl n parts.1 a x
+            rw (inside_before (seeing reads) is_inlined pipeline.funcs count func_index before f)
+            (made_good reader count func_index before (precede func_index before f) f own_call (claims func_index before f) (slice_get pipeline.funcs func_index) refl n parts.1 a x
             y gx gy)
 
     abbrev Reach : (ℕ → Bool) → Seen → Type 0
@@ -206,13 +209,13 @@ module _ (pipeline : Pipeline) (standings : List FuncPlacement) (rules : IsWellF
           (b.is (λ f e. called f (or_right (c.left f || a.left f) (b.left f) e))))
       levels (layer.Call1 s a) kept = λ called.
           let ga = a.is (λ f e. called f (or_right (is_func f s) (a.left f) e)) in
-          answered_good s 1 kept (λ f e. called f (or_left (is_func f s) (a.left f) e)) _ a.right None (λ own. both_good reader count a.right.points _ ga
-          (own, tt)) ga tt
+          answered_good s 1 kept (λ f e. called f (or_left (is_func f s) (a.left f) e)) _ a.right None (λ input. both_good reader count a.right.points _ ga
+          (input, tt)) ga tt
       levels (layer.Call2 s a b) kept = λ called.
           let ga = a.is (λ f e. called f (or_left (is_func f s || a.left f) (b.left f) (or_right (is_func f s) (a.left f) e))) in
           let gb = b.is (λ f e. called f (or_right (is_func f s || a.left f) (b.left f) e)) in
           answered_good s 2 kept (λ f e. called f (or_left (is_func f s || a.left f) (b.left f) (or_left (is_func f s) (a.left f) e))) _ a.right (Some b.right)
-          (λ own. both_good reader count (a.right.points ++ b.right.points) _ (both_good reader count a.right.points b.right.points ga gb) (own, tt)) ga gb
+          (λ input. both_good reader count (a.right.points ++ b.right.points) _ (both_good reader count a.right.points b.right.points ga gb) (input, tt)) ga gb
 
       claimed : (e : Expr) → keeps (is_read pipeline.inputs pipeline.funcs count) has e ≡ true → ((func : ℕ) → calls func e ≡ true
           → place_calls pipeline reader func ≡ true)
@@ -224,17 +227,17 @@ module _ (pipeline : Pipeline) (standings : List FuncPlacement) (rules : IsWellF
           (λ f is. called f (sym (callers_are (is_read pipeline.inputs pipeline.funcs count) has f e kept) ∙ is))
 
   -- of all Funcs before a place
-  claims_below : (most place : ℕ) → place < most → Claim place place
-  claims_below zero place below = absurd (omega (arith, below))
-  claims_below (suc most) place below =
-      claimed place place (omega arith) (λ other before flag. before) (λ other before flag. claims_below most other (omega (arith, before, below)))
+  claims_below : (most func_index : ℕ) → func_index < most → Claim func_index func_index
+  claims_below zero func_index below = absurd (omega (arith, below))
+  claims_below (suc most) func_index below =
+      claimed func_index func_index (omega arith) (λ other before flag. before) (λ other before flag. claims_below most other (omega (arith, before, below)))
 
   pub expression_good : (reader count : ℕ) → count ≤ suc reader → Precede count reader → (environment : Environment) (has : Variable → Bool) (e : Expr)
       → keeps (is_read pipeline.inputs pipeline.funcs count) has e ≡ true
       → ((func : ℕ) → calls func e ≡ true → place_calls pipeline reader func ≡ true)
       → AllGood reader count (inlined (seeing reads) is_inlined pipeline.funcs count (seen_variable environment) e).points
   expression_good reader count few precede environment has e kept called =
-      claimed reader count few precede (λ place before flag. claims_below (suc place) place (omega arith)) (seen_variable environment) (λ v. tt) has e kept
+      claimed reader count few precede (λ func_index before flag. claims_below (suc func_index) func_index (omega arith)) (seen_variable environment) (λ v. tt) has e kept
       called
 
 pub pure_points_are_read_through : PurePointsAreReadThrough
@@ -283,7 +286,7 @@ update_points_are_read_through pipeline schedule rules reader func func_is plain
 
     left_x : AreReadThrough pipeline schedule.standings reader reader (seen_in pipeline schedule reads reader point update.left_x).points
     left_x =
-        expression_good pipeline schedule.standings rules reads reader reader (omega arith) (λ place before flag. before) point has update.left_x formed.left_x
+        expression_good pipeline schedule.standings rules reads reader reader (omega arith) (λ func_index before flag. before) point has update.left_x formed.left_x
         (λ other e. calling other (or_left (calls other update.left_x || second_calls other update.left_y) (calls other update.right)
         (or_left (calls other update.left_x) (second_calls other update.left_y) e)))
 
@@ -291,13 +294,14 @@ update_points_are_read_through pipeline schedule rules reader func func_is plain
         → AreReadThrough pipeline schedule.standings reader reader (second_seen pipeline schedule reads reader point index).points
     second None is kept = tt
     second (Some index) is kept =
-        expression_good pipeline schedule.standings rules reads reader reader (omega arith) (λ place before flag. before) point has index
+        expression_good pipeline schedule.standings rules reads reader reader (omega arith) (λ func_index before flag. before) point has index
         (and_parts (dimensions func == 2) (keeps (is_read pipeline.inputs pipeline.funcs reader) has index) kept).1
         (λ other e. calling other (or_left (calls other update.left_x || second_calls other update.left_y) (calls other update.right)
         (or_right (calls other update.left_x) (second_calls other update.left_y) (ap (second_calls other) (sym is) ∙ e))))
 
-    precede : (place : ℕ) → place < suc reader → flagged (flags_of schedule.standings) place ≡ true → place < reader
-    precede place below flag = elim (cases_eq place reader) [
+    precede : (func_index : ℕ) → func_index < suc reader → flagged (flags_of schedule.standings) func_index ≡ true
+        → func_index < reader
+    precede func_index below flag = elim (cases_eq func_index reader) [
       | inl e ↦ let wrong : flagged (flags_of schedule.standings) reader ≡ true = subst (λ (n : ℕ). flagged (flags_of schedule.standings) n ≡ true) e flag in
           absurd (true≢false (sym wrong ∙ plain))
       | inr d ↦ omega (arith, d, below)

@@ -70,66 +70,69 @@ same_self (sources.Func place) = eq-eqb place place refl
 
 -- ---- boxes of inputs
 
-inputs_some : (pipeline : Pipeline) (schedule : Schedule) (boxes : List (Option SourceBox)) (place : ℕ) (inputs : List Input) (found : List (Option SourceBox))
-    → inputs_from pipeline schedule (flags_of schedule.standings) boxes place inputs ≡ Some found → (k : ℕ) (input : Input) → slice_get inputs k ≡ Some input
-    → IsSome (slice_get found k)
-inputs_some pipeline schedule boxes place [] found e k input there = absurd cc
-inputs_some pipeline schedule boxes place (first ∷ others) found e k input there = by_rest (inputs_from pipeline schedule (flags_of schedule.standings) boxes
-    (place + 1) others) refl e k there (inputs_some pipeline schedule boxes (place + 1) others)
+inputs_some : (pipeline : Pipeline) (schedule : Schedule) (boxes : List (Option SourceBox)) (func_index : ℕ) (inputs : List Input) (later_boxes : List (Option SourceBox))
+    → inputs_from pipeline schedule (flags_of schedule.standings) boxes func_index inputs ≡ Some later_boxes → (k : ℕ) (input : Input) → slice_get inputs k ≡ Some input
+    → IsSome (slice_get later_boxes k)
+inputs_some pipeline schedule boxes func_index [] later_boxes e k input there = absurd cc
+inputs_some pipeline schedule boxes func_index (first ∷ others) later_boxes e k input there = by_rest (inputs_from pipeline schedule (flags_of schedule.standings) boxes
+    (func_index + 1) others) refl e k there (inputs_some pipeline schedule boxes (func_index + 1) others)
   where
     own : Option SourceBox
-    own = input_box pipeline schedule (flags_of schedule.standings) boxes place
+    own = input_box pipeline schedule (flags_of schedule.standings) boxes func_index
 
     by_place : (behind : List (Option SourceBox)) (n : ℕ) → slice_get (first ∷ others) n ≡ Some input → ((m : ℕ) → slice_get others m ≡ Some input
         → IsSome (slice_get behind m)) → IsSome (slice_get (own ∷ behind) n)
     by_place behind zero is next = record { value = own; is = refl }
     by_place behind (suc n) is next = next n is
 
-    by_rest : (rest : Option (List (Option SourceBox))) → inputs_from pipeline schedule (flags_of schedule.standings) boxes (place + 1) others ≡ rest
-        → with_input pipeline schedule (flags_of schedule.standings) boxes place rest ≡ Some found → (n : ℕ) → slice_get (first ∷ others) n ≡ Some input
-        → ((f : List (Option SourceBox)) → inputs_from pipeline schedule (flags_of schedule.standings) boxes (place + 1) others ≡ Some f → (m : ℕ) (i : Input)
+    by_rest : (rest : Option (List (Option SourceBox))) → inputs_from pipeline schedule (flags_of schedule.standings) boxes (func_index + 1) others ≡ rest
+        → with_input pipeline schedule (flags_of schedule.standings) boxes func_index rest ≡ Some later_boxes → (n : ℕ) → slice_get (first ∷ others) n ≡ Some input
+        → ((f : List (Option SourceBox)) → inputs_from pipeline schedule (flags_of schedule.standings) boxes (func_index + 1) others ≡ Some f → (m : ℕ) (i : Input)
         → slice_get others m ≡ Some i → IsSome (slice_get f m))
-        → IsSome (slice_get found n)
+        → IsSome (slice_get later_boxes n)
     by_rest None is w n at next = absurd cc
     by_rest (Some behind) is w n at next =
-        subst (λ (l : List (Option SourceBox)). IsSome (slice_get l n)) (in_front_is own behind found w) (by_place behind n at (λ m there_m. next behind is m
+        subst (λ (l : List (Option SourceBox)). IsSome (slice_get l n)) (in_front_is own behind later_boxes w) (by_place behind n at (λ m there_m. next behind is m
         input there_m))
 
-funcs_some : (pipeline : Pipeline) (schedule : Schedule) (at : ℕ) (funcs : List Func) (found : List (Option SourceBox))
-    → boxes_from pipeline schedule (flags_of schedule.standings) at funcs ≡ Some found
-    → (k : ℕ) (func : Func) → slice_get funcs k ≡ Some func → IsSome (slice_get found k)
-funcs_some pipeline schedule at [] found e k func there = absurd cc
-funcs_some pipeline schedule at (first ∷ others) found e k func there = by_rest (boxes_from pipeline schedule (flags_of schedule.standings) (at + 1) others)
+funcs_some : (pipeline : Pipeline) (schedule : Schedule) (at : ℕ) (funcs : List Func)
+    (later_boxes : List (Option SourceBox))
+    → boxes_from pipeline schedule (flags_of schedule.standings) at funcs ≡ Some later_boxes
+    → (k : ℕ) (func : Func) → slice_get funcs k ≡ Some func → IsSome (slice_get later_boxes k)
+funcs_some pipeline schedule at [] later_boxes e k func there = absurd cc
+funcs_some pipeline schedule at (first ∷ others) later_boxes e k func there = by_rest (boxes_from pipeline schedule (flags_of schedule.standings) (at + 1) others)
     refl e k there (funcs_some pipeline schedule (at + 1) others)
   where
-    by_place : (own : Option SourceBox) (behind : List (Option SourceBox)) (n : ℕ) → slice_get (first ∷ others) n ≡ Some func
-        → ((m : ℕ) → slice_get others m ≡ Some func → IsSome (slice_get behind m)) → IsSome (slice_get (own ∷ behind) n)
-    by_place own behind zero is next = record { value = own; is = refl }
-    by_place own behind (suc n) is next = next n is
+    by_place : (source_box : Option SourceBox) (behind : List (Option SourceBox)) (n : ℕ) → slice_get (first ∷ others) n ≡ Some func
+        → ((m : ℕ) → slice_get others m ≡ Some func → IsSome (slice_get behind m))
+        → IsSome (slice_get (source_box ∷ behind) n)
+    by_place source_box behind zero is next = record { value = source_box; is = refl }
+    by_place source_box behind (suc n) is next = next n is
 
     by_rest : (rest : Option (List (Option SourceBox))) → boxes_from pipeline schedule (flags_of schedule.standings) (at + 1) others ≡ rest
-        → with_func pipeline schedule (flags_of schedule.standings) at first rest ≡ Some found → (n : ℕ) → slice_get (first ∷ others) n ≡ Some func
+        → with_func pipeline schedule (flags_of schedule.standings) at first rest ≡ Some later_boxes → (n : ℕ) → slice_get (first ∷ others) n ≡ Some func
         → ((f : List (Option SourceBox)) → boxes_from pipeline schedule (flags_of schedule.standings) (at + 1) others ≡ Some f → (m : ℕ) (g : Func)
         → slice_get others m ≡ Some g → IsSome (slice_get f m))
-        → IsSome (slice_get found n)
+        → IsSome (slice_get later_boxes n)
     by_rest None is w n place next = absurd cc
     by_rest (Some behind) is w n place next =
-        let own = func_box pipeline schedule (flags_of schedule.standings) at first behind (slice_get schedule.standings at) in
-        subst (λ (l : List (Option SourceBox)). IsSome (slice_get l n)) (in_front_is own behind found w) (by_place own behind n place (λ m there_m. next behind
+        let source_box = func_box pipeline schedule (flags_of schedule.standings) at first behind (slice_get schedule.standings at) in
+        subst (λ (l : List (Option SourceBox)). IsSome (slice_get l n)) (in_front_is source_box behind later_boxes w) (by_place source_box behind n place (λ m there_m. next behind
         is m func there_m))
 
-boxes_some : (pipeline : Pipeline) (schedule : Schedule) (boxes : Boxes) → inferred pipeline schedule ≡ Ok boxes → (place : ℕ) (func : Func)
-    → slice_get pipeline.funcs place ≡ Some func → IsSome (slice_get boxes.funcs place)
-boxes_some pipeline schedule boxes is place func there = funcs_some pipeline schedule 0 pipeline.funcs boxes.funcs (are_found pipeline schedule boxes is).funcs
-    place func there
+boxes_some : (pipeline : Pipeline) (schedule : Schedule) (boxes : Boxes) → inferred pipeline schedule ≡ Ok boxes → (func_index : ℕ) (func : Func)
+    → slice_get pipeline.funcs func_index ≡ Some func → IsSome (slice_get boxes.funcs func_index)
+boxes_some pipeline schedule boxes is func_index func there = funcs_some pipeline schedule 0 pipeline.funcs boxes.funcs (are_found pipeline schedule boxes is).funcs
+    func_index func there
 
 -- ---- what lies in its box is held
 
 boxed_true : (values : List ℕ) (answer : Option (Option SourceBox)) (x y : ℕ) → IsSome answer → IsBoxed values answer x y
-    → ((own : SourceBox) → answer ≡ Some (Some own) → Below values own.lasts) → is_boxed answer x y ≡ true
+    → ((source_box : SourceBox) → answer ≡ Some (Some source_box) → Below values source_box.lasts)
+    → is_boxed answer x y ≡ true
 boxed_true values None x y some boxed below = let is = some.is in absurd cc
 boxed_true values (Some None) x y some boxed below = absurd boxed
-boxed_true values (Some (Some own)) x y some boxed below = values_given own.lasts (lies_in own x y) values (below own refl) (lies_in_of own values x y boxed)
+boxed_true values (Some (Some source_box)) x y some boxed below = values_given source_box.lasts (lies_in source_box x y) values (below source_box refl) (lies_in_of source_box values x y boxed)
 
 module _ (pipeline : Pipeline) (schedule : Schedule) (boxes : Boxes) (rules : IsWellFormed pipeline) (accepted : IsAccepted pipeline schedule)
     (is : inferred pipeline schedule ≡ Ok boxes) where
@@ -138,27 +141,27 @@ module _ (pipeline : Pipeline) (schedule : Schedule) (boxes : Boxes) (rules : Is
 
   -- ---- which Funcs are computed
 
-  produced_later : (place : ℕ) (own : FuncPlacement) → slice_get schedule.standings place ≡ Some own → IsProduced pipeline schedule.funcs place own
-  produced_later place own found =
-      let here : 0 + place ≡ place = omega arith in
+  produced_later : (func_index : ℕ) (own : FuncPlacement) → slice_get schedule.standings func_index ≡ Some own → IsProduced pipeline schedule.funcs func_index own
+  produced_later func_index own found =
+      let here : 0 + func_index ≡ func_index = omega arith in
       subst (λ (n : ℕ). IsProduced pipeline schedule.funcs n own) here (numbered_at (IsProduced pipeline schedule.funcs) 0 schedule.standings accepted.consumers
-      place own found)
+      func_index own found)
 
-  computed_so : (place : ℕ) (func : Func) → slice_get pipeline.funcs place ≡ Some func → (own : FuncPlacement) → IsReached schedule.standings place own
-      → flags pipeline schedule place ≡ false → IsComputed place own.place
-  computed_so place func func_is own there plain = by_place own.place refl
+  computed_so : (func_index : ℕ) (func : Func) → slice_get pipeline.funcs func_index ≡ Some func → (own : FuncPlacement) → IsReached schedule.standings func_index own
+      → flags pipeline schedule func_index ≡ false → IsComputed func_index own.place
+  computed_so func_index func func_is own there plain = by_place own.place refl
     where
-      plan : IsSome (slice_get schedule.funcs place)
-      plan = pair_there IsPlan pipeline.funcs schedule.funcs place func accepted.plans func_is
+      plan : IsSome (slice_get schedule.funcs func_index)
+      plan = pair_there IsPlan pipeline.funcs schedule.funcs func_index func accepted.plans func_is
 
       somewhere : is_nowhere own.place ≡ false
-      somewhere = (pair_at IsLegal schedule.funcs schedule.standings place plan.value own accepted.legal plan.is there.standing there.reached).somewhere
+      somewhere = (pair_at IsLegal schedule.funcs schedule.standings func_index plan.value own accepted.legal plan.is there.standing there.reached).somewhere
 
-      by_place : (p : ComputeLevel) → own.place ≡ p → IsComputed place p
+      by_place : (p : ComputeLevel) → own.place ≡ p → IsComputed func_index p
       by_place places.Root e = tt
-      by_place (places.At at) e = (produced_later place own there.standing at e).later
+      by_place (places.At at) e = (produced_later func_index own there.standing at e).later
       by_place places.Inlined e =
-          absurd (true≢false (sym (flag_is schedule.standings place own there.standing ∙ ap is_inlined e) ∙ plain))
+          absurd (true≢false (sym (flag_is schedule.standings func_index own there.standing ∙ ap is_inlined e) ∙ plain))
       by_place places.Nowhere e = absurd (true≢false (sym (ap is_nowhere e) ∙ somewhere))
 
   -- ---- a Func that has a box
@@ -169,71 +172,73 @@ module _ (pipeline : Pipeline) (schedule : Schedule) (boxes : Boxes) (rules : Is
     box = has_box pipeline schedule boxes accepted is reader own own_is
 
     abbrev Seen_so : ComputeLevel → Type 0
-    Seen_so place = Sees pipeline schedule boxes reader own x y place
+    Seen_so func_index = Sees pipeline schedule boxes reader own x y func_index
 
     -- what is known of points that the reader reads
     record AreRead (count : ℕ) (points : List Point) : Type 0 where
-      inputs : (place : ℕ) → AreBoxed no_loops (sources.Input place) (slice_get boxes.inputs place) points
-      funcs : (place : ℕ) (sought : FuncPlacement) → place < reader → slice_get schedule.standings place ≡ Some sought → sought.is_reached ≡ true
-          → IsComputed place sought.place
-          → (s : Seen_so sought.place) → AreBoxed (values_for s.consumer s.values) (sources.Func place) (slice_get boxes.funcs place) points
+      inputs : (func_index : ℕ) → AreBoxed no_loops (sources.Input func_index) (slice_get boxes.inputs func_index)
+          points
+      funcs : (func_index : ℕ) (sought : FuncPlacement) → func_index < reader → slice_get schedule.standings func_index ≡ Some sought → sought.is_reached ≡ true
+          → IsComputed func_index sought.place
+          → (s : Seen_so sought.place) → AreBoxed (values_for s.consumer s.values) (sources.Func func_index) (slice_get boxes.funcs func_index) points
       own_points : reader < count → AreBoxed values (sources.Func reader) (Some (Some own)) points
       through : AreReadThrough pipeline schedule.standings reader count points
 
     rest : (count : ℕ) (point : Point) (points : List Point) → AreRead count (point ∷ points) → AreRead count points
     rest count point points r = record {
-      inputs = λ place. (r.inputs place).1;
-      funcs = λ place sought before found reached_so computed s. (r.funcs place sought before found reached_so computed s).1;
+      inputs = λ func_index. (r.inputs func_index).1;
+      funcs = λ func_index sought before found reached_so computed s. (r.funcs func_index sought before found reached_so computed s).1;
       own_points = λ l. (r.own_points l).1;
       through = r.through.1;
     }
 
-    pub input_held : (place a b : ℕ) → is_some (slice_get pipeline.inputs place) ≡ true → IsBoxed no_loops (slice_get boxes.inputs place) a b
-        → is_within (slice_get pipeline.inputs place) a b ≡ true
-    input_held place a b some boxed = by_input (slice_get pipeline.inputs place) refl some
+    pub input_held : (func_index a b : ℕ) → is_some (slice_get pipeline.inputs func_index) ≡ true → IsBoxed no_loops (slice_get boxes.inputs func_index) a b
+        → is_within (slice_get pipeline.inputs func_index) a b ≡ true
+    input_held func_index a b some boxed = by_input (slice_get pipeline.inputs func_index) refl some
       where
         found : AreFound pipeline schedule boxes
         found = are_found pipeline schedule boxes is
 
-        by_box : (input : Input) → slice_get pipeline.inputs place ≡ Some input → (answer : Option (Option SourceBox)) → slice_get boxes.inputs place ≡ answer
+        by_box : (input : Input) → slice_get pipeline.inputs func_index ≡ Some input → (answer : Option (Option SourceBox)) → slice_get boxes.inputs func_index ≡ answer
             → IsSome answer → IsBoxed no_loops answer a b
             → (nat_lt a input.width && nat_lt b input.height) ≡ true
         by_box input i None e s boxed_so = let wrong = s.is in absurd cc
         by_box input i (Some None) e s boxed_so = absurd boxed_so
         by_box input i (Some (Some other)) e s boxed_so =
-            let spread = read_from pipeline schedule (flags_of schedule.standings) 0 None (sources.Input place) boxes.funcs no_spread in
-            let here : 0 + place ≡ place = omega arith in
+            let spread = read_from pipeline schedule (flags_of schedule.standings) 0 None (sources.Input func_index) boxes.funcs no_spread in
+            let here : 0 + func_index ≡ func_index = omega arith in
             let box_is : spread_box None spread ≡ Some other =
-            sym (inputs_at pipeline schedule (flags_of schedule.standings) boxes.funcs 0 pipeline.inputs boxes.inputs found.inputs place (Some other) e
+            sym (inputs_at pipeline schedule (flags_of schedule.standings) boxes.funcs 0 pipeline.inputs boxes.inputs found.inputs func_index (Some other) e
             ∙ ap (λ (n : ℕ). input_box pipeline schedule (flags_of schedule.standings) boxes.funcs n) here) in
             let lasts = lasts_by no_loops spread.x spread.y other box_is in
             let k = points_within input other no_loops a b (subst (λ (l : List ℕ). Below no_loops l) (sym lasts) no_below) (input_at pipeline.inputs
-            boxes.inputs place input other (is_judged pipeline schedule boxes is).inputs i e) boxed_so in
+            boxes.inputs func_index input other (is_judged pipeline schedule boxes is).inputs i e) boxed_so in
             and_from (nat_lt a input.width) (nat_lt b input.height) (lt-ltb a input.width k.0) (lt-ltb b input.height k.1)
 
-        by_input : (input : Option Input) → slice_get pipeline.inputs place ≡ input → is_some input ≡ true → is_within input a b ≡ true
+        by_input : (input : Option Input) → slice_get pipeline.inputs func_index ≡ input → is_some input ≡ true → is_within input a b ≡ true
         by_input None i s = absurd cc
-        by_input (Some input) i s = by_box input i (slice_get boxes.inputs place) refl (inputs_some pipeline schedule boxes.funcs 0 pipeline.inputs boxes.inputs
-            found.inputs place input i) boxed
+        by_input (Some input) i s = by_box input i (slice_get boxes.inputs func_index) refl (inputs_some pipeline schedule boxes.funcs 0 pipeline.inputs boxes.inputs
+            found.inputs func_index input i) boxed
 
-    func_held : (place a b : ℕ) → is_boxed (slice_get boxes.funcs place) a b ≡ true → test (point_at (sources.Func place) a b) ≡ true
-    func_held place a b e = or_right (put pipeline schedule place) (is_boxed (slice_get boxes.funcs place) a b) e
+    func_held : (func_index a b : ℕ) → is_boxed (slice_get boxes.funcs func_index) a b ≡ true → test (point_at (sources.Func func_index) a b) ≡ true
+    func_held func_index a b e = or_right (put pipeline schedule func_index)
+        (is_boxed (slice_get boxes.funcs func_index) a b) e
 
-    other_held : (place a b : ℕ) → flags pipeline schedule place ≡ false → ReadsThrough pipeline schedule.standings reader place
-        → ((sought : FuncPlacement) → place < reader → slice_get schedule.standings place ≡ Some sought → sought.is_reached ≡ true → IsComputed place sought.place
-        → (s : Seen_so sought.place) → IsBoxed (values_for s.consumer s.values) (slice_get boxes.funcs place) a b)
-        → test (point_at (sources.Func place) a b) ≡ true
-    other_held place a b plain through boxed_so =
-        let w = readers_stand_within pipeline schedule accepted reader box.standing box.there box.computed place through in
-        let entry = some_before boxes.funcs reader place (Some own) own_is w.before in
-        let func = some_before pipeline.funcs reader place box.func box.func_is w.before in
-        let computed = computed_so place func.value func.is w.own w.there plain in
-        let s = sees pipeline schedule boxes rules accepted is reader own own_is values below x y lies place w computed in
-        func_held place a b
-        (boxed_true (values_for s.consumer s.values) (slice_get boxes.funcs place) a b entry (boxed_so w.own w.before w.there.standing w.there.reached computed
+    other_held : (func_index a b : ℕ) → flags pipeline schedule func_index ≡ false → ReadsThrough pipeline schedule.standings reader func_index
+        → ((sought : FuncPlacement) → func_index < reader → slice_get schedule.standings func_index ≡ Some sought → sought.is_reached ≡ true → IsComputed func_index sought.place
+        → (s : Seen_so sought.place) → IsBoxed (values_for s.consumer s.values) (slice_get boxes.funcs func_index) a b)
+        → test (point_at (sources.Func func_index) a b) ≡ true
+    other_held func_index a b plain through boxed_so =
+        let w = readers_stand_within pipeline schedule accepted reader box.standing box.there box.computed func_index through in
+        let entry = some_before boxes.funcs reader func_index (Some own) own_is w.before in
+        let func = some_before pipeline.funcs reader func_index box.func box.func_is w.before in
+        let computed = computed_so func_index func.value func.is w.own w.there plain in
+        let s = sees pipeline schedule boxes rules accepted is reader own own_is values below x y lies func_index w computed in
+        func_held func_index a b
+        (boxed_true (values_for s.consumer s.values) (slice_get boxes.funcs func_index) a b entry (boxed_so w.own w.before w.there.standing w.there.reached computed
         s)
         (λ other e.
-        let theirs = has_box pipeline schedule boxes accepted is place other e in
+        let theirs = has_box pipeline schedule boxes accepted is func_index other e in
         let same_standing : theirs.standing ≡ w.own = let p = theirs.there.standing in let q = w.there.standing in cc in
         let lasts : other.lasts ≡ lasts_of s.consumer =
         theirs.lasts ∙ ap (λ (t : FuncPlacement). lasts_of (consumer_in schedule boxes.funcs t.place)) same_standing ∙ ap lasts_of s.consumer_is in
@@ -241,16 +246,16 @@ module _ (pipeline : Pipeline) (schedule : Schedule) (boxes : Boxes) (rules : Is
 
     point_held : (count : ℕ) (s : Source) (a b : ℕ) (points : List Point) → AreRead count (point_at s a b ∷ points)
         → IsReadThrough pipeline schedule.standings reader count s → test (point_at s a b) ≡ true
-    point_held count (sources.Input place) a b points r through = input_held place a b through ((r.inputs place).0 (same_self (sources.Input place)))
-    point_held count (sources.Func place) a b points r (plain, (few, inl e)) =
-        let own_entry : slice_get boxes.funcs place ≡ Some (Some own) = ap (λ (n : ℕ). slice_get boxes.funcs n) e ∙ own_is in
-        let same : same_source (sources.Func place) (sources.Func reader) ≡ true = eq-eqb place reader e in
+    point_held count (sources.Input func_index) a b points r through = input_held func_index a b through ((r.inputs func_index).0 (same_self (sources.Input func_index)))
+    point_held count (sources.Func func_index) a b points r (plain, (few, inl e)) =
+        let own_entry : slice_get boxes.funcs func_index ≡ Some (Some own) = ap (λ (n : ℕ). slice_get boxes.funcs n) e ∙ own_is in
+        let same : same_source (sources.Func func_index) (sources.Func reader) ≡ true = eq-eqb func_index reader e in
         let inside = (r.own_points (subst (λ (n : ℕ). n < count) e few)).0 same in
-        func_held place a b (ap (λ (o : Option (Option SourceBox)). is_boxed o a b) own_entry
+        func_held func_index a b (ap (λ (o : Option (Option SourceBox)). is_boxed o a b) own_entry
         ∙ values_given own.lasts (lies_in own a b) values below (lies_in_of own values a b inside))
-    point_held count (sources.Func place) a b points r (plain, (few, inr through)) =
-        other_held place a b plain through (λ sought before found reached_so computed s. (r.funcs place sought before found reached_so computed s).0
-        (same_self (sources.Func place)))
+    point_held count (sources.Func func_index) a b points r (plain, (few, inr through)) =
+        other_held func_index a b plain through (λ sought before found reached_so computed s. (r.funcs func_index sought before found reached_so computed s).0
+        (same_self (sources.Func func_index)))
 
     all_held : (count : ℕ) (points : List Point) → AreRead count points → Hold test points
     all_held count [] r = tt
@@ -265,9 +270,9 @@ module _ (pipeline : Pipeline) (schedule : Schedule) (boxes : Boxes) (rules : Is
         → Hold test (pure_points pipeline schedule reads reader func x y)
     pure_held reads words func func_is =
         all_held reader (pure_points pipeline schedule reads reader func x y) (record {
-          inputs = λ place. pure_reads_of_inputs_lie pipeline schedule boxes rules is reader func own func_is own_is reads words values below x y lies place;
-          funcs = λ place sought before found reached_so computed s.
-              pure_reads_of_funcs_lie pipeline schedule boxes rules is reader func own func_is own_is place sought before found reached_so computed s.consumer
+          inputs = λ func_index. pure_reads_of_inputs_lie pipeline schedule boxes rules is reader func own func_is own_is reads words values below x y lies func_index;
+          funcs = λ func_index sought before found reached_so computed s.
+              pure_reads_of_funcs_lie pipeline schedule boxes rules is reader func own func_is own_is func_index sought before found reached_so computed s.consumer
               s.consumer_is s.view s.view_is reads words s.values s.below_view s.below_consumer x y s.lies;
           own_points = λ l. absurd (omega (arith, l));
           through = pure_points_are_read_through pipeline schedule rules reader func func_is reads x y;
@@ -287,10 +292,10 @@ module _ (pipeline : Pipeline) (schedule : Schedule) (boxes : Boxes) (rules : Is
         let consumer = consumer_in schedule boxes.funcs box.standing.place in
         let same = values_same consumer box.lasts in
         all_held (suc reader) (update_points pipeline schedule reads reader update number x y) (record {
-          inputs = λ place. update_reads_of_inputs_lie pipeline schedule boxes rules is reader func own func_is own_is at update update_is reads words values
-              below x y lies near.0 near.1 number few place;
-          funcs = λ place sought before found reached_so computed s.
-              update_reads_of_funcs_lie pipeline schedule boxes rules is reader func own func_is own_is at update update_is place sought before found reached_so
+          inputs = λ func_index. update_reads_of_inputs_lie pipeline schedule boxes rules is reader func own func_is own_is at update update_is reads words values
+              below x y lies near.0 near.1 number few func_index;
+          funcs = λ func_index sought before found reached_so computed s.
+              update_reads_of_funcs_lie pipeline schedule boxes rules is reader func own func_is own_is at update update_is func_index sought before found reached_so
               computed s.consumer s.consumer_is s.view s.view_is reads words s.values s.below_view s.below_consumer x y s.lies near.0 near.1 number few;
           own_points = λ l.
               subst (λ (v : List ℕ). AreBoxed v (sources.Func reader) (Some (Some own)) (update_points pipeline schedule reads reader update number x y)) same
@@ -316,81 +321,81 @@ module _ (pipeline : Pipeline) (schedule : Schedule) (boxes : Boxes) (rules : Is
     passing = passes test (put pipeline schedule) pipeline.funcs inputs (length pipeline.funcs)
 
     -- a point of a Func that isn't put in place passes exactly if it lies in the Func's box
-    record IsInBox (place x y : ℕ) : Type 0 where
+    record IsInBox (func_index x y : ℕ) : Type 0 where
       own : SourceBox
-      own_is : slice_get boxes.funcs place ≡ Some (Some own)
+      own_is : slice_get boxes.funcs func_index ≡ Some (Some own)
       values : List ℕ
       below : Below values own.lasts
       lies : LiesIn values own x y
 
-    in_box_by : (place x y : ℕ) (answer : Option (Option SourceBox)) → slice_get boxes.funcs place ≡ answer → is_boxed answer x y ≡ true → IsInBox place x y
-    in_box_by place x y None e b = absurd cc
-    in_box_by place x y (Some None) e b = absurd cc
-    in_box_by place x y (Some (Some own)) e b =
+    in_box_by : (func_index x y : ℕ) (answer : Option (Option SourceBox)) → slice_get boxes.funcs func_index ≡ answer → is_boxed answer x y ≡ true → IsInBox func_index x y
+    in_box_by func_index x y None e b = absurd cc
+    in_box_by func_index x y (Some None) e b = absurd cc
+    in_box_by func_index x y (Some (Some own)) e b =
         let v = values_found own.lasts (lies_in own x y) b in
         record { own = own; own_is = e; values = v.values; below = v.below; lies = of_lies_in own v.values x y v.passed }
 
-    in_box : (place x y : ℕ) → put pipeline schedule place ≡ false → passing (point_at (sources.Func place) x y) ≡ true → IsInBox place x y
-    in_box place x y plain passed =
-        let tested : test (point_at (sources.Func place) x y) ≡ true = sym (passes_tested test (put pipeline schedule) pipeline.funcs inputs
-        (length pipeline.funcs) (sources.Func place) x y (ap not plain)) ∙ passed in
-        in_box_by place x y (slice_get boxes.funcs place) refl (ap (λ (b : Bool). b || is_boxed (slice_get boxes.funcs place) x y) (sym plain) ∙ tested)
+    in_box : (func_index x y : ℕ) → put pipeline schedule func_index ≡ false → passing (point_at (sources.Func func_index) x y) ≡ true → IsInBox func_index x y
+    in_box func_index x y plain passed =
+        let tested : test (point_at (sources.Func func_index) x y) ≡ true = sym (passes_tested test (put pipeline schedule) pipeline.funcs inputs
+        (length pipeline.funcs) (sources.Func func_index) x y (ap not plain)) ∙ passed in
+        in_box_by func_index x y (slice_get boxes.funcs func_index) refl (ap (λ (b : Bool). b || is_boxed (slice_get boxes.funcs func_index) x y) (sym plain) ∙ tested)
 
-    module _ (place : ℕ) (func : Func) (func_is : slice_get pipeline.funcs place ≡ Some func) (plain : put pipeline schedule place ≡ false) where
-      few : place < length pipeline.funcs
-      few = elim (cases_lt place (length pipeline.funcs)) [
+    module _ (func_index : ℕ) (func : Func) (func_is : slice_get pipeline.funcs func_index ≡ Some func) (plain : put pipeline schedule func_index ≡ false) where
+      few : func_index < length pipeline.funcs
+      few = elim (cases_lt func_index (length pipeline.funcs)) [
         | inl l ↦ l
-        | inr l ↦ let none = slice_get_past pipeline.funcs place l in absurd cc
+        | inr l ↦ let none = slice_get_past pipeline.funcs func_index l in absurd cc
       ]
 
-      module _ (x y : ℕ) (passed : passing (point_at (sources.Func place) x y) ≡ true) where
-        abbrev at_box : IsInBox place x y
-        at_box = in_box place x y plain passed
+      module _ (x y : ℕ) (passed : passing (point_at (sources.Func func_index) x y) ≡ true) where
+        abbrev at_box : IsInBox func_index x y
+        at_box = in_box func_index x y plain passed
 
-        abbrev box_at : HasBox pipeline schedule boxes place at_box.own
-        box_at = has_box pipeline schedule boxes accepted is place at_box.own at_box.own_is
+        abbrev box_at : HasBox pipeline schedule boxes func_index at_box.own
+        box_at = has_box pipeline schedule boxes accepted is func_index at_box.own at_box.own_is
 
-        reached_here : reached pipeline schedule place ≡ true
+        reached_here : reached pipeline schedule func_index ≡ true
         reached_here = ap reached_of box_at.there.standing ∙ box_at.there.reached
           where
             reached_of : Option FuncPlacement → Bool
             reached_of None = false
             reached_of (Some s) = s.is_reached
 
-        unflagged : flags pipeline schedule place ≡ false
-        unflagged = agree pipeline schedule place reached_here ∙ plain
+        unflagged : flags pipeline schedule func_index ≡ false
+        unflagged = agree pipeline schedule func_index reached_here ∙ plain
 
-        calling_pure : (other : ℕ) → calls other func.pure ≡ true → place_calls pipeline place other ≡ true
+        calling_pure : (other : ℕ) → calls other func.pure ≡ true → place_calls pipeline func_index other ≡ true
         unfolding place_calls func_calls
         calling_pure other e = ap (place_calls_of other) func_is ∙ or_left (calls other func.pure) (updates_call other func.updates) e
 
         calling : (at : ℕ) (update : Update) → slice_get func.updates at ≡ Some update → (other : ℕ) → update_calls other update ≡ true
-            → place_calls pipeline place other ≡ true
+            → place_calls pipeline func_index other ≡ true
         unfolding place_calls func_calls
         calling at update update_is other e =
             ap (place_calls_of other) func_is ∙ or_right (calls other func.pure) (updates_call other func.updates) (updates_one other func.updates at update
             update_is e)
 
         -- what an expression reads in its text passes, where what it reads through inlined Funcs is held
-        text_passes : (environment : Environment) (has : Variable → Bool) (e : Expr) → keeps (is_read pipeline.inputs pipeline.funcs place) has e ≡ true
-            → ((other : ℕ) → calls other e ≡ true → place_calls pipeline place other ≡ true)
-            → Hold test (inlined (seeing (found_by place)) (flags pipeline schedule) pipeline.funcs place (seen_variable environment) e).points
-            → Hold passing (points_read (found_by place) environment e)
+        text_passes : (environment : Environment) (has : Variable → Bool) (e : Expr) → keeps (is_read pipeline.inputs pipeline.funcs func_index) has e ≡ true
+            → ((other : ℕ) → calls other e ≡ true → place_calls pipeline func_index other ≡ true)
+            → Hold test (inlined (seeing (found_by func_index)) (flags pipeline schedule) pipeline.funcs func_index (seen_variable environment) e).points
+            → Hold passing (points_read (found_by func_index) environment e)
         text_passes environment has e kept called held =
-            seen_points_pass test (found_by place) (put pipeline schedule) pipeline.inputs pipeline.funcs inputs rules.funcs (put_simple pipeline schedule
-            accepted) place (λ s n a b computed read. refl) has environment e kept
-            (subst (λ s. Hold test s.points) (same_seen pipeline schedule rules accepted (found_by place) place environment has e kept
-            (reaching pipeline schedule rules accepted (found_by place) place reached_here e called)) held)
+            seen_points_pass test (found_by func_index) (put pipeline schedule) pipeline.inputs pipeline.funcs inputs rules.funcs (put_simple pipeline schedule
+            accepted) func_index (λ s n a b computed read. refl) has environment e kept
+            (subst (λ s. Hold test s.points) (same_seen pipeline schedule rules accepted (found_by func_index) func_index environment has e kept
+            (reaching pipeline schedule rules accepted (found_by func_index) func_index reached_here e called)) held)
             (length pipeline.funcs) (omega (arith, few))
 
-        pure_passes : Hold passing (points_read (found_by place) (at_point x y) func.pure)
+        pure_passes : Hold passing (points_read (found_by func_index) (at_point x y) func.pure)
         pure_passes =
-            text_passes (at_point x y) (is_argument (dimensions func)) func.pure (rules.funcs place func func_is).pure calling_pure
-            (pure_held place at_box.own at_box.own_is at_box.values at_box.below x y at_box.lies (found_by place) (words place) func func_is)
+            text_passes (at_point x y) (is_argument (dimensions func)) func.pure (rules.funcs func_index func func_is).pure calling_pure
+            (pure_held func_index at_box.own at_box.own_is at_box.values at_box.below x y at_box.lies (found_by func_index) (words func_index) func func_is)
 
         module _ (at : ℕ) (update : Update) (update_is : slice_get func.updates at ≡ Some update) (number : ℕ) (inside : number < points update) where
-          formed : IsUpdate pipeline.inputs pipeline.funcs place (dimensions func) update
-          formed = (rules.funcs place func func_is).updates at update update_is
+          formed : IsUpdate pipeline.inputs pipeline.funcs func_index (dimensions func) update
+          formed = (rules.funcs func_index func func_is).updates at update update_is
 
           abbrev point : Environment
           point = at_reduction update number x y
@@ -399,32 +404,32 @@ module _ (pipeline : Pipeline) (schedule : Schedule) (boxes : Boxes) (rules : Is
           has = is_update_variable (dimensions func) update.second
 
           parts_held : (reads : Reads) → AnswerWords pipeline.inputs reads
-              → Hold test (seen_in pipeline schedule reads place point update.left_x).points
-              × (Hold test (second_seen pipeline schedule reads place point update.left_y).points × Hold test (seen_in pipeline schedule reads (suc place) point
+              → Hold test (seen_in pipeline schedule reads func_index point update.left_x).points
+              × (Hold test (second_seen pipeline schedule reads func_index point update.left_y).points × Hold test (seen_in pipeline schedule reads (suc func_index) point
               update.right).points)
           parts_held reads are_words =
-              let all = update_held place at_box.own at_box.own_is at_box.values at_box.below x y at_box.lies reads are_words func func_is unflagged at update
+              let all = update_held func_index at_box.own at_box.own_is at_box.values at_box.below x y at_box.lies reads are_words func func_is unflagged at update
               update_is number inside in
-              let a = all_parts (λ (p : Point). test p ≡ true) (seen_in pipeline schedule reads place point update.left_x).points _ all in
-              let b = all_parts (λ (p : Point). test p ≡ true) (second_seen pipeline schedule reads place point update.left_y).points _ a.1 in
+              let a = all_parts (λ (p : Point). test p ≡ true) (seen_in pipeline schedule reads func_index point update.left_x).points _ all in
+              let b = all_parts (λ (p : Point). test p ≡ true) (second_seen pipeline schedule reads func_index point update.left_y).points _ a.1 in
               (a.0, (b.0, b.1.1))
 
-          index_passes : (index : Option Expr) → index ≡ update.left_y → keeps_index (is_read pipeline.inputs pipeline.funcs place) has (dimensions func) index
+          index_passes : (index : Option Expr) → index ≡ update.left_y → keeps_index (is_read pipeline.inputs pipeline.funcs func_index) has (dimensions func) index
               ≡ true
-              → Hold test (second_seen pipeline schedule (found_by place) place point index).points → Hold passing (index_points (found_by place) point index)
+              → Hold test (second_seen pipeline schedule (found_by func_index) func_index point index).points → Hold passing (index_points (found_by func_index) point index)
           unfolding has
           index_passes None e kept held = tt
           index_passes (Some index) e kept held =
-              text_passes point has index (and_parts (dimensions func == 2) (keeps (is_read pipeline.inputs pipeline.funcs place) has index) kept).1
+              text_passes point has index (and_parts (dimensions func == 2) (keeps (is_read pipeline.inputs pipeline.funcs func_index) has index) kept).1
               (λ other c. calling at update update_is other (or_left (calls other update.left_x || second_calls other update.left_y) (calls other update.right)
               (or_right (calls other update.left_x) (second_calls other update.left_y) (ap (second_calls other) (sym e) ∙ c))))
               held
 
-          left_passes : Hold passing (left_points (found_by place) point update)
+          left_passes : Hold passing (left_points (found_by func_index) point update)
           unfolding has
           left_passes =
-              let held = parts_held (found_by place) (words place) in
-              all_both (λ (p : Point). passing p ≡ true) (points_read (found_by place) point update.left_x) (index_points (found_by place) point update.left_y)
+              let held = parts_held (found_by func_index) (words func_index) in
+              all_both (λ (p : Point). passing p ≡ true) (points_read (found_by func_index) point update.left_x) (index_points (found_by func_index) point update.left_y)
               (text_passes point has update.left_x formed.left_x
               (λ other c. calling at update update_is other (or_left (calls other update.left_x || second_calls other update.left_y) (calls other update.right)
               (or_left (calls other update.left_x) (second_calls other update.left_y) c)))
@@ -432,47 +437,47 @@ module _ (pipeline : Pipeline) (schedule : Schedule) (boxes : Boxes) (rules : Is
               (index_passes update.left_y refl formed.left_y held.1.0)
 
           abbrev plane : ℕ → ℕ → ℕ
-          plane = after place update inputs (pixels pipeline.funcs inputs place) (stage place func inputs (pixels pipeline.funcs inputs place) at) number
+          plane = after func_index update inputs (pixels pipeline.funcs inputs func_index) (stage func_index func inputs (pixels pipeline.funcs inputs func_index) at) number
 
           abbrev standing_reads : Reads
-          standing_reads = reads_of inputs (with_plane place plane (pixels pipeline.funcs inputs place))
+          standing_reads = reads_of inputs (with_plane func_index plane (pixels pipeline.funcs inputs func_index))
 
           plane_words : (a b : ℕ) → a < 2 ^ 32 → b < 2 ^ 32 → plane a b < 2 ^ 32
-          plane_words a b la lb = stages_are_words pipeline.inputs pipeline.funcs inputs rules.funcs place func func_is (words place) at update update_is number
+          plane_words a b la lb = stages_are_words pipeline.inputs pipeline.funcs inputs rules.funcs func_index func func_is (words func_index) at update update_is number
               a b la lb
 
           all_words : AnswerWords pipeline.inputs standing_reads
-          all_words = with_words pipeline.inputs pipeline.funcs rules.funcs inputs place plane (pixels pipeline.funcs inputs place) plane_words (words place)
+          all_words = with_words pipeline.inputs pipeline.funcs rules.funcs inputs func_index plane (pixels pipeline.funcs inputs func_index) plane_words (words func_index)
 
-          answers : (s : Source) (n a b : ℕ) → is_computed (put pipeline schedule) s ≡ true → is_read pipeline.inputs pipeline.funcs place s n ≡ true
-              → standing_reads s a b ≡ found_by place s a b
+          answers : (s : Source) (n a b : ℕ) → is_computed (put pipeline schedule) s ≡ true → is_read pipeline.inputs pipeline.funcs func_index s n ≡ true
+              → standing_reads s a b ≡ found_by func_index s a b
           answers (sources.Input other) n a b computed read = refl
           answers (sources.Func other) n a b computed read =
-              let before : other < place = ltb-true other place (and_parts (nat_lt other place) (is_func_of (slice_get pipeline.funcs other) n) read).0 in
-              let differs : (other == place) ≡ false = ne_eqb other place (λ (e : other ≡ place). omega (arith, e, before)) in
-              ap (λ (b' : Bool). cond b' plane (pixels pipeline.funcs inputs place other) a b) differs
+              let before : other < func_index = ltb-true other func_index (and_parts (nat_lt other func_index) (is_func_of (slice_get pipeline.funcs other) n) read).0 in
+              let differs : (other == func_index) ≡ false = ne_eqb other func_index (λ (e : other ≡ func_index). omega (arith, e, before)) in
+              ap (λ (b' : Bool). cond b' plane (pixels pipeline.funcs inputs func_index other) a b) differs
 
-          own_answers : (a b : ℕ) → standing_reads (sources.Func place) a b ≡ plane a b
-          own_answers a b = ap (λ (t : Bool). cond t plane (pixels pipeline.funcs inputs place place) a b) (eq-eqb place place refl)
+          own_answers : (a b : ℕ) → standing_reads (sources.Func func_index) a b ≡ plane a b
+          own_answers a b = ap (λ (t : Bool). cond t plane (pixels pipeline.funcs inputs func_index func_index) a b) (eq-eqb func_index func_index refl)
 
-          reaching_right : (other : ℕ) → other < suc place → calls other update.right ≡ true → reached pipeline schedule other ≡ true
-          reaching_right other below c = elim (cases_lt other place) [
+          reaching_right : (other : ℕ) → other < suc func_index → calls other update.right ≡ true → reached pipeline schedule other ≡ true
+          reaching_right other below c = elim (cases_lt other func_index) [
             | inl l ↦
-                reaching pipeline schedule rules accepted (found_by place) place reached_here update.right
+                reaching pipeline schedule rules accepted (found_by func_index) func_index reached_here update.right
                 (λ o e. calling at update update_is o (or_right (calls o update.left_x || second_calls o update.left_y) (calls o update.right) e)) other l c
-            | inr l ↦ let same : other ≡ place = omega (arith, l, below) in ap (reached pipeline schedule) same ∙ reached_here
+            | inr l ↦ let same : other ≡ func_index = omega (arith, l, below) in ap (reached pipeline schedule) same ∙ reached_here
           ]
 
           right_passes : Hold passing (points_read standing_reads point update.right)
           unfolding has
           right_passes =
               seen_points_pass_in_updates test standing_reads (put pipeline schedule) pipeline.inputs pipeline.funcs inputs rules.funcs
-              (put_simple pipeline schedule accepted) place plane plain answers own_answers has point update.right formed.right
-              (subst (λ s. Hold test s.points) (same_seen pipeline schedule rules accepted standing_reads (suc place) point has update.right formed.right
+              (put_simple pipeline schedule accepted) func_index plane plain answers own_answers has point update.right formed.right
+              (subst (λ s. Hold test s.points) (same_seen pipeline schedule rules accepted standing_reads (suc func_index) point has update.right formed.right
               reaching_right) (parts_held standing_reads all_words).1.1)
               (length pipeline.funcs) few
 
-      pub reads_hold : ReadsHold passing place func inputs (pixels pipeline.funcs inputs place)
+      pub reads_hold : ReadsHold passing func_index func inputs (pixels pipeline.funcs inputs func_index)
       reads_hold = record {
         pure = λ x y passed. pure_passes x y passed;
         left = λ at update update_is number x y inside passed. left_passes x y passed at update update_is number inside;
@@ -481,101 +486,102 @@ module _ (pipeline : Pipeline) (schedule : Schedule) (boxes : Boxes) (rules : Is
 
     -- ---- all reads, one by one
 
-    closed : (place x y : ℕ) → passing (point_at (sources.Func place) x y) ≡ true → Hold passing (direct_trace pipeline.funcs inputs place x y)
-    closed place x y passed = by_func (slice_get pipeline.funcs place) refl
+    closed : (func_index x y : ℕ) → passing (point_at (sources.Func func_index) x y) ≡ true → Hold passing (direct_trace pipeline.funcs inputs func_index x y)
+    closed func_index x y passed = by_func (slice_get pipeline.funcs func_index) refl
       where
-        by_flag : (func : Func) → slice_get pipeline.funcs place ≡ Some func → (flag : Bool) → put pipeline schedule place ≡ flag
-            → Hold passing (direct_trace pipeline.funcs inputs place x y)
+        by_flag : (func : Func) → slice_get pipeline.funcs func_index ≡ Some func → (flag : Bool) → put pipeline schedule func_index ≡ flag
+            → Hold passing (direct_trace pipeline.funcs inputs func_index x y)
         by_flag func func_is true f =
             passing_is_closed test (put pipeline schedule) pipeline.inputs pipeline.funcs inputs rules.funcs (put_simple pipeline schedule accepted)
-            (length pipeline.funcs) place x y (below_length func func_is) f passed
+            (length pipeline.funcs) func_index x y (below_length func func_is) f passed
           where
-            below_length : (g : Func) → slice_get pipeline.funcs place ≡ Some g → place < length pipeline.funcs
-            below_length g found = elim (cases_lt place (length pipeline.funcs)) [
+            below_length : (g : Func) → slice_get pipeline.funcs func_index ≡ Some g
+                → func_index < length pipeline.funcs
+            below_length g found = elim (cases_lt func_index (length pipeline.funcs)) [
               | inl l ↦ l
-              | inr l ↦ let none = slice_get_past pipeline.funcs place l in absurd cc
+              | inr l ↦ let none = slice_get_past pipeline.funcs func_index l in absurd cc
             ]
-        by_flag func func_is false f = definitions_hold_reads passing pipeline.funcs inputs place func func_is (reads_hold place func func_is f) x y passed
+        by_flag func func_is false f = definitions_hold_reads passing pipeline.funcs inputs func_index func func_is (reads_hold func_index func func_is f) x y passed
 
-        by_func : (func : Option Func) → slice_get pipeline.funcs place ≡ func → Hold passing (direct_trace pipeline.funcs inputs place x y)
+        by_func : (func : Option Func) → slice_get pipeline.funcs func_index ≡ func → Hold passing (direct_trace pipeline.funcs inputs func_index x y)
         by_func None e = rw e tt
-        by_func (Some func) e = by_flag func e (put pipeline schedule place) refl
+        by_func (Some func) e = by_flag func e (put pipeline schedule func_index) refl
 
     -- what passes is held
     held_of : (point : Point) → passing point ≡ true → test point ≡ true
     held_of point passed = by_source point.source refl
       where
-        by_flag : (place : ℕ) → point.source ≡ sources.Func place → (flag : Bool) → put pipeline schedule place ≡ flag → test point ≡ true
-        by_flag place e true f = ap (λ (s : Source). held_at pipeline schedule boxes s point.x point.y) e
-            ∙ or_left (put pipeline schedule place) (is_boxed (slice_get boxes.funcs place) point.x point.y) f
-        by_flag place e false f =
+        by_flag : (func_index : ℕ) → point.source ≡ sources.Func func_index → (flag : Bool) → put pipeline schedule func_index ≡ flag → test point ≡ true
+        by_flag func_index e true f = ap (λ (s : Source). held_at pipeline schedule boxes s point.x point.y) e
+            ∙ or_left (put pipeline schedule func_index) (is_boxed (slice_get boxes.funcs func_index) point.x point.y) f
+        by_flag func_index e false f =
             sym (passes_tested test (put pipeline schedule) pipeline.funcs inputs (length pipeline.funcs) point.source point.x point.y
             (ap (is_computed (put pipeline schedule)) e ∙ ap not f)) ∙ passed
 
         by_source : (s : Source) → point.source ≡ s → test point ≡ true
-        by_source (sources.Input place) e =
+        by_source (sources.Input func_index) e =
             sym (passes_tested test (put pipeline schedule) pipeline.funcs inputs (length pipeline.funcs) point.source point.x point.y
             (ap (is_computed (put pipeline schedule)) e)) ∙ passed
-        by_source (sources.Func place) e = by_flag place e (put pipeline schedule place) refl
+        by_source (sources.Func func_index) e = by_flag func_index e (put pipeline schedule func_index) refl
 
     all_of : (points : List Point) → Hold passing points → Hold test points
     all_of [] held = tt
     all_of (point ∷ others) held = (held_of point held.0, all_of others held.1)
 
     module _ (x y : ℕ) (inside_x : x < pipeline.output.width) (inside_y : y < pipeline.output.height) where
-      abbrev place : ℕ
-      place = pipeline.output.func
+      abbrev func_index : ℕ
+      func_index = pipeline.output.func
 
       drawn_func : (own : Option Func) (n : ℕ) → is_func_of own n ≡ true → IsSome own
       drawn_func None n e = absurd cc
       drawn_func (Some own) n e = record { value = own; is = refl }
 
-      drawn : IsSome (slice_get pipeline.funcs place)
-      drawn = drawn_func (slice_get pipeline.funcs place) pipeline.output.dimensions rules.drawn
+      drawn : IsSome (slice_get pipeline.funcs func_index)
+      drawn = drawn_func (slice_get pipeline.funcs func_index) pipeline.output.dimensions rules.drawn
 
       all_standings : schedule.standings ≡ standings_from pipeline schedule.funcs 0 schedule.funcs
       unfolding standing.standings
       all_standings = accepted.standings
 
-      own_standing : IsSome (slice_get schedule.standings place)
+      own_standing : IsSome (slice_get schedule.standings func_index)
       own_standing =
-          let plan = pair_there IsPlan pipeline.funcs schedule.funcs place drawn.value accepted.plans drawn.is in
-          subst (λ (l : List FuncPlacement). IsSome (slice_get l place)) (sym all_standings) (standing_some pipeline schedule.funcs 0 schedule.funcs place plan.value
+          let plan = pair_there IsPlan pipeline.funcs schedule.funcs func_index drawn.value accepted.plans drawn.is in
+          subst (λ (l : List FuncPlacement). IsSome (slice_get l func_index)) (sym all_standings) (standing_some pipeline schedule.funcs 0 schedule.funcs func_index plan.value
           plan.is)
 
       known : (own_standing.value.is_reached ≡ true) × (own_standing.value.place ≡ places.Root)
-      known = output_standing pipeline schedule.funcs own_standing.value (ap (λ (l : List FuncPlacement). slice_get l place) (sym all_standings) ∙ own_standing.is)
+      known = output_standing pipeline schedule.funcs own_standing.value (ap (λ (l : List FuncPlacement). slice_get l func_index) (sym all_standings) ∙ own_standing.is)
 
-      entry_by : (answer : Option (Option SourceBox)) → slice_get boxes.funcs place ≡ answer → IsBoxed no_loops answer x y → IsSome answer
+      entry_by : (answer : Option (Option SourceBox)) → slice_get boxes.funcs func_index ≡ answer → IsBoxed no_loops answer x y → IsSome answer
           → is_boxed answer x y ≡ true
       entry_by answer e boxed some =
           boxed_true no_loops answer x y some boxed
           (λ own f.
-          let theirs = has_box pipeline schedule boxes accepted is place own (e ∙ f) in
+          let theirs = has_box pipeline schedule boxes accepted is func_index own (e ∙ f) in
           let same_standing : theirs.standing ≡ own_standing.value = let p = theirs.there.standing in let q = own_standing.is in cc in
           let lasts : own.lasts ≡ no_loops = theirs.lasts ∙ ap (λ (t : FuncPlacement). lasts_of (consumer_in schedule boxes.funcs t.place)) same_standing
           ∙ ap (λ (p : ComputeLevel). lasts_of (consumer_in schedule boxes.funcs p)) known.1 in
           subst (λ (l : List ℕ). Below no_loops l) (sym lasts) no_below)
 
-      output_held : test (point_at (sources.Func place) x y) ≡ true
+      output_held : test (point_at (sources.Func func_index) x y) ≡ true
       output_held =
-          or_right (put pipeline schedule place) (is_boxed (slice_get boxes.funcs place) x y)
-          (entry_by (slice_get boxes.funcs place) refl (output_lies pipeline schedule boxes rules is own_standing.value own_standing.is known.0 known.1 x y
+          or_right (put pipeline schedule func_index) (is_boxed (slice_get boxes.funcs func_index) x y)
+          (entry_by (slice_get boxes.funcs func_index) refl (output_lies pipeline schedule boxes rules is own_standing.value own_standing.is known.0 known.1 x y
           inside_x inside_y)
-          (boxes_some pipeline schedule boxes is place drawn.value drawn.is))
+          (boxes_some pipeline schedule boxes is func_index drawn.value drawn.is))
 
-      plain_output : put pipeline schedule place ≡ false
+      plain_output : put pipeline schedule func_index ≡ false
       plain_output = ap is_put_in own_standing.is ∙ (ap (λ (b : Bool). b && is_inlined own_standing.value.place) known.0 ∙ ap is_inlined known.1)
 
-      output_passes : passing (point_at (sources.Func place) x y) ≡ true
-      output_passes = passes_tested test (put pipeline schedule) pipeline.funcs inputs (length pipeline.funcs) (sources.Func place) x y (ap not plain_output)
+      output_passes : passing (point_at (sources.Func func_index) x y) ≡ true
+      output_passes = passes_tested test (put pipeline schedule) pipeline.funcs inputs (length pipeline.funcs) (sources.Func func_index) x y (ap not plain_output)
           ∙ output_held
 
-      pub all_reads : Hold test (point_at (sources.Func place) x y ∷ pixel_trace pipeline.funcs inputs (length pipeline.funcs) place x y)
+      pub all_reads : Hold test (point_at (sources.Func func_index) x y ∷ pixel_trace pipeline.funcs inputs (length pipeline.funcs) func_index x y)
       all_reads = (
         output_held,
-        all_of (pixel_trace pipeline.funcs inputs (length pipeline.funcs) place x y) (closed_points_hold_reads pipeline.funcs inputs passing closed
-            (length pipeline.funcs) place x y output_passes),
+        all_of (pixel_trace pipeline.funcs inputs (length pipeline.funcs) func_index x y) (closed_points_hold_reads pipeline.funcs inputs passing closed
+            (length pipeline.funcs) func_index x y output_passes),
       )
 
 pub all_reads_are_held : AllReadsAreHeld

@@ -45,25 +45,26 @@ below_at at n l = grind (arith, l)
 above_at : (at n : ℕ) → n ≤ at → nat_lt at n ≡ false
 above_at at n l = grind (arith, l)
 
--- ---- sums over loops but the first so many
+-- ---- sums over loops but the first this many
 
 module _ (splits : List Split) (variable : Variable) (iterations : Values) where
   value : Loop → ℕ
-  value own = cond (same_variable own.variable variable) (strides splits own.id * iterations own.id) 0
+  value stage_loop = cond (same_variable stage_loop.variable variable)
+      (strides splits stage_loop.id * iterations stage_loop.id) 0
 
   masked : ℕ → ℕ → List Loop → ℕ
   masked n at [] = 0
-  masked n at (own ∷ others) = cond (nat_lt at n) 0 (value own) + masked n (at + 1) others
+  masked n at (stage_loop ∷ others) = cond (nat_lt at n) 0 (value stage_loop) + masked n (at + 1) others
 
   behind : (n at : ℕ) (loops : List Loop) → n ≤ at → masked n at loops ≡ base splits variable iterations loops
   unfolding value masked
   behind n at [] l = refl
-  behind n at (own ∷ others) l = rw (above_at at n l, behind n (at + 1) others (omega (arith, l))) refl
+  behind n at (stage_loop ∷ others) l = rw (above_at at n l, behind n (at + 1) others (omega (arith, l))) refl
 
   masked_is : (n at : ℕ) (inside outside : List Loop) → n ≡ at + length inside → masked n at (inside ++ outside) ≡ base splits variable iterations outside
   unfolding value masked
   masked_is n at [] outside e = behind n at outside (omega (arith, e))
-  masked_is n at (own ∷ inside) outside e =
+  masked_is n at (stage_loop ∷ inside) outside e =
       let l : nat_lt at n ≡ true = below_at at n (omega (arith, e)) in
       rw l (omega (arith, masked_is n (at + 1) inside outside (omega (arith, e))))
 
@@ -72,11 +73,12 @@ module _ (splits : List Split) (variable : Variable) (iterations : Values) where
   term_same true stride iteration = refl
   term_same false stride iteration = omega arith
 
-  term_at : (first : Bool) (own : Loop) → (cond first zero_multiple (multiple_of splits variable (Some own))).more * cond first 0 (iterations own.id)
-      ≡ cond first 0 (value own)
+  term_at : (first : Bool) (stage_loop : Loop) → (cond first zero_multiple (multiple_of splits variable (Some stage_loop))).more * cond first 0 (iterations stage_loop.id)
+      ≡ cond first 0 (value stage_loop)
   unfolding value
-  term_at true own = omega arith
-  term_at false own = term_same (same_variable own.variable variable) (strides splits own.id) (iterations own.id)
+  term_at true stage_loop = omega arith
+  term_at false stage_loop = term_same (same_variable stage_loop.variable variable) (strides splits stage_loop.id)
+      (iterations stage_loop.id)
 
   none_at : (first : Bool) → (cond first zero_multiple (multiple_of splits variable None)).more * cond first 0 (iteration_of iterations None) ≡ 0
   none_at true = omega arith
@@ -86,10 +88,12 @@ module _ (splits : List Split) (variable : Variable) (iterations : Values) where
   less_same true stride = refl
   less_same false stride = refl
 
-  less_at : (first : Bool) (own : Option Loop) → (cond first zero_multiple (multiple_of splits variable own)).less ≡ 0
-  less_at true own = refl
+  less_at : (first : Bool) (stage_loop : Option Loop) → (cond first zero_multiple
+      (multiple_of splits variable stage_loop)).less ≡ 0
+  less_at true stage_loop = refl
   less_at false None = refl
-  less_at false (Some own) = less_same (same_variable own.variable variable) (strides splits own.id)
+  less_at false (Some stage_loop) = less_same (same_variable stage_loop.variable variable)
+      (strides splits stage_loop.id)
 
   -- the sum over all five places
   more_is : (n : ℕ) (loops : List Loop) → length loops ≤ 5
@@ -141,28 +145,30 @@ module _ (extents : Extents) (splits : List Split) (iterations : Values) where
   few_none false = omega arith
 
   iterations_at : (inside outside : List Loop) → AreIterations (counts extents splits) outside iterations
-      → (at : ℕ) → length inside ≤ at → (own : Loop) → slice_get (inside ++ outside) at ≡ Some own → iterations own.id < counts extents splits own.id
-  iterations_at [] [] are zero l own e = absurd cc
-  iterations_at [] [] are (suc at) l own e = absurd cc
-  iterations_at [] (first ∷ others) are zero l own e = subst (λ (o : Loop). iterations o.id < counts extents splits o.id) (it first own e) are.0
+      → (at : ℕ) → length inside ≤ at → (stage_loop : Loop) → slice_get (inside ++ outside) at ≡ Some stage_loop → iterations stage_loop.id < counts extents splits stage_loop.id
+  iterations_at [] [] are zero l stage_loop e = absurd cc
+  iterations_at [] [] are (suc at) l stage_loop e = absurd cc
+  iterations_at [] (first ∷ others) are zero l stage_loop e = subst (λ (o : Loop). iterations o.id < counts extents splits o.id) (it first stage_loop e) are.0
     where
       it : (a b : Loop) → Some a ≡ Some b → a ≡ b
       it a b e = cc
-  iterations_at [] (first ∷ others) are (suc at) l own e = iterations_at [] others are.1 at (omega arith) own e
-  iterations_at (first ∷ inside) outside are zero l own e = absurd (omega (arith, l))
-  iterations_at (first ∷ inside) outside are (suc at) l own e = iterations_at inside outside are at (omega (arith, l)) own e
+  iterations_at [] (first ∷ others) are (suc at) l stage_loop e = iterations_at [] others are.1 at (omega arith)
+      stage_loop e
+  iterations_at (first ∷ inside) outside are zero l stage_loop e = absurd (omega (arith, l))
+  iterations_at (first ∷ inside) outside are (suc at) l stage_loop e = iterations_at inside outside are at (omega (arith, l)) stage_loop e
 
-  iteration_below : (n : ℕ) (loops : List Loop) → ((at : ℕ) → n ≤ at → (own : Loop) → slice_get loops at ≡ Some own → iterations own.id < counts extents splits own.id)
-      → (at : ℕ) (test : Bool) → nat_lt at n ≡ test → (found : Option Loop) → slice_get loops at ≡ found
-      → cond test 0 (iteration_of iterations found) ≤ last_of extents splits found
+  iteration_below : (n : ℕ) (loops : List Loop) → ((at : ℕ) → n ≤ at → (stage_loop : Loop) → slice_get loops at ≡ Some stage_loop → iterations stage_loop.id < counts extents splits stage_loop.id)
+      → (at : ℕ) (test : Bool) → nat_lt at n ≡ test → (marked_loop : Option Loop) → slice_get loops at ≡ marked_loop
+      → cond test 0 (iteration_of iterations marked_loop) ≤ last_of extents splits marked_loop
   iteration_below n loops are at test t None e = few_none test
-  iteration_below n loops are at test t (Some own) e = few_first test (iterations own.id) (counts extents splits own.id) (λ f. are at (ltb-false at n (t ∙ f)) own e)
+  iteration_below n loops are at test t (Some stage_loop) e = few_first test (iterations stage_loop.id) (counts extents splits stage_loop.id) (λ f. are at (ltb-false at n (t ∙ f)) stage_loop e)
 
   pub iterations_below : (inside outside loops : List Loop) → loops ≡ inside ++ outside → AreIterations (counts extents splits) outside iterations
       → Below (iterations_from (length inside) iterations loops) (lasts_in extents splits loops)
   iterations_below inside outside loops is are =
-      let all : (at : ℕ) → length inside ≤ at → (own : Loop) → slice_get loops at ≡ Some own → iterations own.id < counts extents splits own.id =
-      λ at l own e. iterations_at inside outside are at l own (ap (λ (ls : List Loop). slice_get ls at) (sym is) ∙ e) in
+      let all : (at : ℕ) → length inside ≤ at → (stage_loop : Loop) → slice_get loops at ≡ Some stage_loop → iterations stage_loop.id < counts extents splits stage_loop.id =
+      λ at l stage_loop e. iterations_at inside outside are at l stage_loop
+      (ap (λ (ls : List Loop). slice_get ls at) (sym is) ∙ e) in
       let one : (at : ℕ) → iteration_at (length inside) iterations loops at ≤ last_at extents splits loops at =
       λ at. iteration_below (length inside) loops all at (nat_lt at (length inside)) refl (slice_get loops at) refl in
       (one 0, (one 1, (one 2, (one 3, (one 4, tt)))))
@@ -170,7 +176,7 @@ module _ (extents : Extents) (splits : List Split) (iterations : Values) where
 -- ---- a variable that no loop is over
 
 over : Variable → Loop → ℕ
-over variable own = cond (same_variable own.variable variable) 1 0
+over variable stage_loop = cond (same_variable stage_loop.variable variable) 1 0
 
 none_first : (variable : Variable) (start : List Loop) → has_variable variable start ≡ false → total (over variable) start ≡ 0
 unfolding over

@@ -33,11 +33,11 @@ taken_fits consumer lasts range = taken_by consumer lasts range (nat_le range.lo
 
 -- ---- what is joined keeps to the words
 
-joined_fits : (lasts : List ℕ) (counts : Bool) (own : Option Range) (range : Range) → IsFitOrNone lasts own → IsFit lasts range
-    → IsFitOrNone lasts (joined lasts counts own range)
-joined_fits lasts false own range fits other = fits
+joined_fits : (lasts : List ℕ) (counts : Bool) (own_range : Option Range) (range : Range) → IsFitOrNone lasts own_range → IsFit lasts range
+    → IsFitOrNone lasts (joined lasts counts own_range range)
+joined_fits lasts false own_range range fits other = fits
 joined_fits lasts true None range fits other = other
-joined_fits lasts true (Some own) range fits other = hull_fits lasts own range fits other
+joined_fits lasts true (Some own_range) range fits other = hull_fits lasts own_range range fits other
 
 pub read_fits : (consumer : Option ConsumerLoop) (lasts : List ℕ) (first second : Bool) (spread : Spread) (read : ReadRange) → IsSpread (lasts_of consumer) spread
     → IsSpread (lasts_of consumer) (with_read consumer lasts first second spread read)
@@ -71,16 +71,18 @@ pub record InSpread (lasts values : List ℕ) (spread : Spread) (x y : ℕ) : Ty
   pub first : IsIn lasts values spread.x x
   pub second : IsIn lasts values spread.y y
 
-pub joined_keeps : (lasts values : List ℕ) → Below values lasts → (counts : Bool) (own : Option Range) (range : Range) (x : ℕ) → IsIn lasts values own x
-    → IsIn lasts values (joined lasts counts own range) x
-joined_keeps lasts values below false own range x lies = lies
+pub joined_keeps : (lasts values : List ℕ) → Below values lasts → (counts : Bool) (own_range : Option Range) (range : Range) (x : ℕ) → IsIn lasts values own_range x
+    → IsIn lasts values (joined lasts counts own_range range) x
+joined_keeps lasts values below false own_range range x lies = lies
 joined_keeps lasts values below true None range x lies = absurd lies
-joined_keeps lasts values below true (Some own) range x lies = hull_first lasts values below own range x lies
+joined_keeps lasts values below true (Some own_range) range x lies = hull_first lasts values below own_range range x
+    lies
 
-pub joined_takes : (lasts values : List ℕ) → Below values lasts → (own : Option Range) (range : Range) (x : ℕ) → IsFitOrNone lasts own
-    → Lies lasts values range x → IsIn lasts values (joined lasts true own range) x
+pub joined_takes : (lasts values : List ℕ) → Below values lasts → (own_range : Option Range) (range : Range) (x : ℕ) → IsFitOrNone lasts own_range
+    → Lies lasts values range x → IsIn lasts values (joined lasts true own_range range) x
 joined_takes lasts values below None range x fits lies = lies
-joined_takes lasts values below (Some own) range x fits lies = hull_second lasts values below own range x fits lies
+joined_takes lasts values below (Some own_range) range x fits lies = hull_second lasts values below own_range range x
+    fits lies
 
 -- a list of points, of which those of the source lie there
 abbrev pub HoldsAll : List ℕ → List ℕ → Source → Spread → List Point → Type 0

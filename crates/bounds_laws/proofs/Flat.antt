@@ -76,8 +76,8 @@ together_flat lasts = fit_flat lasts
 
 module _ (pipeline : Pipeline) where
   abbrev pub is_one : Source → Bool
-  is_one (sources.Input place) = is_input_of (slice_get pipeline.inputs place) 1
-  is_one (sources.Func place) = is_func_of (slice_get pipeline.funcs place) 1
+  is_one (sources.Input func_index) = is_input_of (slice_get pipeline.inputs func_index) 1
+  is_one (sources.Func func_index) = is_func_of (slice_get pipeline.funcs func_index) 1
 
   one_input : (own : Option Input) → is_input_of own 1 ≡ true → is_input_of own 2 ≡ true → ⊥
   one_input None e f = cc
@@ -88,9 +88,10 @@ module _ (pipeline : Pipeline) where
   one_func (Some own) e f = let a = eqb-true (dimensions own) 1 e in let b = eqb-true (dimensions own) 2 f in omega (arith, a, b)
 
   not_two : (count : ℕ) (s : Source) → is_read pipeline.inputs pipeline.funcs count s 2 ≡ true → is_one s ≡ true → ⊥
-  not_two count (sources.Input place) e f = one_input (slice_get pipeline.inputs place) f e
-  not_two count (sources.Func place) e f = one_func (slice_get pipeline.funcs place) f (and_parts (nat_lt place count)
-      (is_func_of (slice_get pipeline.funcs place) 2) e).1
+  not_two count (sources.Input func_index) e f = one_input (slice_get pipeline.inputs func_index) f e
+  not_two count (sources.Func func_index) e f = one_func (slice_get pipeline.funcs func_index) f
+      (and_parts (nat_lt func_index count)
+      (is_func_of (slice_get pipeline.funcs func_index) 2) e).1
 
   -- what is asked of such a source is asked of its row
   abbrev pub IsFlat : ReadRange → Type 0
@@ -112,16 +113,16 @@ module _ (pipeline : Pipeline) where
         → keeps (is_read pipeline.inputs pipeline.funcs count) has e ≡ true
         → AreFlat (through (ranging lasts pipeline.inputs) (within count) vars e).asked
 
-    made_flat : (place : ℕ) → Claim place → (found : Option Func) → slice_get pipeline.funcs place ≡ found → (n : ℕ) → is_func_of found n ≡ true
+    made_flat : (func_index : ℕ) → Claim func_index → (found_func : Option Func) → slice_get pipeline.funcs func_index ≡ found_func → (n : ℕ) → is_func_of found_func n ≡ true
         → (a x : Ranged) (y : Option Ranged) → AreFlat x.asked → AreFlat (second_asked y)
-        → AreFlat (answered a x y (made_in (ranging lasts pipeline.inputs) (within place) found)).asked
+        → AreFlat (answered a x y (made_in (ranging lasts pipeline.inputs) (within func_index) found_func)).asked
     unfolding ranging
-    made_flat place claim None is n some a x y fx fy = absurd cc
-    made_flat place claim (Some func) is n some a x y fx fy =
+    made_flat func_index claim None is n some a x y fx fy = absurd cc
+    made_flat func_index claim (Some func) is n some a x y fx fy =
         let vars = arguments (none (ranging lasts pipeline.inputs)) (unasked x.range) (unasked (second_of (none (ranging lasts pipeline.inputs)) y).range) in
-        let v = through (ranging lasts pipeline.inputs) (within place) vars func.pure in
+        let v = through (ranging lasts pipeline.inputs) (within func_index) vars func.pure in
         both_flat x.asked (second_asked y ++ v.asked) fx
-        (both_flat (second_asked y) v.asked fy (claim vars nothing (is_argument (dimensions func)) func.pure (rules.funcs place func is).pure))
+        (both_flat (second_asked y) v.asked fy (claim vars nothing (is_argument (dimensions func)) func.pure (rules.funcs func_index func is).pure))
       where
         nothing : (v : Variable) → AreFlat (arguments (none (ranging lasts pipeline.inputs)) (unasked x.range)
             (unasked (second_of (none (ranging lasts pipeline.inputs)) y).range) v).asked
@@ -130,24 +131,27 @@ module _ (pipeline : Pipeline) where
         nothing variables.FirstReduction = tt
         nothing variables.SecondReduction = tt
 
-    module _ (count : ℕ) (claims : (place : ℕ) → place < count → Claim place) where
+    module _ (count : ℕ) (claims : (func_index : ℕ) → func_index < count → Claim func_index) where
       answered_flat : (s : Source) (n : ℕ) → is_read pipeline.inputs pipeline.funcs count s n ≡ true → (a x : Ranged) (y : Option Ranged) → AreFlat a.asked
           → AreFlat x.asked → AreFlat (second_asked y)
           → AreFlat (answered a x y (answer (within count) s)).asked
-      answered_flat (sources.Input place) n read a x y fa fx fy = fa
-      answered_flat (sources.Func place) n read a x y fa fx fy = by_flag (flagged flags place) refl
+      answered_flat (sources.Input func_index) n read a x y fa fx fy = fa
+      answered_flat (sources.Func func_index) n read a x y fa fx fy = by_flag (flagged flags func_index) refl
         where
-          parts : (nat_lt place count ≡ true) × (is_func_of (slice_get pipeline.funcs place) n ≡ true)
-          parts = and_parts (nat_lt place count) (is_func_of (slice_get pipeline.funcs place) n) read
+          parts : (nat_lt func_index count ≡ true) × (is_func_of (slice_get pipeline.funcs func_index) n ≡ true)
+          parts = and_parts (nat_lt func_index count) (is_func_of (slice_get pipeline.funcs func_index) n) read
 
-          before : place < count
-          before = ltb-true place count parts.0
+          before : func_index < count
+          before = ltb-true func_index count parts.0
 
-          by_flag : (flag : Bool) → flagged flags place ≡ flag → AreFlat (answered a x y (within count place)).asked
-          by_flag false f = rw (inside_computed (ranging lasts pipeline.inputs) (flagged flags) pipeline.funcs count place f) fa
+          by_flag : (flag : Bool) → flagged flags func_index ≡ flag → AreFlat
+              (answered a x y (within count func_index)).asked
+          by_flag false f = rw (inside_computed (ranging lasts pipeline.inputs) (flagged flags) pipeline.funcs count func_index f) fa
           by_flag true f =
-              rw (inside_before (ranging lasts pipeline.inputs) (flagged flags) pipeline.funcs count place before f)
-              (made_flat place (claims place before) (slice_get pipeline.funcs place) refl n parts.1 a x y fx fy)
+              rw (inside_before (ranging lasts pipeline.inputs) (flagged flags) pipeline.funcs count func_index before
+              f)
+              (made_flat func_index (claims func_index before) (slice_get pipeline.funcs func_index) refl n parts.1 a x
+              y fx fy)
 
       abbrev Flat : Ranged → Unit {0} → Type 0
       Flat r u = AreFlat r.asked
@@ -175,12 +179,12 @@ module _ (pipeline : Pipeline) where
         claimed e kept = kept_folds_related Flat (is_read pipeline.inputs pipeline.funcs count) has (through_at (ranging lasts pipeline.inputs) (within count)
             vars) (λ level. tt) flat_levels e kept
 
-    claims_below : (most place : ℕ) → place < most → Claim place
-    claims_below zero place below = absurd (omega (arith, below))
-    claims_below (suc most) place below = claimed place (λ other before. claims_below most other (omega (arith, before, below)))
+    claims_below : (most func_index : ℕ) → func_index < most → Claim func_index
+    claims_below zero func_index below = absurd (omega (arith, below))
+    claims_below (suc most) func_index below = claimed func_index (λ other before. claims_below most other (omega (arith, before, below)))
 
-    pub all_claims : (count : ℕ) (place : ℕ) → place < count → Claim place
-    all_claims count place before = claims_below count place before
+    pub all_claims : (count : ℕ) (func_index : ℕ) → func_index < count → Claim func_index
+    all_claims count func_index before = claims_below count func_index before
 
     pub claim_at : (count : ℕ) → Claim count
     claim_at count = claims_below (suc count) count (omega arith)
@@ -221,66 +225,66 @@ module _ (pipeline : Pipeline) where
 
   -- ---- a Func
 
-  module _ (rules : IsWellFormed pipeline) (flags : List Bool) (place : ℕ) (func : Func) (func_is : slice_get pipeline.funcs place ≡ Some func)
+  module _ (rules : IsWellFormed pipeline) (flags : List Bool) (func_index : ℕ) (func : Func) (func_is : slice_get pipeline.funcs func_index ≡ Some func)
       (view : SourceBox) where
     one_update : (at : ℕ) (update : Update) → slice_get func.updates at ≡ Some update
-        → AreFlat (update_asked pipeline.inputs pipeline.funcs flags place view update)
+        → AreFlat (update_asked pipeline.inputs pipeline.funcs flags func_index view update)
     unfolding update_asked left right
     one_update at update is =
-        both_flat (left pipeline.inputs pipeline.funcs flags place view update update.left_x).asked
-        ((second_left pipeline.inputs pipeline.funcs flags place view update update.left_y).asked ++ (left_read pipeline.inputs pipeline.funcs flags place view
-        update ∷ (right pipeline.inputs pipeline.funcs flags place view update).asked))
-        (update_flat rules flags view.lasts place (own_calls place update) (is_update_variable (dimensions func) update.second)
+        both_flat (left pipeline.inputs pipeline.funcs flags func_index view update update.left_x).asked
+        ((second_left pipeline.inputs pipeline.funcs flags func_index view update update.left_y).asked ++ (left_read pipeline.inputs pipeline.funcs flags func_index view
+        update ∷ (right pipeline.inputs pipeline.funcs flags func_index view update).asked))
+        (update_flat rules flags view.lasts func_index (own_calls func_index update) (is_update_variable (dimensions func) update.second)
         (range_of (update_variables view update)) update.left_x formed.left_x true)
-        (both_flat (second_left pipeline.inputs pipeline.funcs flags place view update update.left_y).asked (left_read pipeline.inputs pipeline.funcs flags
-        place view update ∷ (right pipeline.inputs pipeline.funcs flags place view update).asked)
+        (both_flat (second_left pipeline.inputs pipeline.funcs flags func_index view update update.left_y).asked (left_read pipeline.inputs pipeline.funcs flags
+        func_index view update ∷ (right pipeline.inputs pipeline.funcs flags func_index view update).asked)
         (second update.left_y formed.left_y).0 (
           (second update.left_y formed.left_y).1,
-          update_flat rules flags view.lasts (suc place) (own_calls place update) (is_update_variable (dimensions func) update.second)
+          update_flat rules flags view.lasts (suc func_index) (own_calls func_index update) (is_update_variable (dimensions func) update.second)
               (range_of (update_variables view update)) update.right formed.right false,
         ))
       where
-        formed : IsUpdate pipeline.inputs pipeline.funcs place (dimensions func) update
-        formed = (rules.funcs place func func_is).updates at update is
+        formed : IsUpdate pipeline.inputs pipeline.funcs func_index (dimensions func) update
+        formed = (rules.funcs func_index func func_is).updates at update is
 
-        own_one : is_one (sources.Func place) ≡ true → (dimensions func == 1) ≡ true
+        own_one : is_one (sources.Func func_index) ≡ true → (dimensions func == 1) ≡ true
         own_one e = sym (ap (λ (f : Option Func). is_func_of f 1) func_is) ∙ e
 
-        second : (index : Option Expr) → keeps_index (is_read pipeline.inputs pipeline.funcs place) (is_update_variable (dimensions func) update.second)
+        second : (index : Option Expr) → keeps_index (is_read pipeline.inputs pipeline.funcs func_index) (is_update_variable (dimensions func) update.second)
             (dimensions func) index ≡ true
-            → AreFlat (second_left pipeline.inputs pipeline.funcs flags place view update index).asked
-            × (is_one (sources.Func place) ≡ true → (second_left pipeline.inputs pipeline.funcs flags place view update index).range ≡ flat)
+            → AreFlat (second_left pipeline.inputs pipeline.funcs flags func_index view update index).asked
+            × (is_one (sources.Func func_index) ≡ true → (second_left pipeline.inputs pipeline.funcs flags func_index view update index).range ≡ flat)
         second None kept = (tt, λ one. literal_flat view.lasts)
         second (Some index) kept =
-            let k = and_parts (dimensions func == 2) (keeps (is_read pipeline.inputs pipeline.funcs place) (is_update_variable (dimensions func) update.second)
+            let k = and_parts (dimensions func == 2) (keeps (is_read pipeline.inputs pipeline.funcs func_index) (is_update_variable (dimensions func) update.second)
             index) kept in (
-              update_flat rules flags view.lasts place (own_calls place update) (is_update_variable (dimensions func) update.second)
+              update_flat rules flags view.lasts func_index (own_calls func_index update) (is_update_variable (dimensions func) update.second)
                   (range_of (update_variables view update)) index k.1 true,
               λ one. let a = eqb-true (dimensions func) 1 (own_one one) in let b = eqb-true (dimensions func) 2 k.0 in absurd (omega (arith, a, b)),
             )
 
     some_updates : (updates : List Update) (before : ℕ) → ((k : ℕ) → slice_get func.updates (before + k) ≡ slice_get updates k)
-        → AreFlat (updates_asked pipeline.inputs pipeline.funcs flags place view updates)
+        → AreFlat (updates_asked pipeline.inputs pipeline.funcs flags func_index view updates)
     some_updates [] before from = tt
     some_updates (update ∷ others) before from =
         let here : before + 0 ≡ before = omega arith in
         let next : (k : ℕ) → before + 1 + k ≡ before + suc k = λ k. omega arith in
-        both_flat (update_asked pipeline.inputs pipeline.funcs flags place view update) (updates_asked pipeline.inputs pipeline.funcs flags place view others)
+        both_flat (update_asked pipeline.inputs pipeline.funcs flags func_index view update) (updates_asked pipeline.inputs pipeline.funcs flags func_index view others)
         (one_update before update (ap (λ (n : ℕ). slice_get func.updates n) (sym here) ∙ from 0))
         (some_updates others (before + 1) (λ k. ap (λ (n : ℕ). slice_get func.updates n) (next k) ∙ from (suc k)))
 
-    pub func_flat : AreFlat (func_asked pipeline.inputs pipeline.funcs flags place view func)
+    pub func_flat : AreFlat (func_asked pipeline.inputs pipeline.funcs flags func_index view func)
     unfolding func_asked
     func_flat =
         let here : (k : ℕ) → 0 + k ≡ k = λ k. omega arith in
-        both_flat (walked view.lasts pipeline.inputs flags pipeline.funcs place (pure_variables view) func.pure).asked (updates_asked pipeline.inputs
-        pipeline.funcs flags place view func.updates)
-        (claim_at rules flags view.lasts place (unasked_variable (range_of (pure_variables view))) (λ v. tt) (is_argument (dimensions func)) func.pure
-        (rules.funcs place func func_is).pure)
+        both_flat (walked view.lasts pipeline.inputs flags pipeline.funcs func_index (pure_variables view) func.pure).asked (updates_asked pipeline.inputs
+        pipeline.funcs flags func_index view func.updates)
+        (claim_at rules flags view.lasts func_index (unasked_variable (range_of (pure_variables view))) (λ v. tt) (is_argument (dimensions func)) func.pure
+        (rules.funcs func_index func func_is).pure)
         (some_updates func.updates 0 (λ k. ap (λ (n : ℕ). slice_get func.updates n) (here k)))
 
     pub own_flat : (at : ℕ) (update : Update) → slice_get func.updates at ≡ Some update
-        → AreFlat (update_asked pipeline.inputs pipeline.funcs flags place view update)
+        → AreFlat (update_asked pipeline.inputs pipeline.funcs flags func_index view update)
     own_flat at update is = one_update at update is
 
   -- ---- what is gathered
@@ -341,21 +345,21 @@ module _ (pipeline : Pipeline) where
       from_flat at (own ∷ boxes) spread begun = from_flat (at + 1) boxes (read_by_box pipeline schedule flags at own consumer source spread)
           (box_flat at own spread begun)
 
-  module _ (rules : IsWellFormed pipeline) (flags : List Bool) (consumer : Option ConsumerLoop) (place : ℕ) (func : Func) (func_is : slice_get pipeline.funcs
-      place ≡ Some func) (one : is_one (sources.Func place) ≡ true) where
+  module _ (rules : IsWellFormed pipeline) (flags : List Bool) (consumer : Option ConsumerLoop) (func_index : ℕ) (func : Func) (func_is : slice_get pipeline.funcs
+      func_index ≡ Some func) (one : is_one (sources.Func func_index) ≡ true) where
     updates_flat : (updates : List Update) (before : ℕ) → ((k : ℕ) → slice_get func.updates (before + k) ≡ slice_get updates k) → (spread : Spread)
         → IsFlatOrNone spread.y
-        → IsFlatOrNone (own_updates pipeline flags place consumer spread updates).y
+        → IsFlatOrNone (own_updates pipeline flags func_index consumer spread updates).y
     unfolding own_update
     updates_flat [] before from spread begun = begun
     updates_flat (update ∷ others) before from spread begun =
         let here : before + 0 ≡ before = omega arith in
         let next : (k : ℕ) → before + 1 + k ≡ before + suc k = λ k. omega arith in
         updates_flat others (before + 1) (λ k. ap (λ (n : ℕ). slice_get func.updates n) (next k)
-        ∙ from (suc k)) (own_update pipeline flags place consumer spread update)
-        (gathered_flat consumer (sources.Func place) one no_loops (not (is_first_in_place update)) (not (is_second_in_place update)) spread
-        (update_asked pipeline.inputs pipeline.funcs flags place unplaced update)
-        (own_flat rules flags place func func_is unplaced before update (ap (λ (n : ℕ). slice_get func.updates n) (sym here) ∙ from 0)) begun)
+        ∙ from (suc k)) (own_update pipeline flags func_index consumer spread update)
+        (gathered_flat consumer (sources.Func func_index) one no_loops (not (is_first_in_place update)) (not (is_second_in_place update)) spread
+        (update_asked pipeline.inputs pipeline.funcs flags func_index unplaced update)
+        (own_flat rules flags func_index func func_is unplaced before update (ap (λ (n : ℕ). slice_get func.updates n) (sym here) ∙ from 0)) begun)
 
     one_row : (count height : ℕ) → count ≡ 1 → are_dimensions count height ≡ true → height ≡ 1
     one_row count height e are = elim (or_cases (count == 1 && height == 1) (count == 2) are) [
@@ -363,10 +367,10 @@ module _ (pipeline : Pipeline) where
       | inr two ↦ let t = eqb-true count 2 two in absurd (omega (arith, e, t))
     ]
 
-    wanted_by : (test : Bool) → (place == pipeline.output.func) ≡ test → IsFlatOrNone (wanted pipeline.output place consumer).y
+    wanted_by : (test : Bool) → (func_index == pipeline.output.func) ≡ test → IsFlatOrNone (wanted pipeline.output func_index consumer).y
     wanted_by false e = rw e tt
     wanted_by true e =
-        let same = eqb-true place pipeline.output.func e in
+        let same = eqb-true func_index pipeline.output.func e in
         let drawn : is_func_of (Some func) pipeline.output.dimensions ≡ true = ap (λ (f : Option Func). is_func_of f pipeline.output.dimensions)
         (sym (ap (λ (n : ℕ). slice_get pipeline.funcs n) (sym same) ∙ func_is)) ∙ rules.drawn in
         let dims = eqb-true (dimensions func) pipeline.output.dimensions drawn in
@@ -374,16 +378,17 @@ module _ (pipeline : Pipeline) where
         let height = one_row pipeline.output.dimensions pipeline.output.height (sym dims ∙ own) rules.dimensions in
         rw e (ap (λ (n : ℕ). pixels_range (lasts_of consumer) n) height ∙ row_flat (lasts_of consumer))
 
-    pub computed_flat : (schedule : Schedule) (behind : List (Option SourceBox)) (own : SourceBox)
-        → Some own ≡ computed_box pipeline schedule flags place func behind consumer → own.y ≡ flat
-    computed_flat schedule behind own e =
+    pub computed_flat : (schedule : Schedule) (later_boxes : List (Option SourceBox)) (own : SourceBox)
+        → Some own ≡ computed_box pipeline schedule flags func_index func later_boxes consumer → own.y ≡ flat
+    computed_flat schedule later_boxes own e =
         let here : (k : ℕ) → 0 + k ≡ k = λ k. omega arith in
-        let begun = wanted pipeline.output place consumer in
-        let owns = own_updates pipeline flags place consumer begun func.updates in
-        let spread = read_from pipeline schedule flags (place + 1) consumer (sources.Func place) behind owns in
+        let begun = wanted pipeline.output func_index consumer in
+        let owns = own_updates pipeline flags func_index consumer begun func.updates in
+        let spread = read_from pipeline schedule flags (func_index + 1) consumer (sources.Func func_index) later_boxes
+        owns in
         by_parts (lasts_of consumer) spread.x spread.y own (sym e)
-        (from_flat consumer (sources.Func place) one rules schedule flags (place + 1) behind owns
-        (updates_flat func.updates 0 (λ k. ap (λ (n : ℕ). slice_get func.updates n) (here k)) begun (wanted_by (place == pipeline.output.func) refl)))
+        (from_flat consumer (sources.Func func_index) one rules schedule flags (func_index + 1) later_boxes owns
+        (updates_flat func.updates 0 (λ k. ap (λ (n : ℕ). slice_get func.updates n) (here k)) begun (wanted_by (func_index == pipeline.output.func) refl)))
       where
         by_parts : (lasts : List ℕ) (x y : Option Range) (box : SourceBox) → box_of lasts x y ≡ Some box → IsFlatOrNone y → box.y ≡ flat
         by_parts lasts None y box e f = absurd cc

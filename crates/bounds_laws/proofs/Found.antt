@@ -26,12 +26,12 @@ use Rattle.bounds_laws.proofs.Readers.{points_of, in_takes, from_takes}
 
 -- ---- an answer comes from its parts
 
-kept_is : (test : Bool) (own boxes : Boxes) (wrong : BoundsFault) → cond test (Ok own) (Err wrong) ≡ Ok boxes → own ≡ boxes
-kept_is true own boxes wrong e = cc
-kept_is false own boxes wrong e = absurd cc
+kept_is : (test : Bool) (own_boxes boxes : Boxes) (wrong : BoundsFault) → cond test (Ok own_boxes) (Err wrong) ≡ Ok boxes → own_boxes ≡ boxes
+kept_is true own_boxes boxes wrong e = cc
+kept_is false own_boxes boxes wrong e = absurd cc
 
-sized_is : (own boxes : Boxes) → sized own ≡ Ok boxes → own ≡ boxes
-sized_is own boxes e = kept_is (have_few_points own.inputs && (have_few_points own.funcs && nat_le own.layout.size most_data)) own boxes faults.TooLarge e
+sized_is : (own_boxes boxes : Boxes) → sized own_boxes ≡ Ok boxes → own_boxes ≡ boxes
+sized_is own_boxes boxes e = kept_is (have_few_points own_boxes.inputs && (have_few_points own_boxes.funcs && nat_le own_boxes.layout.size most_data)) own_boxes boxes faults.TooLarge e
 
 passed : (test : Bool) (wrong : BoundsFault) (next : Result Boxes BoundsFault) (boxes : Boxes) → cond (not test) (Err wrong) next ≡ Ok boxes → next ≡ Ok boxes
 passed true wrong next boxes e = e
@@ -78,13 +78,13 @@ module _ (pipeline : Pipeline) (schedule : Schedule) where
 
 -- ---- one in front
 
-in_front_by : (test : Bool) (own : Option SourceBox) (behind found : List (Option SourceBox)) → cond test (Some (own ∷ behind)) None ≡ Some found
-    → own ∷ behind ≡ found
-in_front_by true own behind found e = cc
-in_front_by false own behind found e = absurd cc
+in_front_by : (test : Bool) (source_box : Option SourceBox) (behind later_boxes : List (Option SourceBox)) → cond test (Some (source_box ∷ behind)) None ≡ Some later_boxes
+    → source_box ∷ behind ≡ later_boxes
+in_front_by true source_box behind later_boxes e = cc
+in_front_by false source_box behind later_boxes e = absurd cc
 
-pub in_front_is : (own : Option SourceBox) (behind found : List (Option SourceBox)) → in_front own behind ≡ Some found → own ∷ behind ≡ found
-in_front_is own behind found e = in_front_by (stays own) own behind found e
+pub in_front_is : (source_box : Option SourceBox) (behind later_boxes : List (Option SourceBox)) → in_front source_box behind ≡ Some later_boxes → source_box ∷ behind ≡ later_boxes
+in_front_is source_box behind later_boxes e = in_front_by (stays source_box) source_box behind later_boxes e
 
 pub got : {A : Type 0} (x y : A) → Some x ≡ Some y → x ≡ y
 got x y e = cc
@@ -93,31 +93,33 @@ got x y e = cc
 
 module _ (pipeline : Pipeline) (schedule : Schedule) (flags : List Bool) (boxes : List (Option SourceBox)) where
   abbrev Is : ℕ → List (Option SourceBox) → Type 0
-  Is place found = (before : ℕ) (own : Option SourceBox) → slice_get found before ≡ Some own → own ≡ input_box pipeline schedule flags boxes (place + before)
+  Is func_index later_boxes = (before : ℕ) (source_box : Option SourceBox) → slice_get later_boxes before ≡ Some source_box → source_box ≡ input_box pipeline schedule flags boxes (func_index + before)
 
-  front : (place : ℕ) (behind : List (Option SourceBox)) → Is (place + 1) behind → Is place (input_box pipeline schedule flags boxes place ∷ behind)
-  front place behind next zero own e = sym (got (input_box pipeline schedule flags boxes place) own e)
+  front : (func_index : ℕ) (behind : List (Option SourceBox)) → Is (func_index + 1) behind → Is func_index (input_box pipeline schedule flags boxes func_index ∷ behind)
+  front func_index behind next zero source_box e = sym (got (input_box pipeline schedule flags boxes func_index)
+      source_box e)
       ∙ ap (λ (n : ℕ). input_box pipeline schedule flags boxes n) (omega arith)
-  front place behind next (suc before) own e = next before own e ∙ ap (λ (n : ℕ). input_box pipeline schedule flags boxes n) (omega arith)
+  front func_index behind next (suc before) source_box e = next before source_box e ∙ ap (λ (n : ℕ). input_box pipeline schedule flags boxes n) (omega arith)
 
-  step : (place : ℕ) (rest : Option (List (Option SourceBox))) (found : List (Option SourceBox)) → ((behind : List (Option SourceBox)) → rest ≡ Some behind
-      → Is (place + 1) behind)
-      → with_input pipeline schedule flags boxes place rest ≡ Some found → Is place found
-  step place None found next e before own there = absurd cc
-  step place (Some behind) found next e before own there =
-      front place behind (next behind refl) before own
-      (ap (λ (l : List (Option SourceBox)). slice_get l before) (in_front_is (input_box pipeline schedule flags boxes place) behind found e) ∙ there)
+  step : (func_index : ℕ) (rest : Option (List (Option SourceBox))) (later_boxes : List (Option SourceBox)) → ((behind : List (Option SourceBox)) → rest ≡ Some behind
+      → Is (func_index + 1) behind)
+      → with_input pipeline schedule flags boxes func_index rest ≡ Some later_boxes → Is func_index later_boxes
+  step func_index None later_boxes next e before source_box there = absurd cc
+  step func_index (Some behind) later_boxes next e before source_box there =
+      front func_index behind (next behind refl) before source_box
+      (ap (λ (l : List (Option SourceBox)). slice_get l before) (in_front_is (input_box pipeline schedule flags boxes func_index) behind later_boxes e) ∙ there)
 
-  nothing : (found : List (Option SourceBox)) → [] ≡ found → (before : ℕ) (own : Option SourceBox) → slice_get found before ≡ Some own → ⊥
-  nothing [] e zero own there = cc
-  nothing [] e (suc before) own there = cc
-  nothing (other ∷ found) e before own there = cc
+  nothing : (later_boxes : List (Option SourceBox)) → [] ≡ later_boxes → (before : ℕ) (source_box : Option SourceBox) → slice_get later_boxes before ≡ Some source_box → ⊥
+  nothing [] e zero source_box there = cc
+  nothing [] e (suc before) source_box there = cc
+  nothing (other ∷ later_boxes) e before source_box there = cc
 
-  pub inputs_at : (place : ℕ) (inputs : List Input) (found : List (Option SourceBox)) → inputs_from pipeline schedule flags boxes place inputs ≡ Some found
-      → Is place found
-  inputs_at place [] found e before own there = absurd (nothing found (got [] found e) before own there)
-  inputs_at place (input ∷ others) found e before own there =
-      step place (inputs_from pipeline schedule flags boxes (place + 1) others) found (λ behind is. inputs_at (place + 1) others behind is) e before own there
+  pub inputs_at : (func_index : ℕ) (inputs : List Input) (later_boxes : List (Option SourceBox)) → inputs_from pipeline schedule flags boxes func_index inputs ≡ Some later_boxes
+      → Is func_index later_boxes
+  inputs_at func_index [] later_boxes e before source_box there = absurd
+      (nothing later_boxes (got [] later_boxes e) before source_box there)
+  inputs_at func_index (input ∷ others) later_boxes e before source_box there =
+      step func_index (inputs_from pipeline schedule flags boxes (func_index + 1) others) later_boxes (λ behind is. inputs_at (func_index + 1) others behind is) e before source_box there
 
 -- ---- a point in what is gathered lies in the box
 
@@ -128,12 +130,13 @@ boxed_by lasts values (Some a) None x y first second = absurd second
 boxed_by lasts values (Some a) (Some b) x y first second = record { first = first; second = second }
 
 pub boxed : (values : List ℕ) (source : Source) (spread : Spread) (points : List Point) → HoldsAll no_loops values source spread points
-    → (own : Option SourceBox) → own ≡ spread_box None spread → AreBoxed values source (Some own) points
-boxed values source spread [] all own is = tt
-boxed values source spread (point ∷ points) all own is = (
+    → (source_box : Option SourceBox) → source_box ≡ spread_box None spread
+    → AreBoxed values source (Some source_box) points
+boxed values source spread [] all source_box is = tt
+boxed values source spread (point ∷ points) all source_box is = (
   λ e. subst (λ (o : Option SourceBox). IsBoxed values (Some o) point.x point.y) (sym is) (boxed_by no_loops values spread.x spread.y point.x point.y
       (all.0 e).first (all.0 e).second),
-  boxed values source spread points all.1 own is,
+  boxed values source spread points all.1 source_box is,
 )
 
 pub none_boxed : (values : List ℕ) (source : Source) (points : List Point) → AreBoxed values source None points
@@ -145,12 +148,12 @@ no_below = (omega arith, (omega arith, (omega arith, (omega arith, (omega arith,
 
 -- whatever what is read of an input holds lies in its box
 pub inputs_lie : (pipeline : Pipeline) (schedule : Schedule) (boxes : Boxes) → inferred pipeline schedule ≡ Ok boxes
-    → (reader : ℕ) (func : Func) (own : SourceBox) → slice_get pipeline.funcs reader ≡ Some func → slice_get boxes.funcs reader ≡ Some (Some own)
-    → (values : List ℕ) (place : ℕ) (points : List Point)
-    → ((spread : Spread) → IsSpread no_loops spread → HoldsAll no_loops no_loops (sources.Input place) (read_in pipeline (flags_of schedule.standings) reader
-    own None (sources.Input place) spread func) points)
-    → AreBoxed no_loops (sources.Input place) (slice_get boxes.inputs place) points
-inputs_lie pipeline schedule boxes is reader func own func_is own_is values place points takes = by_found (slice_get boxes.inputs place) refl
+    → (reader : ℕ) (func : Func) (source_box : SourceBox) → slice_get pipeline.funcs reader ≡ Some func → slice_get boxes.funcs reader ≡ Some (Some source_box)
+    → (values : List ℕ) (func_index : ℕ) (points : List Point)
+    → ((spread : Spread) → IsSpread no_loops spread → HoldsAll no_loops no_loops (sources.Input func_index) (read_in pipeline (flags_of schedule.standings) reader
+    source_box None (sources.Input func_index) spread func) points)
+    → AreBoxed no_loops (sources.Input func_index) (slice_get boxes.inputs func_index) points
+inputs_lie pipeline schedule boxes is reader func source_box func_is own_is values func_index points takes = by_found (slice_get boxes.inputs func_index) refl
   where
     found : AreFound pipeline schedule boxes
     found = are_found pipeline schedule boxes is
@@ -158,13 +161,14 @@ inputs_lie pipeline schedule boxes is reader func own func_is own_is values plac
     flags : List Bool
     flags = flags_of schedule.standings
 
-    by_found : (answer : Option (Option SourceBox)) → slice_get boxes.inputs place ≡ answer → AreBoxed no_loops (sources.Input place) answer points
-    by_found None e = none_boxed no_loops (sources.Input place) points
+    by_found : (answer : Option (Option SourceBox)) → slice_get boxes.inputs func_index ≡ answer → AreBoxed no_loops (sources.Input func_index) answer points
+    by_found None e = none_boxed no_loops (sources.Input func_index) points
     by_found (Some other) e =
-        boxed no_loops (sources.Input place) (read_from pipeline schedule flags 0 None (sources.Input place) boxes.funcs no_spread) points
-        (from_takes pipeline schedule flags None (sources.Input place) values no_below reader func func_is own own refl points takes 0 reader (omega arith)
+        boxed no_loops (sources.Input func_index) (read_from pipeline schedule flags 0 None (sources.Input func_index) boxes.funcs no_spread) points
+        (from_takes pipeline schedule flags None (sources.Input func_index) values no_below reader func func_is source_box source_box refl points takes 0 reader (omega arith)
         boxes.funcs own_is no_spread (record { x = tt; y = tt }))
-        other (inputs_at pipeline schedule flags boxes.funcs 0 pipeline.inputs boxes.inputs found.inputs place other e
+        other (inputs_at pipeline schedule flags boxes.funcs 0 pipeline.inputs boxes.inputs found.inputs func_index
+        other e
         ∙ ap (λ (n : ℕ). input_box pipeline schedule flags boxes.funcs n) (omega arith))
 
 pub pure_reads_of_inputs_lie : PureReadsOfInputsLie

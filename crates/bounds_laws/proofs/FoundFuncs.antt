@@ -64,31 +64,31 @@ updates_fit pipeline flags at consumer spread (update ∷ others) fits =
 -- ---- the box at a place is that of the Funcs after it
 
 module _ (pipeline : Pipeline) (schedule : Schedule) (flags : List Bool) where
-  pub record IsAt (at before : ℕ) (funcs : List Func) (found : List (Option SourceBox)) (own : Option SourceBox) : Type 0 where
+  pub record IsAt (at before : ℕ) (funcs : List Func) (later_boxes : List (Option SourceBox)) (source_box : Option SourceBox) : Type 0 where
     pub func : Func
     pub func_is : slice_get funcs before ≡ Some func
     pub behind : List (Option SourceBox)
-    pub own_is : own ≡ func_box pipeline schedule flags (at + before) func behind (slice_get schedule.standings (at + before))
-    pub later : (n : ℕ) → slice_get behind n ≡ slice_get found (before + 1 + n)
+    pub own_is : source_box ≡ func_box pipeline schedule flags (at + before) func behind (slice_get schedule.standings (at + before))
+    pub later : (n : ℕ) → slice_get behind n ≡ slice_get later_boxes (before + 1 + n)
 
   abbrev AreAt : ℕ → List Func → List (Option SourceBox) → Type 0
-  AreAt at funcs found = (before : ℕ) (own : Option SourceBox) → slice_get found before ≡ Some own → IsAt at before funcs found own
+  AreAt at funcs later_boxes = (before : ℕ) (source_box : Option SourceBox) → slice_get later_boxes before ≡ Some source_box → IsAt at before funcs later_boxes source_box
 
   front : (at : ℕ) (func : Func) (others : List Func) (behind : List (Option SourceBox)) → AreAt (at + 1) others behind
       → AreAt at (func ∷ others) (func_box pipeline schedule flags at func behind (slice_get schedule.standings at) ∷ behind)
-  front at func others behind next zero own e = record {
+  front at func others behind next zero source_box e = record {
     func = func;
     func_is = refl;
     behind = behind;
-    own_is = sym (got (func_box pipeline schedule flags at func behind (slice_get schedule.standings at)) own e)
+    own_is = sym (got (func_box pipeline schedule flags at func behind (slice_get schedule.standings at)) source_box e)
         ∙ ap (λ (n : ℕ). func_box pipeline schedule flags n func behind (slice_get schedule.standings n)) (omega arith);
     later = λ n. ap (λ (m : ℕ). slice_get (func_box pipeline schedule flags at func behind (slice_get schedule.standings at) ∷ behind) m) (suc_is n);
   }
     where
       suc_is : (n : ℕ) → suc n ≡ zero + 1 + n
       suc_is n = omega arith
-  front at func others behind next (suc before) own e =
-      let there = next before own e in
+  front at func others behind next (suc before) source_box e =
+      let there = next before source_box e in
       record {
         func = there.func;
         func_is = there.func_is;
@@ -101,87 +101,91 @@ module _ (pipeline : Pipeline) (schedule : Schedule) (flags : List Bool) where
       suc_is : (n : ℕ) → suc (before + 1 + n) ≡ suc before + 1 + n
       suc_is n = omega arith
 
-  same : (at : ℕ) (funcs : List Func) (all found : List (Option SourceBox)) → all ≡ found → AreAt at funcs all → AreAt at funcs found
-  same at funcs all found e are = subst (λ (l : List (Option SourceBox)). AreAt at funcs l) e are
+  same : (at : ℕ) (funcs : List Func) (all later_boxes : List (Option SourceBox)) → all ≡ later_boxes → AreAt at funcs all → AreAt at funcs later_boxes
+  same at funcs all later_boxes e are = subst (λ (l : List (Option SourceBox)). AreAt at funcs l) e are
 
-  step : (at : ℕ) (func : Func) (others : List Func) (rest : Option (List (Option SourceBox))) (found : List (Option SourceBox))
+  step : (at : ℕ) (func : Func) (others : List Func) (rest : Option (List (Option SourceBox))) (later_boxes : List (Option SourceBox))
       → ((behind : List (Option SourceBox)) → rest ≡ Some behind → AreAt (at + 1) others behind)
-      → with_func pipeline schedule flags at func rest ≡ Some found → AreAt at (func ∷ others) found
-  step at func others None found next e before own there = absurd cc
-  step at func others (Some behind) found next e before own there =
-      same at (func ∷ others) (func_box pipeline schedule flags at func behind (slice_get schedule.standings at) ∷ behind) found
-      (in_front_is (func_box pipeline schedule flags at func behind (slice_get schedule.standings at)) behind found e)
-      (front at func others behind (next behind refl)) before own there
+      → with_func pipeline schedule flags at func rest ≡ Some later_boxes → AreAt at (func ∷ others) later_boxes
+  step at func others None later_boxes next e before source_box there = absurd cc
+  step at func others (Some behind) later_boxes next e before source_box there =
+      same at (func ∷ others) (func_box pipeline schedule flags at func behind (slice_get schedule.standings at) ∷ behind) later_boxes
+      (in_front_is (func_box pipeline schedule flags at func behind (slice_get schedule.standings at)) behind
+      later_boxes e)
+      (front at func others behind (next behind refl)) before source_box there
 
-  nothing : (found : List (Option SourceBox)) → [] ≡ found → (before : ℕ) (own : Option SourceBox) → slice_get found before ≡ Some own → ⊥
-  nothing [] e zero own there = cc
-  nothing [] e (suc before) own there = cc
-  nothing (other ∷ found) e before own there = cc
+  nothing : (later_boxes : List (Option SourceBox)) → [] ≡ later_boxes → (before : ℕ) (source_box : Option SourceBox) → slice_get later_boxes before ≡ Some source_box → ⊥
+  nothing [] e zero source_box there = cc
+  nothing [] e (suc before) source_box there = cc
+  nothing (other ∷ later_boxes) e before source_box there = cc
 
-  pub boxes_at : (at : ℕ) (funcs : List Func) (found : List (Option SourceBox)) → boxes_from pipeline schedule flags at funcs ≡ Some found
-      → AreAt at funcs found
-  boxes_at at [] found e before own there = absurd (nothing found (got [] found e) before own there)
-  boxes_at at (func ∷ others) found e before own there =
-      step at func others (boxes_from pipeline schedule flags (at + 1) others) found (λ behind is. boxes_at (at + 1) others behind is) e before own there
+  pub boxes_at : (at : ℕ) (funcs : List Func) (later_boxes : List (Option SourceBox)) → boxes_from pipeline schedule flags at funcs ≡ Some later_boxes
+      → AreAt at funcs later_boxes
+  boxes_at at [] later_boxes e before source_box there = absurd
+      (nothing later_boxes (got [] later_boxes e) before source_box there)
+  boxes_at at (func ∷ others) later_boxes e before source_box there =
+      step at func others (boxes_from pipeline schedule flags (at + 1) others) later_boxes (λ behind is. boxes_at (at + 1) others behind is) e before source_box there
 
 -- the box of a later Func, among those from a place on
-box_at_is : (before at place : ℕ) (boxes : List (Option SourceBox)) → place ≡ at + before → box_at place at boxes ≡ box_in (slice_get boxes before)
-box_at_is zero at place [] e = refl
-box_at_is (suc before) at place [] e = refl
-box_at_is zero at place (first ∷ others) e = ap (λ (test : Bool). cond test first (box_at place (at + 1) others)) (eq-eqb at place (omega (arith, e)))
-box_at_is (suc before) at place (first ∷ others) e =
-    ap (λ (test : Bool). cond test first (box_at place (at + 1) others)) (ne_eqb at place (λ (same : at ≡ place). omega (arith, e, same)))
-    ∙ box_at_is before (at + 1) place others (omega (arith, e))
+box_at_is : (before at func_index : ℕ) (boxes : List (Option SourceBox)) → func_index ≡ at + before → box_at func_index at boxes ≡ box_in (slice_get boxes before)
+box_at_is zero at func_index [] e = refl
+box_at_is (suc before) at func_index [] e = refl
+box_at_is zero at func_index (first ∷ others) e = ap (λ (test : Bool). cond test first (box_at func_index (at + 1) others)) (eq-eqb at func_index (omega (arith, e)))
+box_at_is (suc before) at func_index (first ∷ others) e =
+    ap (λ (test : Bool). cond test first (box_at func_index (at + 1) others)) (ne_eqb at func_index (λ (same : at ≡ func_index). omega (arith, e, same)))
+    ∙ box_at_is before (at + 1) func_index others (omega (arith, e))
 
 -- ---- a point in what is gathered lies in the box
 
 boxed_for : (consumer : Option ConsumerLoop) (values : List ℕ) (source : Source) (spread : Spread) (points : List Point)
     → HoldsAll (lasts_of consumer) values source spread points
-    → (own : Option SourceBox) → own ≡ spread_box consumer spread → AreBoxed values source (Some own) points
-boxed_for consumer values source spread [] all own is = tt
-boxed_for consumer values source spread (point ∷ points) all own is = (
+    → (source_box : Option SourceBox) → source_box ≡ spread_box consumer spread
+    → AreBoxed values source (Some source_box) points
+boxed_for consumer values source spread [] all source_box is = tt
+boxed_for consumer values source spread (point ∷ points) all source_box is = (
   λ e. subst (λ (o : Option SourceBox). IsBoxed values (Some o) point.x point.y) (sym is) (boxed_by (lasts_of consumer) values spread.x spread.y point.x point.y
       (all.0 e).first (all.0 e).second),
-  boxed_for consumer values source spread points all.1 own is,
+  boxed_for consumer values source spread points all.1 source_box is,
 )
 
 -- ---- the Func that is sought
 
 module _ (pipeline : Pipeline) (schedule : Schedule) (flags : List Bool) (boxes : List (Option SourceBox)) where
-  placed_is : (place : ℕ) (func : Func) (behind : List (Option SourceBox)) → ((n : ℕ) → slice_get behind n ≡ slice_get boxes (place + 1 + n)) → (where_ : ComputeLevel)
-      → IsComputed place where_
-      → placed_box pipeline schedule flags place func behind where_ ≡ computed_box pipeline schedule flags place func behind (consumer_in schedule boxes where_)
-  placed_is place func behind later places.Root computed = refl
-  placed_is place func behind later places.Inlined computed = absurd computed
-  placed_is place func behind later places.Nowhere computed = absurd computed
-  placed_is place func behind later (places.At at) computed =
-      ap (λ (b : Option SourceBox). computed_box pipeline schedule flags place func behind (consumer_of at (slice_get schedule.funcs at.func) b))
-      (box_at_is (at.func - (place + 1)) (place + 1) at.func behind (omega (arith, computed))
-      ∙ ap box_in (later (at.func - (place + 1)) ∙ ap (λ (n : ℕ). slice_get boxes n) (omega (arith, computed))))
+  placed_is : (func_index : ℕ) (func : Func) (later_boxes : List (Option SourceBox)) → ((n : ℕ) → slice_get later_boxes n ≡ slice_get boxes (func_index + 1 + n)) → (where_ : ComputeLevel)
+      → IsComputed func_index where_
+      → placed_box pipeline schedule flags func_index func later_boxes where_ ≡ computed_box pipeline schedule flags func_index func later_boxes (consumer_in schedule boxes where_)
+  placed_is func_index func later_boxes later places.Root computed = refl
+  placed_is func_index func later_boxes later places.Inlined computed = absurd computed
+  placed_is func_index func later_boxes later places.Nowhere computed = absurd computed
+  placed_is func_index func later_boxes later (places.At at) computed =
+      ap (λ (b : Option SourceBox). computed_box pipeline schedule flags func_index func later_boxes (consumer_of at (slice_get schedule.funcs at.func) b))
+      (box_at_is (at.func - (func_index + 1)) (func_index + 1) at.func later_boxes (omega (arith, computed))
+      ∙ ap box_in (later (at.func - (func_index + 1)) ∙ ap (λ (n : ℕ). slice_get boxes n) (omega (arith, computed))))
 
-  pub sought_is : (place : ℕ) (func : Func) (behind : List (Option SourceBox)) → ((n : ℕ) → slice_get behind n ≡ slice_get boxes (place + 1 + n))
-      → (sought : FuncPlacement) → slice_get schedule.standings place ≡ Some sought → sought.is_reached ≡ true → IsComputed place sought.place
-      → func_box pipeline schedule flags place func behind (slice_get schedule.standings place) ≡ computed_box pipeline schedule flags place func behind
+  pub sought_is : (func_index : ℕ) (func : Func) (later_boxes : List (Option SourceBox)) → ((n : ℕ) → slice_get later_boxes n ≡ slice_get boxes (func_index + 1 + n))
+      → (sought : FuncPlacement) → slice_get schedule.standings func_index ≡ Some sought → sought.is_reached ≡ true → IsComputed func_index sought.place
+      → func_box pipeline schedule flags func_index func later_boxes (slice_get schedule.standings func_index) ≡ computed_box pipeline schedule flags func_index func later_boxes
       (consumer_in schedule boxes sought.place)
-  sought_is place func behind later sought there reached computed =
-      ap (λ (s : Option FuncPlacement). func_box pipeline schedule flags place func behind s) there
-      ∙ ap (λ (test : Bool). cond test (placed_box pipeline schedule flags place func behind sought.place) None) reached
-      ∙ placed_is place func behind later sought.place computed
+  sought_is func_index func later_boxes later sought there reached computed =
+      ap (λ (s : Option FuncPlacement). func_box pipeline schedule flags func_index func later_boxes s) there
+      ∙ ap (λ (test : Bool). cond test (placed_box pipeline schedule flags func_index func later_boxes sought.place)
+      None) reached
+      ∙ placed_is func_index func later_boxes later sought.place computed
 
 -- whatever what is read of a Func holds lies in its box
 pub funcs_lie : (pipeline : Pipeline) (schedule : Schedule) (boxes : Boxes) → inferred pipeline schedule ≡ Ok boxes
-    → (reader : ℕ) (func : Func) (own : SourceBox) → slice_get pipeline.funcs reader ≡ Some func → slice_get boxes.funcs reader ≡ Some (Some own)
-    → (place : ℕ) (sought : FuncPlacement) → place < reader → slice_get schedule.standings place ≡ Some sought → sought.is_reached ≡ true
-    → IsComputed place sought.place
+    → (reader : ℕ) (func : Func) (source_box : SourceBox) → slice_get pipeline.funcs reader ≡ Some func → slice_get boxes.funcs reader ≡ Some (Some source_box)
+    → (func_index : ℕ) (sought : FuncPlacement) → func_index < reader → slice_get schedule.standings func_index ≡ Some sought → sought.is_reached ≡ true
+    → IsComputed func_index sought.place
     → (consumer : Option ConsumerLoop) → consumer_in schedule boxes.funcs sought.place ≡ consumer
-    → (view : SourceBox) → view_of (slice_get schedule.funcs reader) (slice_get schedule.standings reader) own consumer ≡ view
+    → (view : SourceBox) → view_of (slice_get schedule.funcs reader) (slice_get schedule.standings reader) source_box consumer ≡ view
     → (values : List ℕ) → Below (values_for consumer values) (lasts_of consumer) → (points : List Point)
-    → ((spread : Spread) → IsSpread (lasts_of consumer) spread → HoldsAll (lasts_of consumer) (values_for consumer values) (sources.Func place)
-    (read_in pipeline (flags_of schedule.standings) reader view consumer (sources.Func place) spread func) points)
-    → AreBoxed (values_for consumer values) (sources.Func place) (slice_get boxes.funcs place) points
-funcs_lie pipeline schedule boxes is reader func own func_is own_is place sought before there reached computed consumer consumer_is view view_is values inside
+    → ((spread : Spread) → IsSpread (lasts_of consumer) spread → HoldsAll (lasts_of consumer) (values_for consumer values) (sources.Func func_index)
+    (read_in pipeline (flags_of schedule.standings) reader view consumer (sources.Func func_index) spread func) points)
+    → AreBoxed (values_for consumer values) (sources.Func func_index) (slice_get boxes.funcs func_index) points
+funcs_lie pipeline schedule boxes is reader func source_box func_is own_is func_index sought before there reached computed consumer consumer_is view view_is values inside
     points takes =
-    by_found (slice_get boxes.funcs place) refl
+    by_found (slice_get boxes.funcs func_index) refl
   where
     flags : List Bool
     flags = flags_of schedule.standings
@@ -189,26 +193,30 @@ funcs_lie pipeline schedule boxes is reader func own func_is own_is place sought
     found : AreFound pipeline schedule boxes
     found = are_found pipeline schedule boxes is
 
-    by_at : (other : Option SourceBox) → IsAt pipeline schedule flags 0 place pipeline.funcs boxes.funcs other
-        → AreBoxed (values_for consumer values) (sources.Func place) (Some other) points
+    by_at : (other : Option SourceBox) → IsAt pipeline schedule flags 0 func_index pipeline.funcs boxes.funcs other
+        → AreBoxed (values_for consumer values) (sources.Func func_index) (Some other) points
     by_at other at =
-        let begun = own_updates pipeline flags place consumer (wanted pipeline.output place consumer) at.func.updates in
-        boxed_for consumer (values_for consumer values) (sources.Func place) (read_from pipeline schedule flags (place + 1) consumer (sources.Func place)
+        let begun = own_updates pipeline flags func_index consumer (wanted pipeline.output func_index consumer)
+        at.func.updates in
+        boxed_for consumer (values_for consumer values) (sources.Func func_index) (read_from pipeline schedule flags (func_index + 1) consumer (sources.Func func_index)
         at.behind begun) points
-        (from_takes pipeline schedule flags consumer (sources.Func place) values inside reader func func_is own view view_is points takes (place + 1)
-        (reader - (place + 1)) (omega (arith, before)) at.behind
-        (at.later (reader - (place + 1)) ∙ ap (λ (n : ℕ). slice_get boxes.funcs n) (omega (arith, before)) ∙ own_is)
-        begun (updates_fit pipeline flags place consumer (wanted pipeline.output place consumer) at.func.updates (wanted_fits pipeline.output place consumer)))
+        (from_takes pipeline schedule flags consumer (sources.Func func_index) values inside reader func func_is source_box view view_is points takes (func_index + 1)
+        (reader - (func_index + 1)) (omega (arith, before)) at.behind
+        (at.later (reader - (func_index + 1)) ∙ ap (λ (n : ℕ). slice_get boxes.funcs n) (omega (arith, before)) ∙
+        own_is)
+        begun (updates_fit pipeline flags func_index consumer (wanted pipeline.output func_index consumer) at.func.updates (wanted_fits pipeline.output func_index consumer)))
         other
         (at.own_is
         ∙ ap (λ (n : ℕ). func_box pipeline schedule flags n at.func at.behind (slice_get schedule.standings n)) (omega arith)
-        ∙ sought_is pipeline schedule flags boxes.funcs place at.func at.behind at.later sought there reached computed
-        ∙ ap (λ (h : Option ConsumerLoop). computed_box pipeline schedule flags place at.func at.behind h) consumer_is)
+        ∙ sought_is pipeline schedule flags boxes.funcs func_index at.func at.behind at.later sought there reached
+        computed
+        ∙ ap (λ (h : Option ConsumerLoop). computed_box pipeline schedule flags func_index at.func at.behind h)
+        consumer_is)
 
-    by_found : (answer : Option (Option SourceBox)) → slice_get boxes.funcs place ≡ answer
-        → AreBoxed (values_for consumer values) (sources.Func place) answer points
-    by_found None e = none_boxed (values_for consumer values) (sources.Func place) points
-    by_found (Some other) e = by_at other (boxes_at pipeline schedule flags 0 pipeline.funcs boxes.funcs found.funcs place other e)
+    by_found : (answer : Option (Option SourceBox)) → slice_get boxes.funcs func_index ≡ answer
+        → AreBoxed (values_for consumer values) (sources.Func func_index) answer points
+    by_found None e = none_boxed (values_for consumer values) (sources.Func func_index) points
+    by_found (Some other) e = by_at other (boxes_at pipeline schedule flags 0 pipeline.funcs boxes.funcs found.funcs func_index other e)
 
 pub pure_reads_of_funcs_lie : PureReadsOfFuncsLie
 pure_reads_of_funcs_lie pipeline schedule boxes rules is reader func own func_is own_is place sought before there reached computed consumer consumer_is view

@@ -24,9 +24,9 @@ use Rattle.bounds_laws.proofs.Found.{got}
 abbrev pub IsFull : Spread → Type 0
 IsFull spread = (is_some spread.x ≡ true) × (is_some spread.y ≡ true)
 
-joined_some : (lasts : List ℕ) (counts : Bool) (own : Option Range) (range : Range) → is_some own ≡ true → is_some (joined lasts counts own range) ≡ true
-joined_some lasts false own range e = e
-joined_some lasts true own range e = refl
+joined_some : (lasts : List ℕ) (counts : Bool) (own_range : Option Range) (range : Range) → is_some own_range ≡ true → is_some (joined lasts counts own_range range) ≡ true
+joined_some lasts false own_range range e = e
+joined_some lasts true own_range range e = refl
 
 pub full_box : (lasts : List ℕ) (x y : Option Range) → is_some x ≡ true → is_some y ≡ true → is_some (box_of lasts x y) ≡ true
 full_box lasts None y ex ey = ex
@@ -86,22 +86,22 @@ module _ (consumer : Option ConsumerLoop) where
         func) full
 
     module _ (schedule : Schedule) where
-      box_full : (at : ℕ) (own : Option SourceBox) (source : Source) (spread : Spread) → IsFull spread
-          → IsFull (read_by_box pipeline schedule flags at own consumer source spread)
+      box_full : (at : ℕ) (source_box : Option SourceBox) (source : Source) (spread : Spread) → IsFull spread
+          → IsFull (read_by_box pipeline schedule flags at source_box consumer source spread)
       box_full at None source spread full = full
-      box_full at (Some own) source spread full = of_full at (view_of (slice_get schedule.funcs at) (slice_get schedule.standings at) own consumer) source
+      box_full at (Some source_box) source spread full = of_full at (view_of (slice_get schedule.funcs at) (slice_get schedule.standings at) source_box consumer) source
           spread (slice_get pipeline.funcs at) full
 
       pub from_full : (at : ℕ) (source : Source) (boxes : List (Option SourceBox)) (spread : Spread) → IsFull spread
           → IsFull (read_from pipeline schedule flags at consumer source boxes spread)
       from_full at source [] spread full = full
-      from_full at source (own ∷ boxes) spread full = from_full (at + 1) source boxes (read_by_box pipeline schedule flags at own consumer source spread)
-          (box_full at own source spread full)
+      from_full at source (source_box ∷ boxes) spread full = from_full (at + 1) source boxes (read_by_box pipeline schedule flags at source_box consumer source spread)
+          (box_full at source_box source spread full)
 
       -- so it is where a Func that has a box asks for it
       module _ (sought reader : ℕ) (func : Func) (func_is : slice_get pipeline.funcs reader ≡ Some func)
-          (asking : (view : SourceBox) → asks sought (func_asked pipeline.inputs pipeline.funcs flags reader view func) ≡ true) (own : SourceBox) where
-        pub from_asked : (at before : ℕ) → at + before ≡ reader → (boxes : List (Option SourceBox)) → slice_get boxes before ≡ Some (Some own)
+          (asking : (view : SourceBox) → asks sought (func_asked pipeline.inputs pipeline.funcs flags reader view func) ≡ true) (source_box : SourceBox) where
+        pub from_asked : (at before : ℕ) → at + before ≡ reader → (boxes : List (Option SourceBox)) → slice_get boxes before ≡ Some (Some source_box)
             → (spread : Spread)
             → IsFull (read_from pipeline schedule flags at consumer (sources.Func sought) boxes spread)
         unfolding read_in
@@ -111,8 +111,8 @@ module _ (consumer : Option ConsumerLoop) where
         from_asked at zero place (first ∷ boxes) found spread =
             from_full (at + 1) (sources.Func sought) boxes (read_by_box pipeline schedule flags at first consumer (sources.Func sought) spread)
             (subst (λ (b : Option SourceBox). IsFull (read_by_box pipeline schedule flags at b consumer (sources.Func sought) spread))
-            (sym (got first (Some own) found))
-            (subst (λ (n : ℕ). IsFull (read_by pipeline schedule flags n own consumer (sources.Func sought) spread)) (sym at_is)
+            (sym (got first (Some source_box) found))
+            (subst (λ (n : ℕ). IsFull (read_by pipeline schedule flags n source_box consumer (sources.Func sought) spread)) (sym at_is)
             (subst (λ (f : Option Func). IsFull (read_of pipeline flags reader view consumer (sources.Func sought) spread f)) (sym func_is)
             (gathered_asked view.lasts sought spread (func_asked pipeline.inputs pipeline.funcs flags reader view func) (asking view)))))
           where
@@ -120,4 +120,4 @@ module _ (consumer : Option ConsumerLoop) where
             at_is = omega (arith, place)
 
             view : SourceBox
-            view = view_of (slice_get schedule.funcs reader) (slice_get schedule.standings reader) own consumer
+            view = view_of (slice_get schedule.funcs reader) (slice_get schedule.standings reader) source_box consumer

@@ -247,22 +247,22 @@ module _ (Holds : List Multiple → Type 0) (closed : IsClosed Holds) (lasts : L
 
 -- ---- what a Func asks
 
-module _ (Holds : List Multiple → Type 0) (closed : IsClosed Holds) (pipeline : Pipeline) (flags : List Bool) (rules : IsWellFormed pipeline) (place : ℕ)
+module _ (Holds : List Multiple → Type 0) (closed : IsClosed Holds) (pipeline : Pipeline) (flags : List Bool) (rules : IsWellFormed pipeline) (func_index : ℕ)
     (func : Func)
-    (func_is : slice_get pipeline.funcs place ≡ Some func) (view : SourceBox) (first : Holds view.x.base) (second : Holds view.y.base) where
+    (func_is : slice_get pipeline.funcs func_index ≡ Some func) (view : SourceBox) (first : Holds view.x.base) (second : Holds view.y.base) where
   abbrev IsHeld : ReadRange → Type 0
   IsHeld read = Holds read.x.base × Holds read.y.base
 
   module _ (at : ℕ) (update : Update) (update_is : slice_get func.updates at ≡ Some update) where
-    formed_so : IsUpdate pipeline.inputs pipeline.funcs place (dimensions func) update
-    formed_so = (rules.funcs place func func_is).updates at update update_is
+    formed_so : IsUpdate pipeline.inputs pipeline.funcs func_index (dimensions func) update
+    formed_so = (rules.funcs func_index func func_is).updates at update update_is
 
     abbrev has : Variable → Bool
     has = is_update_variable (dimensions func) update.second
 
-    second_held : (own : Option Reduction) → Holds (second_range view.lasts own).base
+    second_held : (reduction : Option Reduction) → Holds (second_range view.lasts reduction).base
     second_held None = literal_held Holds closed view.lasts 0
-    second_held (Some own) = fit_held Holds closed view.lasts no_base (record { low = spot own.minimum; high = spot own.minimum + (own.extent - 1) })
+    second_held (Some reduction) = fit_held Holds closed view.lasts no_base (record { low = spot reduction.minimum; high = spot reduction.minimum + (reduction.extent - 1) })
         closed.none
 
     variables_held : (v : Variable) → Holds (range_of (update_variables view update) v).base
@@ -271,35 +271,36 @@ module _ (Holds : List Multiple → Type 0) (closed : IsClosed Holds) (pipeline 
     variables_held variables.FirstReduction = second_held (Some update.first)
     variables_held variables.SecondReduction = second_held update.second
 
-    left_held : (e : Expr) → keeps (is_read pipeline.inputs pipeline.funcs place) has e ≡ true
-        → Holds (left pipeline.inputs pipeline.funcs flags place view update e).range.base × AreHeld Holds (left pipeline.inputs pipeline.funcs flags place view
+    left_held : (e : Expr) → keeps (is_read pipeline.inputs pipeline.funcs func_index) has e ≡ true
+        → Holds (left pipeline.inputs pipeline.funcs flags func_index view update e).range.base × AreHeld Holds (left pipeline.inputs pipeline.funcs flags func_index view
         update e).asked
     unfolding left
     left_held e kept =
-        update_held Holds closed view.lasts pipeline.inputs (flagged flags) pipeline.funcs rules.funcs place has (range_of (update_variables view update))
+        update_held Holds closed view.lasts pipeline.inputs (flagged flags) pipeline.funcs rules.funcs func_index has (range_of (update_variables view update))
         variables_held
-        (own_calls place update) e kept true
+        (own_calls func_index update) e kept true
 
-    index_held : (index : Option Expr) → keeps_index (is_read pipeline.inputs pipeline.funcs place) has (dimensions func) index ≡ true
-        → Holds (second_left pipeline.inputs pipeline.funcs flags place view update index).range.base
-        × AreHeld Holds (second_left pipeline.inputs pipeline.funcs flags place view update index).asked
+    index_held : (index : Option Expr) → keeps_index (is_read pipeline.inputs pipeline.funcs func_index) has (dimensions func) index ≡ true
+        → Holds (second_left pipeline.inputs pipeline.funcs flags func_index view update index).range.base
+        × AreHeld Holds (second_left pipeline.inputs pipeline.funcs flags func_index view update index).asked
     index_held None kept = (literal_held Holds closed view.lasts 0, tt)
-    index_held (Some index) kept = left_held index (and_parts (dimensions func == 2) (keeps (is_read pipeline.inputs pipeline.funcs place) has index) kept).1
+    index_held (Some index) kept = left_held index (and_parts (dimensions func == 2) (keeps (is_read pipeline.inputs pipeline.funcs func_index) has index) kept).1
 
-    right_held : AreHeld Holds (right pipeline.inputs pipeline.funcs flags place view update).asked
+    right_held : AreHeld Holds (right pipeline.inputs pipeline.funcs flags func_index view update).asked
     unfolding right
     right_held =
-        (update_held Holds closed view.lasts pipeline.inputs (flagged flags) pipeline.funcs rules.funcs (suc place) has
+        (update_held Holds closed view.lasts pipeline.inputs (flagged flags) pipeline.funcs rules.funcs (suc func_index)
+        has
         (range_of (update_variables view update)) variables_held
-        (own_calls place update) update.right formed_so.right false).1
+        (own_calls func_index update) update.right formed_so.right false).1
 
-    pub asked_held : AreHeld Holds (update_asked pipeline.inputs pipeline.funcs flags place view update)
+    pub asked_held : AreHeld Holds (update_asked pipeline.inputs pipeline.funcs flags func_index view update)
     unfolding update_asked
     asked_held =
         let one = left_held update.left_x formed_so.left_x in
         let other = index_held update.left_y formed_so.left_y in
-        all_both IsHeld (left pipeline.inputs pipeline.funcs flags place view update update.left_x).asked _ one.1
-        (all_both IsHeld (second_left pipeline.inputs pipeline.funcs flags place view update update.left_y).asked _ other.1 ((one.0, other.0), right_held))
+        all_both IsHeld (left pipeline.inputs pipeline.funcs flags func_index view update update.left_x).asked _ one.1
+        (all_both IsHeld (second_left pipeline.inputs pipeline.funcs flags func_index view update update.left_y).asked _ other.1 ((one.0, other.0), right_held))
 
   arguments_held : (v : Variable) → Holds (range_of (pure_variables view) v).base
   arguments_held variables.FirstArgument = first
@@ -308,31 +309,31 @@ module _ (Holds : List Multiple → Type 0) (closed : IsClosed Holds) (pipeline 
   arguments_held variables.SecondReduction = literal_held Holds closed view.lasts 0
 
   updates_held : (updates : List Update) (before : ℕ) → ((k : ℕ) → slice_get func.updates (before + k) ≡ slice_get updates k)
-      → AreHeld Holds (updates_asked pipeline.inputs pipeline.funcs flags place view updates)
+      → AreHeld Holds (updates_asked pipeline.inputs pipeline.funcs flags func_index view updates)
   updates_held [] before from = tt
   updates_held (update ∷ others) before from =
       let here : before + 0 ≡ before = omega arith in
       let next : (k : ℕ) → before + 1 + k ≡ before + suc k = λ k. omega arith in
-      all_both IsHeld (update_asked pipeline.inputs pipeline.funcs flags place view update) (updates_asked pipeline.inputs pipeline.funcs flags place view
+      all_both IsHeld (update_asked pipeline.inputs pipeline.funcs flags func_index view update) (updates_asked pipeline.inputs pipeline.funcs flags func_index view
       others)
       (asked_held before update (ap (λ (n : ℕ). slice_get func.updates n) (sym here) ∙ from 0))
       (updates_held others (before + 1) (λ k. ap (λ (n : ℕ). slice_get func.updates n) (next k) ∙ from (suc k)))
 
-  pub func_held : AreHeld Holds (func_asked pipeline.inputs pipeline.funcs flags place view func)
+  pub func_held : AreHeld Holds (func_asked pipeline.inputs pipeline.funcs flags func_index view func)
   unfolding func_asked
   func_held =
       let here : (k : ℕ) → 0 + k ≡ k = λ k. omega arith in
-      all_both IsHeld (walked view.lasts pipeline.inputs flags pipeline.funcs place (pure_variables view) func.pure).asked (updates_asked pipeline.inputs
-      pipeline.funcs flags place view func.updates)
-      (pure_held Holds closed view.lasts pipeline.inputs (flagged flags) pipeline.funcs rules.funcs place (is_argument (dimensions func))
+      all_both IsHeld (walked view.lasts pipeline.inputs flags pipeline.funcs func_index (pure_variables view) func.pure).asked (updates_asked pipeline.inputs
+      pipeline.funcs flags func_index view func.updates)
+      (pure_held Holds closed view.lasts pipeline.inputs (flagged flags) pipeline.funcs rules.funcs func_index (is_argument (dimensions func))
       (range_of (pure_variables view)) arguments_held
-      func.pure (rules.funcs place func func_is).pure).1
+      func.pure (rules.funcs func_index func func_is).pure).1
       (updates_held func.updates 0 (λ k. ap (λ (n : ℕ). slice_get func.updates n) (here k)))
 
 -- also of an update whose arguments may be anywhere
 pub unplaced_held : (Holds : List Multiple → Type 0) (closed : IsClosed Holds) (pipeline : Pipeline) (flags : List Bool) → IsWellFormed pipeline
-    → (place : ℕ) (func : Func) → slice_get pipeline.funcs place ≡ Some func → (at : ℕ) (update : Update) → slice_get func.updates at ≡ Some update
-    → AreHeld Holds (update_asked pipeline.inputs pipeline.funcs flags place unplaced update)
-unplaced_held Holds closed pipeline flags rules place func func_is at update update_is =
+    → (func_index : ℕ) (func : Func) → slice_get pipeline.funcs func_index ≡ Some func → (at : ℕ) (update : Update) → slice_get func.updates at ≡ Some update
+    → AreHeld Holds (update_asked pipeline.inputs pipeline.funcs flags func_index unplaced update)
+unplaced_held Holds closed pipeline flags rules func_index func func_is at update update_is =
     let anywhere = fit_held Holds closed no_loops no_base (record { low = origin - 2 ^ 24; high = origin + 2 ^ 24 }) closed.none in
-    asked_held Holds closed pipeline flags rules place func func_is unplaced anywhere anywhere at update update_is
+    asked_held Holds closed pipeline flags rules func_index func func_is unplaced anywhere anywhere at update update_is

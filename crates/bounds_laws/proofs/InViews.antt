@@ -12,7 +12,7 @@ use Rattle.schedule_lines.specs.declared.stages.LoopId.{LoopId}
 use Rattle.schedule_lines.specs.Directives.{same_id}
 use Rattle.schedule.specs.declared.plans.FuncPlan.{FuncPlan}
 use Rattle.schedule.specs.declared.schedules.Schedule.{Schedule}
-use Rattle.schedule.specs.declared.placements.LoopPlace.{LoopPlace}
+use Rattle.schedule.specs.declared.placements.LoopPosition.{LoopPosition}
 use Rattle.schedule.specs.declared.placements.ComputeLevel.{ComputeLevel}
 use Rattle.schedule.specs.declared.placements.ComputeLevel.TheVariants as places
 use Rattle.schedule.specs.declared.placements.FuncPlacement.{FuncPlacement}
@@ -68,16 +68,16 @@ count_few : (id : LoopId) (loops : List Loop) → inner_count id loops ≤ lengt
 count_few id [] = omega arith
 count_few id (first ∷ outside) = count_by (same_id first.id id) (inner_count id outside) (length outside) (count_few id outside)
 
-first_by : (own other rest : Bool) (n m : ℕ) → cond own true (cond other false rest) ≡ true → (rest ≡ true → n ≤ m) → cond own 0 (suc n) ≤ cond other 0 (suc m)
+first_by : (bool other rest : Bool) (n m : ℕ) → cond bool true (cond other false rest) ≡ true → (rest ≡ true → n ≤ m) → cond bool 0 (suc n) ≤ cond other 0 (suc m)
 first_by true other rest n m e l = omega arith
 first_by false true rest n m e l = absurd cc
 first_by false false rest n m e l = let k : n ≤ m = l e in omega (arith, k)
 
-count_first : (own other : LoopId) (loops : List Loop) → comes_first own other loops ≡ true → inner_count own loops ≤ inner_count other loops
-count_first own other [] e = absurd cc
-count_first own other (first ∷ outside) e =
-    first_by (same_id first.id own) (same_id first.id other) (comes_first own other outside) (inner_count own outside) (inner_count other outside) e
-    (λ r. count_first own other outside r)
+count_first : (loop_id other : LoopId) (loops : List Loop) → comes_first loop_id other loops ≡ true → inner_count loop_id loops ≤ inner_count other loops
+count_first loop_id other [] e = absurd cc
+count_first loop_id other (first ∷ outside) e =
+    first_by (same_id first.id loop_id) (same_id first.id other) (comes_first loop_id other outside) (inner_count loop_id outside) (inner_count other outside) e
+    (λ r. count_first loop_id other outside r)
 
 iterations_drop : (counts : Values) (n : ℕ) (loops : List Loop) (iterations : Values) → AreIterations counts loops iterations → AreIterations counts (drop n loops) iterations
 iterations_drop counts zero loops iterations are = are
@@ -125,12 +125,12 @@ module _ (iterations : Values) (loops : List Loop) (n m : ℕ) (few : n ≤ m) w
 
 -- ---- where the reads stand
 
-data Stands (plans : List FuncPlan) (consumer : LoopPlace) (reader : ℕ) (place : ComputeLevel) : Type 0 where
-  IsTheConsumer : reader ≡ consumer.func → Stands plans consumer reader place
-  IsInside : (at : LoopPlace) → place ≡ places.At at → is_within plans consumer at ≡ true → Stands plans consumer reader place
-  IsInlined : place ≡ places.Inlined → Stands plans consumer reader place
+data Stands (plans : List FuncPlan) (consumer : LoopPosition) (reader : ℕ) (level : ComputeLevel) : Type 0 where
+  IsTheConsumer : reader ≡ consumer.func → Stands plans consumer reader level
+  IsInside : (at : LoopPosition) → level ≡ places.At at → is_within plans consumer at ≡ true → Stands plans consumer reader level
+  IsInlined : level ≡ places.Inlined → Stands plans consumer reader level
 
-stands : (pipeline : Pipeline) (plans : List FuncPlan) (standings : List FuncPlacement) (consumer : LoopPlace) (reader : ℕ)
+stands : (pipeline : Pipeline) (plans : List FuncPlan) (standings : List FuncPlacement) (consumer : LoopPosition) (reader : ℕ)
     → StandsWithin pipeline plans standings consumer reader
     → (its : FuncPlacement) → slice_get standings reader ≡ Some its → Stands plans consumer reader its.place
 stands pipeline plans standings consumer _ Consumer its there = IsTheConsumer refl
@@ -141,36 +141,36 @@ stands pipeline plans standings consumer _ (Inlined reader own reached placed ca
 
 -- ---- views
 
-pub consumer_is : (schedule : Schedule) (boxes : List (Option SourceBox)) (place : ComputeLevel) (at : LoopPlace) (func : ℕ) (plan : FuncPlan) (consuming : SourceBox)
-    → place ≡ places.At at → at.func ≡ func
+pub consumer_is : (schedule : Schedule) (boxes : List (Option SourceBox)) (level : ComputeLevel) (at : LoopPosition) (func : ℕ) (plan : FuncPlan) (consuming : SourceBox)
+    → level ≡ places.At at → at.func ≡ func
     → slice_get schedule.funcs func ≡ Some plan → slice_get boxes func ≡ Some (Some consuming)
-    → consumer_in schedule boxes place ≡ Some (consumer_loop plan consuming at.inside)
-consumer_is schedule boxes place at func plan consuming is same_func plan_is box_is =
+    → consumer_in schedule boxes level ≡ Some (consumer_loop plan consuming at.inside)
+consumer_is schedule boxes level at func plan consuming is same_func plan_is box_is =
     ap (λ (p : ComputeLevel). consumer_in schedule boxes p) is
     ∙ ap (λ (n : ℕ). consumer_of at (slice_get schedule.funcs n) (box_in (slice_get boxes n))) same_func
     ∙ ap (λ (p : Option FuncPlan). consumer_of at p (box_in (slice_get boxes func))) plan_is
     ∙ ap (λ (b : Option (Option SourceBox)). consumer_of at (Some plan) (box_in b)) box_is
 
-root_view : (plan : FuncPlan) (its : FuncPlacement) (own : SourceBox) (consumer : ConsumerLoop) → its.place ≡ places.Root
-    → view_of (Some plan) (Some its) own (Some consumer) ≡ consumer_view plan.pure own consumer
-root_view plan its own consumer root = ap (λ (p : ComputeLevel). cond (is_root p) (consumer_view plan.pure own consumer) (settled_box consumer.inner own)) root
+root_view : (plan : FuncPlan) (its : FuncPlacement) (source_box : SourceBox) (consumer : ConsumerLoop) → its.place ≡ places.Root
+    → view_of (Some plan) (Some its) source_box (Some consumer) ≡ consumer_view plan.pure source_box consumer
+root_view plan its source_box consumer root = ap (λ (p : ComputeLevel). cond (is_root p) (consumer_view plan.pure source_box consumer) (settled_box consumer.inner source_box)) root
 
-loop_view : (plan : Option FuncPlan) (its : FuncPlacement) (at : LoopPlace) (own : SourceBox) (consumer : ConsumerLoop) → its.place ≡ places.At at
-    → view_of plan (Some its) own (Some consumer) ≡ settled_box consumer.inner own
-loop_view None its at own consumer is = ap (λ (p : ComputeLevel). cond (is_root p) own (settled_box consumer.inner own)) is
-loop_view (Some plan) its at own consumer is = ap (λ (p : ComputeLevel). cond (is_root p) (consumer_view plan.pure own consumer) (settled_box consumer.inner own)) is
+loop_view : (plan : Option FuncPlan) (its : FuncPlacement) (at : LoopPosition) (source_box : SourceBox) (consumer : ConsumerLoop) → its.place ≡ places.At at
+    → view_of plan (Some its) source_box (Some consumer) ≡ settled_box consumer.inner source_box
+loop_view None its at source_box consumer is = ap (λ (p : ComputeLevel). cond (is_root p) source_box (settled_box consumer.inner source_box)) is
+loop_view (Some plan) its at source_box consumer is = ap (λ (p : ComputeLevel). cond (is_root p) (consumer_view plan.pure source_box consumer) (settled_box consumer.inner source_box)) is
 
-lasts_are : (plan : FuncPlan) (own : SourceBox) (id : LoopId) → (consumer_loop plan own id).lasts ≡ lasts_in (extents_of own) plan.pure.splits plan.pure.loops
+lasts_are : (plan : FuncPlan) (source_box : SourceBox) (id : LoopId) → (consumer_loop plan source_box id).lasts ≡ lasts_in (extents_of source_box) plan.pure.splits plan.pure.loops
 unfolding consumer_loop_in
-lasts_are plan own id = refl
+lasts_are plan source_box id = refl
 
-inner_is : (plan : FuncPlan) (own : SourceBox) (id : LoopId) → (consumer_loop plan own id).inner ≡ inner_count id plan.pure.loops
+inner_is : (plan : FuncPlan) (source_box : SourceBox) (id : LoopId) → (consumer_loop plan source_box id).inner ≡ inner_count id plan.pure.loops
 unfolding consumer_loop_in
-inner_is plan own id = refl
+inner_is plan source_box id = refl
 
-view_lasts : (plan : FuncPlan) (own : SourceBox) (consumer : ConsumerLoop) → (consumer_view plan.pure own consumer).lasts ≡ consumer.lasts
+view_lasts : (plan : FuncPlan) (source_box : SourceBox) (consumer : ConsumerLoop) → (consumer_view plan.pure source_box consumer).lasts ≡ consumer.lasts
 unfolding consumer_view_in
-view_lasts plan own consumer = refl
+view_lasts plan source_box consumer = refl
 
 -- ---- the consumer's own arguments
 
@@ -212,8 +212,8 @@ module _ (func : Func) (plan : FuncPlan) (consuming : SourceBox) (planned : IsPl
 
 -- ---- those of a Func at a loop
 
-module _ (plan : FuncPlan) (consuming own : SourceBox) (id inside : LoopId) (iterations : Values) (first : comes_first inside id plan.pure.loops ≡ true)
-    (lasts : own.lasts ≡ lasts_in (extents_of consuming) plan.pure.splits plan.pure.loops) where
+module _ (plan : FuncPlan) (consuming source_box : SourceBox) (id inside : LoopId) (iterations : Values) (first : comes_first inside id plan.pure.loops ≡ true)
+    (lasts : source_box.lasts ≡ lasts_in (extents_of consuming) plan.pure.splits plan.pure.loops) where
   below_from : (from : LoopId) → AreIterationsFrom plan consuming from iterations
       → Below (values_in plan from iterations) (lasts_in (extents_of consuming) plan.pure.splits plan.pure.loops)
   below_from from are =
@@ -223,8 +223,8 @@ module _ (plan : FuncPlan) (consuming own : SourceBox) (id inside : LoopId) (ite
       (iterations_below (extents_of consuming) plan.pure.splits iterations (take n plan.pure.loops) (drop n plan.pure.loops) plan.pure.loops
       (sym (take-append-drop n plan.pure.loops)) are)
 
-  loop_seen : (x y : ℕ) → AreIterationsFrom plan consuming inside iterations → LiesIn (values_in plan inside iterations) own x y
-      → IsSeenIn (values_in plan id iterations) (Some (consumer_loop plan consuming id)) (settled_box (consumer_loop plan consuming id).inner own) x y
+  loop_seen : (x y : ℕ) → AreIterationsFrom plan consuming inside iterations → LiesIn (values_in plan inside iterations) source_box x y
+      → IsSeenIn (values_in plan id iterations) (Some (consumer_loop plan consuming id)) (settled_box (consumer_loop plan consuming id).inner source_box) x y
   loop_seen x y are lies =
       let few : inner_count inside plan.pure.loops ≤ inner_count id plan.pure.loops = count_first inside id plan.pure.loops first in
       let further : AreIterationsFrom plan consuming id iterations =
@@ -234,8 +234,8 @@ module _ (plan : FuncPlan) (consuming own : SourceBox) (id inside : LoopId) (ite
       record {
         produced = subst (λ (l : List ℕ). Below (values_in plan id iterations) l) (sym (lasts_are plan consuming id)) below;
         below = subst (λ (l : List ℕ). Below (values_in plan id iterations) l) (sym lasts) below;
-        lies = subst (λ (n : ℕ). LiesIn (values_in plan id iterations) (settled_box n own) x y) (sym (inner_is plan consuming id))
-            (settled_boxes_hold (inner_count id plan.pure.loops) own (values_in plan inside iterations) (values_in plan id iterations)
+        lies = subst (λ (n : ℕ). LiesIn (values_in plan id iterations) (settled_box n source_box) x y) (sym (inner_is plan consuming id))
+            (settled_boxes_hold (inner_count id plan.pure.loops) source_box (values_in plan inside iterations) (values_in plan id iterations)
             (subst (λ (l : List ℕ). Below (values_in plan inside iterations) l) (sym lasts) (below_from inside are))
             (agree iterations plan.pure.loops (inner_count inside plan.pure.loops) (inner_count id plan.pure.loops) few) x y lies);
       }

@@ -86,20 +86,20 @@ module _ (side : Side) (consumer : Option ConsumerLoop) where
         of_kept view.lasts source (func_asked pipeline.inputs pipeline.funcs flags reader view func) (func_held IsNormal normal_closed pipeline flags rules
         reader func is view normal.0 normal.1)
 
-    by_kept : (reader : ℕ) (source : Source) (own : Option SourceBox) → IsNormalBox own
-        → AreKept (lasts_of consumer) (asked_by side.of pipeline schedule reader consumer source own)
+    by_kept : (reader : ℕ) (source : Source) (source_box : Option SourceBox) → IsNormalBox source_box
+        → AreKept (lasts_of consumer) (asked_by side.of pipeline schedule reader consumer source source_box)
     by_kept reader source None normal = tt
-    by_kept reader source (Some own) normal =
-        func_kept reader source (view_of (slice_get schedule.funcs reader) (slice_get schedule.standings reader) own consumer)
-        (view_normal (slice_get schedule.funcs reader) (slice_get schedule.standings reader) own consumer normal) (slice_get pipeline.funcs reader) refl
+    by_kept reader source (Some source_box) normal =
+        func_kept reader source (view_of (slice_get schedule.funcs reader) (slice_get schedule.standings reader) source_box consumer)
+        (view_normal (slice_get schedule.funcs reader) (slice_get schedule.standings reader) source_box consumer normal) (slice_get pipeline.funcs reader) refl
 
     from_kept : (reader : ℕ) (source : Source) (boxes : List (Option SourceBox)) → AreNormal boxes
         → AreKept (lasts_of consumer) (asked_from side.of pipeline schedule reader consumer source boxes)
     from_kept reader source [] normal = tt
-    from_kept reader source (own ∷ boxes) normal =
-        all_both (IsKept (lasts_of consumer)) (asked_by side.of pipeline schedule reader consumer source own) (asked_from side.of pipeline schedule (reader + 1)
+    from_kept reader source (source_box ∷ boxes) normal =
+        all_both (IsKept (lasts_of consumer)) (asked_by side.of pipeline schedule reader consumer source source_box) (asked_from side.of pipeline schedule (reader + 1)
         consumer source boxes)
-        (by_kept reader source own normal.0) (from_kept (reader + 1) source boxes normal.1)
+        (by_kept reader source source_box normal.0) (from_kept (reader + 1) source boxes normal.1)
 
     -- as picture
     picture_kept : (count : ℕ) (test : Bool) → AreKept (lasts_of consumer) (cond test (pixels_range (lasts_of consumer) count ∷ []) [])
@@ -109,120 +109,126 @@ module _ (side : Side) (consumer : Option ConsumerLoop) where
     picture_kept count false = tt
 
     -- by its own updates
-    module _ (place : ℕ) (func : Func) (func_is : slice_get pipeline.funcs place ≡ Some func) where
+    module _ (func_index : ℕ) (func : Func) (func_is : slice_get pipeline.funcs func_index ≡ Some func) where
       update_kept : (at : ℕ) (update : Update) → slice_get func.updates at ≡ Some update → (test : Bool)
-          → AreKept (lasts_of consumer) (cond test [] (asked_of side.of consumer no_loops (sources.Func place) (update_asked pipeline.inputs pipeline.funcs
-          flags place unplaced update)))
+          → AreKept (lasts_of consumer) (cond test [] (asked_of side.of consumer no_loops (sources.Func func_index) (update_asked pipeline.inputs pipeline.funcs
+          flags func_index unplaced update)))
       update_kept at update update_is true = tt
       update_kept at update update_is false =
-          of_kept no_loops (sources.Func place) (update_asked pipeline.inputs pipeline.funcs flags place unplaced update)
-          (unplaced_held IsNormal normal_closed pipeline flags rules place func func_is at update update_is)
+          of_kept no_loops (sources.Func func_index) (update_asked pipeline.inputs pipeline.funcs flags func_index unplaced update)
+          (unplaced_held IsNormal normal_closed pipeline flags rules func_index func func_is at update update_is)
 
       updates_kept : (updates : List Update) (before : ℕ) → ((k : ℕ) → slice_get func.updates (before + k) ≡ slice_get updates k)
-          → AreKept (lasts_of consumer) (asked_by_updates side.of pipeline schedule side.is_in_place place consumer updates)
+          → AreKept (lasts_of consumer) (asked_by_updates side.of pipeline schedule side.is_in_place func_index consumer updates)
       updates_kept [] before from = tt
       updates_kept (update ∷ others) before from =
           let here : before + 0 ≡ before = omega arith in
           let next : (k : ℕ) → before + 1 + k ≡ before + suc k = λ k. omega arith in
-          all_both (IsKept (lasts_of consumer)) _ (asked_by_updates side.of pipeline schedule side.is_in_place place consumer others)
+          all_both (IsKept (lasts_of consumer)) _ (asked_by_updates side.of pipeline schedule side.is_in_place func_index consumer others)
           (update_kept before update (ap (λ (n : ℕ). slice_get func.updates n) (sym here) ∙ from 0) (side.is_in_place update))
           (updates_kept others (before + 1) (λ k. ap (λ (n : ℕ). slice_get func.updates n) (next k) ∙ from (suc k)))
 
-      all_kept : (boxes : List (Option SourceBox)) → AreNormal boxes → AreKept (lasts_of consumer) (all_asked side consumer pipeline schedule place func boxes)
+      all_kept : (boxes : List (Option SourceBox)) → AreNormal boxes → AreKept (lasts_of consumer) (all_asked side consumer pipeline schedule func_index func boxes)
       all_kept boxes normal =
           let here : (k : ℕ) → 0 + k ≡ k = λ k. omega arith in
-          let updates = asked_by_updates side.of pipeline schedule side.is_in_place place consumer func.updates in
-          let later = asked_from side.of pipeline schedule (place + 1) consumer (sources.Func place) boxes in
-          all_both (IsKept (lasts_of consumer)) (wanted_of pipeline.output place consumer (side.count pipeline.output)) (updates ++ later)
-          (picture_kept (side.count pipeline.output) (place == pipeline.output.func))
+          let updates = asked_by_updates side.of pipeline schedule side.is_in_place func_index consumer func.updates in
+          let later = asked_from side.of pipeline schedule (func_index + 1) consumer (sources.Func func_index) boxes in
+          all_both (IsKept (lasts_of consumer)) (wanted_of pipeline.output func_index consumer (side.count pipeline.output)) (updates ++ later)
+          (picture_kept (side.count pipeline.output) (func_index == pipeline.output.func))
           (all_both (IsKept (lasts_of consumer)) updates later
-          (updates_kept func.updates 0 (λ k. ap (λ (n : ℕ). slice_get func.updates n) (here k))) (from_kept (place + 1) (sources.Func place) boxes normal))
+          (updates_kept func.updates 0 (λ k. ap (λ (n : ℕ). slice_get func.updates n) (here k))) (from_kept (func_index + 1) (sources.Func func_index) boxes normal))
 
 -- ---- boxes
 
-record IsOf (lasts : List ℕ) (a b : Option Range) (own : SourceBox) : Type 0 where
-  pub x : a ≡ Some own.x
-  pub y : b ≡ Some own.y
-  pub lasts_are : own.lasts ≡ lasts
+record IsOf (lasts : List ℕ) (a b : Option Range) (source_box : SourceBox) : Type 0 where
+  pub x : a ≡ Some source_box.x
+  pub y : b ≡ Some source_box.y
+  pub lasts_are : source_box.lasts ≡ lasts
 
-of_parts : (lasts : List ℕ) (a b : Option Range) (own : SourceBox) → Some own ≡ box_of lasts a b → IsOf lasts a b own
-of_parts lasts None b own e = absurd cc
-of_parts lasts (Some x) None own e = absurd cc
-of_parts lasts (Some x) (Some y) own e =
-    subst (λ (o : SourceBox). IsOf lasts (Some x) (Some y) o) (got (record { x = x; y = y; lasts = lasts }) own (sym e))
+of_parts : (lasts : List ℕ) (a b : Option Range) (source_box : SourceBox) → Some source_box ≡ box_of lasts a b
+    → IsOf lasts a b source_box
+of_parts lasts None b source_box e = absurd cc
+of_parts lasts (Some x) None source_box e = absurd cc
+of_parts lasts (Some x) (Some y) source_box e =
+    subst (λ (o : SourceBox). IsOf lasts (Some x) (Some y) o)
+    (got (record { x = x; y = y; lasts = lasts }) source_box (sym e))
     (record { x = refl; y = refl; lasts_are = refl })
 
 -- a box whose sides are least
-record AreLeast (lasts : List ℕ) (columns rows : List Range) (own : SourceBox) : Type 0 where
-  pub normal : IsNormalBox (Some own)
-  pub lasts_are : own.lasts ≡ lasts
-  pub least : IsLeast lasts columns own.x × IsLeast lasts rows own.y
+record AreLeast (lasts : List ℕ) (columns rows : List Range) (source_box : SourceBox) : Type 0 where
+  pub normal : IsNormalBox (Some source_box)
+  pub lasts_are : source_box.lasts ≡ lasts
+  pub least : IsLeast lasts columns source_box.x × IsLeast lasts rows source_box.y
 
 least_by : (lasts : List ℕ) (spread : Spread) (columns rows : List Range) → AreKept lasts columns → AreKept lasts rows → spread.x ≡ folded lasts None columns
     → spread.y ≡ folded lasts None rows
-    → (own : SourceBox) → Some own ≡ box_of lasts spread.x spread.y → AreLeast lasts columns rows own
-least_by lasts spread columns rows kept_x kept_y x_is y_is own e =
-    let parts = of_parts lasts spread.x spread.y own e in
-    let x = folded_least lasts columns kept_x own.x (sym x_is ∙ parts.x) in
-    let y = folded_least lasts rows kept_y own.y (sym y_is ∙ parts.y) in
+    → (source_box : SourceBox) → Some source_box ≡ box_of lasts spread.x spread.y
+    → AreLeast lasts columns rows source_box
+least_by lasts spread columns rows kept_x kept_y x_is y_is source_box e =
+    let parts = of_parts lasts spread.x spread.y source_box e in
+    let x = folded_least lasts columns kept_x source_box.x (sym x_is ∙ parts.x) in
+    let y = folded_least lasts rows kept_y source_box.y (sym y_is ∙ parts.y) in
     record { normal = (x.0, y.0); lasts_are = parts.lasts_are; least = (x.1, y.1) }
 
 module _ (pipeline : Pipeline) (schedule : Schedule) (rules : IsWellFormed pipeline) where
   abbrev flags_here : List Bool
   flags_here = flags_of schedule.standings
 
-  func_least : (place : ℕ) (func : Func) → slice_get pipeline.funcs place ≡ Some func → (behind : List (Option SourceBox)) → AreNormal behind
+  func_least : (func_index : ℕ) (func : Func) → slice_get pipeline.funcs func_index ≡ Some func → (behind : List (Option SourceBox)) → AreNormal behind
       → (consumer : Option ConsumerLoop)
-      → (own : SourceBox) → Some own ≡ computed_box pipeline schedule flags_here place func behind consumer
+      → (source_box : SourceBox) → Some source_box ≡ computed_box pipeline schedule flags_here func_index func behind
+      consumer
       → AreLeast (lasts_of consumer)
-      (all_asked first_side consumer pipeline schedule place func behind) (all_asked second_side consumer pipeline schedule place func behind) own
-  func_least place func func_is behind normal consumer own e =
+      (all_asked first_side consumer pipeline schedule func_index func behind) (all_asked second_side consumer pipeline schedule func_index func behind) source_box
+  func_least func_index func func_is behind normal consumer source_box e =
       least_by (lasts_of consumer)
-      (read_from pipeline schedule flags_here (place + 1) consumer (sources.Func place) behind (own_updates pipeline flags_here place consumer
-      (wanted pipeline.output place consumer) func.updates)) _ _
-      (all_kept first_side consumer pipeline schedule rules place func func_is behind normal) (all_kept second_side consumer pipeline schedule rules place func
+      (read_from pipeline schedule flags_here (func_index + 1) consumer (sources.Func func_index) behind (own_updates pipeline flags_here func_index consumer
+      (wanted pipeline.output func_index consumer) func.updates)) _ _
+      (all_kept first_side consumer pipeline schedule rules func_index func func_is behind normal) (all_kept second_side consumer pipeline schedule rules func_index func
       func_is behind normal)
-      (all_is first_side consumer pipeline schedule place func behind) (all_is second_side consumer pipeline schedule place func behind) own e
+      (all_is first_side consumer pipeline schedule func_index func behind) (all_is second_side consumer pipeline schedule func_index func behind) source_box e
 
   -- ---- all boxes are normal
 
-  module _ (place : ℕ) (func : Func) (func_is : slice_get pipeline.funcs place ≡ Some func) (behind : List (Option SourceBox)) (normal : AreNormal behind) where
-    computed_normal : (consumer : Option ConsumerLoop) (own : Option SourceBox) → own ≡ computed_box pipeline schedule flags_here place func behind consumer
-        → IsNormalBox own
+  module _ (func_index : ℕ) (func : Func) (func_is : slice_get pipeline.funcs func_index ≡ Some func) (behind : List (Option SourceBox)) (normal : AreNormal behind) where
+    computed_normal : (consumer : Option ConsumerLoop) (source_box : Option SourceBox) → source_box ≡ computed_box pipeline schedule flags_here func_index func behind consumer
+        → IsNormalBox source_box
     computed_normal consumer None e = tt
-    computed_normal consumer (Some own) e = (func_least place func func_is behind normal consumer own e).normal
+    computed_normal consumer (Some source_box) e = (func_least func_index func func_is behind normal consumer source_box
+        e).normal
 
-    placed_normal : (where_ : ComputeLevel) → IsNormalBox (placed_box pipeline schedule flags_here place func behind where_)
+    placed_normal : (where_ : ComputeLevel) → IsNormalBox (placed_box pipeline schedule flags_here func_index func behind where_)
     placed_normal places.Root = computed_normal None _ refl
-    placed_normal (places.At at) = computed_normal (consumer_of at (slice_get schedule.funcs at.func) (box_at at.func (place + 1) behind)) _ refl
+    placed_normal (places.At at) = computed_normal (consumer_of at (slice_get schedule.funcs at.func) (box_at at.func (func_index + 1) behind)) _ refl
     placed_normal places.Inlined = tt
     placed_normal places.Nowhere = tt
 
-    reached_normal : (test : Bool) (own : Option SourceBox) → IsNormalBox own → IsNormalBox (cond test own None)
-    reached_normal true own is = is
-    reached_normal false own is = tt
+    reached_normal : (test : Bool) (source_box : Option SourceBox) → IsNormalBox source_box
+        → IsNormalBox (cond test source_box None)
+    reached_normal true source_box is = is
+    reached_normal false source_box is = tt
 
-    func_normal : (standing : Option FuncPlacement) → IsNormalBox (func_box pipeline schedule flags_here place func behind standing)
+    func_normal : (placement : Option FuncPlacement) → IsNormalBox (func_box pipeline schedule flags_here func_index func behind placement)
     func_normal None = tt
-    func_normal (Some standing) = reached_normal standing.is_reached _ (placed_normal standing.place)
+    func_normal (Some placement) = reached_normal placement.is_reached _ (placed_normal placement.place)
 
-  step : (place : ℕ) (func : Func) → slice_get pipeline.funcs place ≡ Some func → (rest : Option (List (Option SourceBox))) (found : List (Option SourceBox))
-      → ((behind : List (Option SourceBox)) → rest ≡ Some behind → AreNormal behind) → with_func pipeline schedule flags_here place func rest ≡ Some found
-      → AreNormal found
-  step place func func_is None found next e = absurd cc
-  step place func func_is (Some behind) found next e =
+  step : (func_index : ℕ) (func : Func) → slice_get pipeline.funcs func_index ≡ Some func → (rest : Option (List (Option SourceBox))) (later_boxes : List (Option SourceBox))
+      → ((behind : List (Option SourceBox)) → rest ≡ Some behind → AreNormal behind) → with_func pipeline schedule flags_here func_index func rest ≡ Some later_boxes
+      → AreNormal later_boxes
+  step func_index func func_is None later_boxes next e = absurd cc
+  step func_index func func_is (Some behind) later_boxes next e =
       let normal = next behind refl in
-      subst AreNormal (in_front_is (func_box pipeline schedule flags_here place func behind (slice_get schedule.standings place)) behind found e)
-      (func_normal place func func_is behind normal (slice_get schedule.standings place), normal)
+      subst AreNormal (in_front_is (func_box pipeline schedule flags_here func_index func behind (slice_get schedule.standings func_index)) behind later_boxes e)
+      (func_normal func_index func func_is behind normal (slice_get schedule.standings func_index), normal)
 
-  from_normal : (place : ℕ) (funcs : List Func) → ((k : ℕ) → slice_get pipeline.funcs (place + k) ≡ slice_get funcs k) → (found : List (Option SourceBox))
-      → boxes_from pipeline schedule flags_here place funcs ≡ Some found → AreNormal found
-  from_normal place [] from found e = subst AreNormal (got [] found e) tt
-  from_normal place (func ∷ others) from found e =
-      let here : place + 0 ≡ place = omega arith in
-      let next : (k : ℕ) → place + 1 + k ≡ place + suc k = λ k. omega arith in
-      step place func (ap (λ (n : ℕ). slice_get pipeline.funcs n) (sym here) ∙ from 0) (boxes_from pipeline schedule flags_here (place + 1) others) found
-      (λ behind is. from_normal (place + 1) others (λ k. ap (λ (n : ℕ). slice_get pipeline.funcs n) (next k) ∙ from (suc k)) behind is) e
+  from_normal : (func_index : ℕ) (funcs : List Func) → ((k : ℕ) → slice_get pipeline.funcs (func_index + k) ≡ slice_get funcs k) → (later_boxes : List (Option SourceBox))
+      → boxes_from pipeline schedule flags_here func_index funcs ≡ Some later_boxes → AreNormal later_boxes
+  from_normal func_index [] from later_boxes e = subst AreNormal (got [] later_boxes e) tt
+  from_normal func_index (func ∷ others) from later_boxes e =
+      let here : func_index + 0 ≡ func_index = omega arith in
+      let next : (k : ℕ) → func_index + 1 + k ≡ func_index + suc k = λ k. omega arith in
+      step func_index func (ap (λ (n : ℕ). slice_get pipeline.funcs n) (sym here) ∙ from 0) (boxes_from pipeline schedule flags_here (func_index + 1) others) later_boxes
+      (λ behind is. from_normal (func_index + 1) others (λ k. ap (λ (n : ℕ). slice_get pipeline.funcs n) (next k) ∙ from (suc k)) behind is) e
 
   boxes_normal : (boxes : Boxes) → inferred pipeline schedule ≡ Ok boxes → AreNormal boxes.funcs
   boxes_normal boxes is =
@@ -251,13 +257,13 @@ dropped_normal zero boxes normal = normal
 dropped_normal (suc k) [] normal = tt
 dropped_normal (suc k) (own ∷ boxes) normal = dropped_normal k boxes normal.1
 
-same_computed : (pipeline : Pipeline) (schedule : Schedule) (flags : List Bool) (place : ℕ) (consumer : Option ConsumerLoop) (func other : Func)
+same_computed : (pipeline : Pipeline) (schedule : Schedule) (flags : List Bool) (func_index : ℕ) (consumer : Option ConsumerLoop) (func other : Func)
     (some more : List (Option SourceBox))
-    → func ≡ other → some ≡ more → computed_box pipeline schedule flags place func some consumer ≡ computed_box pipeline schedule flags place other more
+    → func ≡ other → some ≡ more → computed_box pipeline schedule flags func_index func some consumer ≡ computed_box pipeline schedule flags func_index other more
     consumer
-same_computed pipeline schedule flags place consumer func other some more same_func same_boxes =
-    ap (λ (f : Func). computed_box pipeline schedule flags place f some consumer) same_func
-    ∙ ap (λ (l : List (Option SourceBox)). computed_box pipeline schedule flags place other l consumer) same_boxes
+same_computed pipeline schedule flags func_index consumer func other some more same_func same_boxes =
+    ap (λ (f : Func). computed_box pipeline schedule flags func_index f some consumer) same_func
+    ∙ ap (λ (l : List (Option SourceBox)). computed_box pipeline schedule flags func_index other l consumer) same_boxes
 
 -- ---- the laws
 
@@ -326,21 +332,21 @@ module _ (pipeline : Pipeline) (schedule : Schedule) (consumer : Option Consumer
   as_many_func reader view None = refl
   as_many_func reader view (Some func) = as_many_of view.lasts (func_asked pipeline.inputs pipeline.funcs (flags_of schedule.standings) reader view func)
 
-  as_many_by : (reader : ℕ) (own : Option SourceBox) → length (asked_by (λ read. read.x) pipeline schedule reader consumer source own)
-      ≡ length (asked_by (λ read. read.y) pipeline schedule reader consumer source own)
+  as_many_by : (reader : ℕ) (source_box : Option SourceBox) → length (asked_by (λ read. read.x) pipeline schedule reader consumer source source_box)
+      ≡ length (asked_by (λ read. read.y) pipeline schedule reader consumer source source_box)
   as_many_by reader None = refl
-  as_many_by reader (Some own) = as_many_func reader (view_of (slice_get schedule.funcs reader) (slice_get schedule.standings reader) own consumer)
+  as_many_by reader (Some source_box) = as_many_func reader (view_of (slice_get schedule.funcs reader) (slice_get schedule.standings reader) source_box consumer)
       (slice_get pipeline.funcs reader)
 
   as_many : (reader : ℕ) (boxes : List (Option SourceBox)) → length (asked_from (λ read. read.x) pipeline schedule reader consumer source boxes)
       ≡ length (asked_from (λ read. read.y) pipeline schedule reader consumer source boxes)
   as_many reader [] = refl
-  as_many reader (own ∷ boxes) =
-      length-append (asked_by (λ read. read.x) pipeline schedule reader consumer source own) (asked_from (λ read. read.x) pipeline schedule (reader + 1)
+  as_many reader (source_box ∷ boxes) =
+      length-append (asked_by (λ read. read.x) pipeline schedule reader consumer source source_box) (asked_from (λ read. read.x) pipeline schedule (reader + 1)
       consumer source boxes)
-      ∙ ap (λ (n : ℕ). n + length (asked_from (λ read. read.x) pipeline schedule (reader + 1) consumer source boxes)) (as_many_by reader own)
-      ∙ ap (λ (n : ℕ). length (asked_by (λ read. read.y) pipeline schedule reader consumer source own) + n) (as_many (reader + 1) boxes)
-      ∙ sym (length-append (asked_by (λ read. read.y) pipeline schedule reader consumer source own) (asked_from (λ read. read.y) pipeline schedule (reader + 1)
+      ∙ ap (λ (n : ℕ). n + length (asked_from (λ read. read.x) pipeline schedule (reader + 1) consumer source boxes)) (as_many_by reader source_box)
+      ∙ ap (λ (n : ℕ). length (asked_by (λ read. read.y) pipeline schedule reader consumer source source_box) + n) (as_many (reader + 1) boxes)
+      ∙ sym (length-append (asked_by (λ read. read.y) pipeline schedule reader consumer source source_box) (asked_from (λ read. read.y) pipeline schedule (reader + 1)
       consumer source boxes))
 
 pub inputs_without_boxes : InputsWithoutBoxes

@@ -11,7 +11,7 @@ use Rattle.halide_pipeline.specs.Points.{Point}
 use Rattle.schedule_lines.specs.declared.stages.LoopId.{LoopId}
 use Rattle.schedule.specs.declared.plans.FuncPlan.{FuncPlan}
 use Rattle.schedule.specs.declared.schedules.Schedule.{Schedule}
-use Rattle.schedule.specs.declared.placements.LoopPlace.{LoopPlace}
+use Rattle.schedule.specs.declared.placements.LoopPosition.{LoopPosition}
 use Rattle.schedule.specs.declared.placements.ComputeLevel.{ComputeLevel}
 use Rattle.schedule.specs.declared.placements.ComputeLevel.TheVariants as places
 use Rattle.schedule.specs.declared.placements.FuncPlacement.{FuncPlacement}
@@ -48,20 +48,20 @@ given values source own Within (point ∷ points) within boxed = (
 -- a reader at root, or at a loop of a later Func
 computed_place : (pipeline : Pipeline) (schedule : Schedule) → IsAccepted pipeline schedule → (reader : ℕ) (its : FuncPlacement)
     → slice_get schedule.standings reader ≡ Some its
-    → (func : Func) (plan : FuncPlan) (consuming : SourceBox) (id : LoopId) (iterations : Values) (place : ComputeLevel) (own : SourceBox) (x y : ℕ) → its.place ≡ place
-    → MayBeArguments func plan consuming id iterations place own x y → IsComputed reader place × (is_inlined place ≡ false)
-computed_place pipeline schedule accepted reader its there func plan consuming id iterations places.Root own x y placed may_be = (tt, refl)
-computed_place pipeline schedule accepted reader its there func plan consuming id iterations (places.At at) own x y placed may_be =
+    → (func : Func) (plan : FuncPlan) (consuming : SourceBox) (id : LoopId) (iterations : Values) (level : ComputeLevel) (source_box : SourceBox) (x y : ℕ) → its.place ≡ level
+    → MayBeArguments func plan consuming id iterations level source_box x y → IsComputed reader level × (is_inlined level ≡ false)
+computed_place pipeline schedule accepted reader its there func plan consuming id iterations places.Root source_box x y placed may_be = (tt, refl)
+computed_place pipeline schedule accepted reader its there func plan consuming id iterations (places.At at) source_box x y placed may_be =
     (omega (arith, (numbered_at (HasConsumer pipeline schedule.funcs) 0 schedule.standings accepted.consumers reader its there at placed).later), refl)
-computed_place pipeline schedule accepted reader its there func plan consuming id iterations places.Inlined own x y placed may_be = absurd may_be
-computed_place pipeline schedule accepted reader its there func plan consuming id iterations places.Nowhere own x y placed may_be = absurd may_be
+computed_place pipeline schedule accepted reader its there func plan consuming id iterations places.Inlined source_box x y placed may_be = absurd may_be
+computed_place pipeline schedule accepted reader its there func plan consuming id iterations places.Nowhere source_box x y placed may_be = absurd may_be
 
 -- ---- each point of the Func at a loop is read within that loop
 
-module _ (pipeline : Pipeline) (schedule : Schedule) (accepted : IsAccepted pipeline schedule) (place : ℕ) (sought : FuncPlacement)
-    (there : slice_get schedule.standings place ≡ Some sought)
-    (at : LoopPlace) (placed : sought.place ≡ places.At at) (reader : ℕ) (its : FuncPlacement) (its_there : IsReached schedule.standings reader its)
-    (computed : IsComputed reader its.place) (before : place < reader) where
+module _ (pipeline : Pipeline) (schedule : Schedule) (accepted : IsAccepted pipeline schedule) (func_index : ℕ) (sought : FuncPlacement)
+    (there : slice_get schedule.standings func_index ≡ Some sought)
+    (at : LoopPosition) (placed : sought.place ≡ places.At at) (reader : ℕ) (its : FuncPlacement) (its_there : IsReached schedule.standings reader its)
+    (computed : IsComputed reader its.place) (before : func_index < reader) where
   abbrev Within : Type 0
   Within = StandsWithin pipeline schedule.funcs schedule.standings at reader
 
@@ -69,23 +69,23 @@ module _ (pipeline : Pipeline) (schedule : Schedule) (accepted : IsAccepted pipe
   stands_so (HasLoop e) = subst (λ (n : ℕ). StandsWithin pipeline schedule.funcs schedule.standings at n) (sym e) Consumer
   stands_so (IsWithin own inner reached inner_is within) = Computed reader own inner reached inner_is within
 
-  by_read : (func : ℕ) → func ≡ place → ReadsThrough pipeline schedule.standings reader func → Within
+  by_read : (func : ℕ) → func ≡ func_index → ReadsThrough pipeline schedule.standings reader func → Within
   by_read func is through =
       let found = readers_stand_within pipeline schedule accepted reader its its_there computed func through in
       let own_is : found.own ≡ sought = same found.own sought (sym found.there.standing ∙ ap (λ (n : ℕ). slice_get schedule.standings n) is ∙ there) in
       stands_so (found.within at (ap (λ (s : FuncPlacement). s.place) own_is ∙ placed))
 
-  one_within : (count : ℕ) (s : Source) → IsReadThrough pipeline schedule.standings reader count s → same_source s (sources.Func place) ≡ true → Within
+  one_within : (count : ℕ) (s : Source) → IsReadThrough pipeline schedule.standings reader count s → same_source s (sources.Func func_index) ≡ true → Within
   one_within count (sources.Input input) read e = absurd cc
   one_within count (sources.Func func) read e =
-      let is : func ≡ place = eqb-true func place e in
+      let is : func ≡ func_index = eqb-true func func_index e in
       elim (read.1.1) [
         | inl own ↦ absurd (omega (arith, before, is, own))
         | inr through ↦ by_read func is through
       ]
 
   all_within : (count : ℕ) (points : List Point) → AreReadThrough pipeline schedule.standings reader count points
-      → AllByRecursion (λ point. same_source point.source (sources.Func place) ≡ true → Within) points
+      → AllByRecursion (λ point. same_source point.source (sources.Func func_index) ≡ true → Within) points
   all_within count [] all = tt
   all_within count (point ∷ points) all = (one_within count point.source all.0, all_within count points all.1)
 

@@ -64,9 +64,10 @@ one_normal true m n first second = first
 one_normal false m n first second = second
 
 module _ (extents : Extents) (splits : List Split) (loops : List Loop) (inner : ℕ) where
-  multiple_normal : (variable : Variable) (own : Option Loop) → IsNormalMultiple (multiple_of splits variable own)
+  multiple_normal : (variable : Variable) (stage_loop : Option Loop)
+      → IsNormalMultiple (multiple_of splits variable stage_loop)
   multiple_normal variable None = omega arith
-  multiple_normal variable (Some own) = one_normal (same_variable own.variable variable) (record { more = strides splits own.id; less = 0 }) zero_multiple
+  multiple_normal variable (Some stage_loop) = one_normal (same_variable stage_loop.variable variable) (record { more = strides splits stage_loop.id; less = 0 }) zero_multiple
       (omega arith) (omega arith)
 
   at_normal : (variable : Variable) (at : ℕ) → IsNormalMultiple (multiple_at splits loops variable inner at)
@@ -92,23 +93,26 @@ chosen_normal : (test : ℕ → Bool) (at : ℕ) (base : List Multiple) → IsNo
 chosen_normal test at [] normal = tt
 chosen_normal test at (own ∷ others) normal = (one_normal (test at) own zero_multiple normal.0 (omega arith), chosen_normal test (at + 1) others normal.1)
 
-root_normal : (plan : Option FuncPlan) (own : SourceBox) (consumer : ConsumerLoop) → IsNormalBox (Some own)
-    → IsNormalBox (Some (view_at_root plan own consumer))
+root_normal : (plan : Option FuncPlan) (source_box : SourceBox) (consumer : ConsumerLoop)
+    → IsNormalBox (Some source_box)
+    → IsNormalBox (Some (view_at_root plan source_box consumer))
 unfolding consumer_view_in
-root_normal None own consumer normal = normal
-root_normal (Some plan) own consumer normal =
+root_normal None source_box consumer normal = normal
+root_normal (Some plan) source_box consumer normal =
     let inner = inner_count consumer.inside plan.pure.loops in (
-      argument_normal (extents_of own) plan.pure.splits plan.pure.loops inner consumer.lasts variables.FirstArgument own.x,
-      argument_normal (extents_of own) plan.pure.splits plan.pure.loops inner consumer.lasts variables.SecondArgument own.y,
+      argument_normal (extents_of source_box) plan.pure.splits plan.pure.loops inner consumer.lasts variables.FirstArgument source_box.x,
+      argument_normal (extents_of source_box) plan.pure.splits plan.pure.loops inner consumer.lasts variables.SecondArgument source_box.y,
     )
 
-view_by : (plan : Option FuncPlan) (own : SourceBox) (consumer : ConsumerLoop) → IsNormalBox (Some own) → (test : Bool)
-    → IsNormalBox (Some (cond test (view_at_root plan own consumer) (settled_box consumer.inner own)))
-view_by plan own consumer normal true = root_normal plan own consumer normal
-view_by plan own consumer normal false =
-    (chosen_normal (λ at. not (nat_lt at consumer.inner)) 0 own.x.base normal.0, chosen_normal (λ at. not (nat_lt at consumer.inner)) 0 own.y.base normal.1)
+view_by : (plan : Option FuncPlan) (source_box : SourceBox) (consumer : ConsumerLoop) → IsNormalBox (Some source_box)
+    → (test : Bool)
+    → IsNormalBox (Some (cond test (view_at_root plan source_box consumer) (settled_box consumer.inner source_box)))
+view_by plan source_box consumer normal true = root_normal plan source_box consumer normal
+view_by plan source_box consumer normal false =
+    (chosen_normal (λ at. not (nat_lt at consumer.inner)) 0 source_box.x.base normal.0, chosen_normal (λ at. not (nat_lt at consumer.inner)) 0 source_box.y.base normal.1)
 
-pub view_normal : (plan : Option FuncPlan) (standing : Option FuncPlacement) (own : SourceBox) (consumer : Option ConsumerLoop) → IsNormalBox (Some own)
-    → IsNormalBox (Some (view_of plan standing own consumer))
-view_normal plan standing own None normal = normal
-view_normal plan standing own (Some consumer) normal = view_by plan own consumer normal (is_root_at standing)
+pub view_normal : (plan : Option FuncPlan) (placement : Option FuncPlacement) (source_box : SourceBox) (consumer : Option ConsumerLoop) → IsNormalBox (Some source_box)
+    → IsNormalBox (Some (view_of plan placement source_box consumer))
+view_normal plan placement source_box None normal = normal
+view_normal plan placement source_box (Some consumer) normal = view_by plan source_box consumer normal
+    (is_root_at placement)

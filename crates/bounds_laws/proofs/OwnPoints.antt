@@ -21,19 +21,19 @@ one_lies : (lasts values : List ℕ) (range : Range) (in_place : Bool) (argument
 one_lies lasts values range true argument x lies same other = subst (λ (n : ℕ). Lies lasts values range n) (sym (same refl)) (lies refl)
 one_lies lasts values range false argument x lies same other = other refl
 
-module _ (reader : ℕ) (update : Update) (values : List ℕ) (own : SourceBox) (x y : ℕ) (lies : LiesPartly values own (is_first_in_place update)
+module _ (reader : ℕ) (update : Update) (values : List ℕ) (source_box : SourceBox) (x y : ℕ) (lies : LiesPartly values source_box (is_first_in_place update)
     (is_second_in_place update) x y) where
   joined : (points : List Point)
       → AllByRecursion
-      (λ point. same_source point.source (sources.Func reader) ≡ true → IsPartlyBoxed values (Some (Some own)) (not (is_first_in_place update))
+      (λ point. same_source point.source (sources.Func reader) ≡ true → IsPartlyBoxed values (Some (Some source_box)) (not (is_first_in_place update))
       (not (is_second_in_place update)) point.x point.y) points
       → AllByRecursion (λ point. same_source point.source (sources.Func reader) ≡ true → IsInPlace update x y point) points
-      → AreBoxed values (sources.Func reader) (Some (Some own)) points
+      → AreBoxed values (sources.Func reader) (Some (Some source_box)) points
   joined [] out stay = tt
   joined (point ∷ points) out stay = (
     λ e. record {
-      first = one_lies own.lasts values own.x (is_first_in_place update) x point.x lies.first (stay.0 e).first (out.0 e).first;
-      second = one_lies own.lasts values own.y (is_second_in_place update) y point.y lies.second (stay.0 e).second (out.0 e).second;
+      first = one_lies source_box.lasts values source_box.x (is_first_in_place update) x point.x lies.first (stay.0 e).first (out.0 e).first;
+      second = one_lies source_box.lasts values source_box.y (is_second_in_place update) y point.y lies.second (stay.0 e).second (out.0 e).second;
     },
     joined points out.1 stay.1,
   )

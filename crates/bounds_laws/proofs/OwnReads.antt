@@ -36,25 +36,25 @@ use Rattle.bounds_laws.proofs.UpdateReads.{update_lies}
 
 -- ---- the box of the Func at a place is what is gathered for it
 
-module _ (pipeline : Pipeline) (schedule : Schedule) (boxes : Boxes) (is : inferred pipeline schedule ≡ Ok boxes) (place : ℕ) (sought : FuncPlacement)
-    (there : slice_get schedule.standings place ≡ Some sought)
-    (reached : sought.is_reached ≡ true) (computed : IsComputed place sought.place) (consumer : Option ConsumerLoop) (consumer_is : consumer_in schedule
+module _ (pipeline : Pipeline) (schedule : Schedule) (boxes : Boxes) (is : inferred pipeline schedule ≡ Ok boxes) (func_index : ℕ) (sought : FuncPlacement)
+    (there : slice_get schedule.standings func_index ≡ Some sought)
+    (reached : sought.is_reached ≡ true) (computed : IsComputed func_index sought.place) (consumer : Option ConsumerLoop) (consumer_is : consumer_in schedule
     boxes.funcs sought.place ≡ consumer) where
   flags : List Bool
   flags = flags_of schedule.standings
 
   pub record IsGathered (other : Option SourceBox) : Type 0 where
     pub func : Func
-    pub func_is : slice_get pipeline.funcs place ≡ Some func
+    pub func_is : slice_get pipeline.funcs func_index ≡ Some func
     pub behind : List (Option SourceBox)
-    pub later : (n : ℕ) → slice_get behind n ≡ slice_get boxes.funcs (place + 1 + n)
-    pub box_is : other ≡ spread_box consumer (read_from pipeline schedule (flags_of schedule.standings) (place + 1) consumer (sources.Func place) behind
-        (own_updates pipeline (flags_of schedule.standings) place consumer (wanted pipeline.output place consumer) func.updates))
+    pub later : (n : ℕ) → slice_get behind n ≡ slice_get boxes.funcs (func_index + 1 + n)
+    pub box_is : other ≡ spread_box consumer (read_from pipeline schedule (flags_of schedule.standings) (func_index + 1) consumer (sources.Func func_index) behind
+        (own_updates pipeline (flags_of schedule.standings) func_index consumer (wanted pipeline.output func_index consumer) func.updates))
 
-  pub gathered_at : (other : Option SourceBox) → slice_get boxes.funcs place ≡ Some other → IsGathered other
+  pub gathered_at : (other : Option SourceBox) → slice_get boxes.funcs func_index ≡ Some other → IsGathered other
   unfolding flags
   gathered_at other e =
-      let at = boxes_at pipeline schedule flags 0 pipeline.funcs boxes.funcs (are_found pipeline schedule boxes is).funcs place other e in
+      let at = boxes_at pipeline schedule flags 0 pipeline.funcs boxes.funcs (are_found pipeline schedule boxes is).funcs func_index other e in
       record {
         func = at.func;
         func_is = at.func_is;
@@ -62,8 +62,8 @@ module _ (pipeline : Pipeline) (schedule : Schedule) (boxes : Boxes) (is : infer
         later = at.later;
         box_is = at.own_is
             ∙ ap (λ (n : ℕ). func_box pipeline schedule flags n at.func at.behind (slice_get schedule.standings n)) (omega arith)
-            ∙ sought_is pipeline schedule flags boxes.funcs place at.func at.behind at.later sought there reached computed
-            ∙ ap (λ (h : Option ConsumerLoop). computed_box pipeline schedule flags place at.func at.behind h) consumer_is;
+            ∙ sought_is pipeline schedule flags boxes.funcs func_index at.func at.behind at.later sought there reached computed
+            ∙ ap (λ (h : Option ConsumerLoop). computed_box pipeline schedule flags func_index at.func at.behind h) consumer_is;
       }
 
 -- ---- the output's picture
@@ -126,32 +126,32 @@ output_lies pipeline schedule boxes rules is sought there reached root x y insid
 
 -- ---- what updates read of their own Func
 
-module _ (pipeline : Pipeline) (flags : List Bool) (place : ℕ) (consumer : Option ConsumerLoop) (values : List ℕ) (below : Below (values_for consumer values)
+module _ (pipeline : Pipeline) (flags : List Bool) (func_index : ℕ) (consumer : Option ConsumerLoop) (values : List ℕ) (below : Below (values_for consumer values)
     (lasts_of consumer)) (points : List Point) where
   pub own_takes : (first second : Bool) (updates : List Update) (at : ℕ) (update : Update) → slice_get updates at ≡ Some update
       → first ≡ not (is_first_in_place update) → second ≡ not (is_second_in_place update)
-      → ((spread : Spread) → IsSpread (lasts_of consumer) spread → HoldsPart (lasts_of consumer) (values_for consumer values) first second (sources.Func place)
-      (own_update pipeline flags place consumer spread update) points)
+      → ((spread : Spread) → IsSpread (lasts_of consumer) spread → HoldsPart (lasts_of consumer) (values_for consumer values) first second (sources.Func func_index)
+      (own_update pipeline flags func_index consumer spread update) points)
       → (spread : Spread) → IsSpread (lasts_of consumer) spread
-      → HoldsPart (lasts_of consumer) (values_for consumer values) first second (sources.Func place) (own_updates pipeline flags place consumer spread updates)
+      → HoldsPart (lasts_of consumer) (values_for consumer values) first second (sources.Func func_index) (own_updates pipeline flags func_index consumer spread updates)
       points
   unfolding own_update
   own_takes first second [] zero update is f s takes spread fits = absurd cc
   own_takes first second [] (suc at) update is f s takes spread fits = absurd cc
   own_takes first second (own ∷ others) zero update is f s takes spread fits =
-      part_more (lasts_of consumer) (values_for consumer values) first second (sources.Func place) (own_update pipeline flags place consumer spread own)
-      (own_updates pipeline flags place consumer (own_update pipeline flags place consumer spread own) others)
-      (λ u v. updates_keep consumer values below first second pipeline flags place (own_update pipeline flags place consumer spread own) others u v)
+      part_more (lasts_of consumer) (values_for consumer values) first second (sources.Func func_index) (own_update pipeline flags func_index consumer spread own)
+      (own_updates pipeline flags func_index consumer (own_update pipeline flags func_index consumer spread own) others)
+      (λ u v. updates_keep consumer values below first second pipeline flags func_index (own_update pipeline flags func_index consumer spread own) others u v)
       points
-      (subst (λ (w : Update). HoldsPart (lasts_of consumer) (values_for consumer values) first second (sources.Func place) (own_update pipeline flags place
+      (subst (λ (w : Update). HoldsPart (lasts_of consumer) (values_for consumer values) first second (sources.Func func_index) (own_update pipeline flags func_index
       consumer spread w) points) (sym (it own update is)) (takes spread fits))
     where
       it : (a b : Update) → Some a ≡ Some b → a ≡ b
       it a b e = cc
   own_takes first second (own ∷ others) (suc at) update is f s takes spread fits =
-      own_takes first second others at update is f s takes (own_update pipeline flags place consumer spread own)
-      (gathered_fits consumer no_loops (sources.Func place) (not (is_first_in_place own)) (not (is_second_in_place own)) spread (update_asked pipeline.inputs
-      pipeline.funcs flags place unplaced own) fits)
+      own_takes first second others at update is f s takes (own_update pipeline flags func_index consumer spread own)
+      (gathered_fits consumer no_loops (sources.Func func_index) (not (is_first_in_place own)) (not (is_second_in_place own)) spread (update_asked pipeline.inputs
+      pipeline.funcs flags func_index unplaced own) fits)
 
 partly_by : (lasts values : List ℕ) (first second : Bool) (a b : Option Range) (x y : ℕ) → (first ≡ true → IsIn lasts values a x)
     → (second ≡ true → IsIn lasts values b y)
@@ -175,15 +175,15 @@ partly_boxed consumer values first second source spread other is (point ∷ poin
 pub same_func : (a b : Func) → Some a ≡ Some b → a ≡ b
 same_func a b e = cc
 
-update_takes : (pipeline : Pipeline) (flags : List Bool) (place : ℕ) (points : List Point) (update : Update)
-    → AllLie no_loops no_loops (update_asked pipeline.inputs pipeline.funcs flags place unplaced update) points
+update_takes : (pipeline : Pipeline) (flags : List Bool) (func_index : ℕ) (points : List Point) (update : Update)
+    → AllLie no_loops no_loops (update_asked pipeline.inputs pipeline.funcs flags func_index unplaced update) points
     → (spread : Spread) → IsSpread no_loops spread
-    → HoldsPart no_loops no_loops (not (is_first_in_place update)) (not (is_second_in_place update)) (sources.Func place) (own_update pipeline flags place None
+    → HoldsPart no_loops no_loops (not (is_first_in_place update)) (not (is_second_in_place update)) (sources.Func func_index) (own_update pipeline flags func_index None
     spread update) points
 unfolding own_update
-update_takes pipeline flags place points update lie spread fits =
-    gathered_part None no_loops no_below (not (is_first_in_place update)) (not (is_second_in_place update)) no_loops no_below (sources.Func place) spread
-    (update_asked pipeline.inputs pipeline.funcs flags place unplaced update) points fits lie
+update_takes pipeline flags func_index points update lie spread fits =
+    gathered_part None no_loops no_below (not (is_first_in_place update)) (not (is_second_in_place update)) no_loops no_below (sources.Func func_index) spread
+    (update_asked pipeline.inputs pipeline.funcs flags func_index unplaced update) points fits lie
 
 pub own_reads_lie : OwnReadsLie
 own_reads_lie pipeline schedule boxes rules is reader func sought func_is there reached root at update update_is reads words x y word_x word_y near_x near_y

@@ -37,11 +37,12 @@ part_more lasts values first second source spread other keeps [] all = tt
 part_more lasts values first second source spread other keeps (point ∷ points) all =
     (λ e. keeps point.x point.y (all.0 e), part_more lasts values first second source spread other keeps points all.1)
 
-joined_part : (lasts values : List ℕ) → Below values lasts → (counts : Bool) (own : Option Range) (range : Range) (x : ℕ) → counts ≡ true
-    → IsFitOrNone lasts own → Lies lasts values range x
-    → IsIn lasts values (joined lasts counts own range) x
-joined_part lasts values below true own range x e fits lies = joined_takes lasts values below own range x fits lies
-joined_part lasts values below false own range x e fits lies = absurd cc
+joined_part : (lasts values : List ℕ) → Below values lasts → (counts : Bool) (own_range : Option Range) (range : Range) (x : ℕ) → counts ≡ true
+    → IsFitOrNone lasts own_range → Lies lasts values range x
+    → IsIn lasts values (joined lasts counts own_range range) x
+joined_part lasts values below true own_range range x e fits lies = joined_takes lasts values below own_range range x
+    fits lies
+joined_part lasts values below false own_range range x e fits lies = absurd cc
 
 module _ (consumer : Option ConsumerLoop) (values : List ℕ) (below : Below (values_for consumer values) (lasts_of consumer)) (counts_first counts_second : Bool)
   where
@@ -81,12 +82,12 @@ module _ (consumer : Option ConsumerLoop) (values : List ℕ) (below : Below (va
     of_keep pipeline flags source at view spread (Some func) x y lies = gathered_keep view.lasts source true true spread (func_asked pipeline.inputs
         pipeline.funcs flags at view func) x y lies
 
-    box_keep : (pipeline : Pipeline) (schedule : Schedule) (flags : List Bool) (source : Source) (at : ℕ) (own : Option SourceBox) (spread : Spread) (x y : ℕ)
+    box_keep : (pipeline : Pipeline) (schedule : Schedule) (flags : List Bool) (source : Source) (at : ℕ) (source_box : Option SourceBox) (spread : Spread) (x y : ℕ)
         → Part spread x y
-        → Part (read_by_box pipeline schedule flags at own consumer source spread) x y
+        → Part (read_by_box pipeline schedule flags at source_box consumer source spread) x y
     box_keep pipeline schedule flags source at None spread x y lies = lies
-    box_keep pipeline schedule flags source at (Some own) spread x y lies =
-        of_keep pipeline flags source at (view_of (slice_get schedule.funcs at) (slice_get schedule.standings at) own consumer) spread (slice_get pipeline.funcs
+    box_keep pipeline schedule flags source at (Some source_box) spread x y lies =
+        of_keep pipeline flags source at (view_of (slice_get schedule.funcs at) (slice_get schedule.standings at) source_box consumer) spread (slice_get pipeline.funcs
         at) x y lies
 
     pub all_keep : (pipeline : Pipeline) (schedule : Schedule) (flags : List Bool) (source : Source) (at : ℕ) (boxes : List (Option SourceBox))
@@ -94,20 +95,20 @@ module _ (consumer : Option ConsumerLoop) (values : List ℕ) (below : Below (va
         (x y : ℕ) → Part spread x y
         → Part (read_from pipeline schedule flags at consumer source boxes spread) x y
     all_keep pipeline schedule flags source at [] spread x y lies = lies
-    all_keep pipeline schedule flags source at (own ∷ boxes) spread x y lies =
-        all_keep pipeline schedule flags source (at + 1) boxes (read_by_box pipeline schedule flags at own consumer source spread) x y
+    all_keep pipeline schedule flags source at (source_box ∷ boxes) spread x y lies =
+        all_keep pipeline schedule flags source (at + 1) boxes (read_by_box pipeline schedule flags at source_box consumer source spread) x y
         (box_keep pipeline schedule
-        flags source at own spread x y lies)
+        flags source at source_box spread x y lies)
 
     -- ---- what is asked, in the dimensions that are gathered
 
     part_takes : (lasts : List ℕ) → Below values lasts → (spread : Spread) (read : ReadRange) (point : Point) → IsSpread (lasts_of consumer) spread
         → LiesAt lasts values read point → Part (with_read consumer lasts counts_first counts_second spread read) point.x point.y
-    part_takes lasts own spread read point fits lies = record {
+    part_takes lasts source_box spread read point fits lies = record {
       first = λ e. joined_part (lasts_of consumer) (values_for consumer values) below counts_first spread.x (taken consumer lasts read.x) point.x e fits.x
-          (taken_lies consumer lasts values own below read.x point.x lies.x);
+          (taken_lies consumer lasts values source_box below read.x point.x lies.x);
       second = λ e. joined_part (lasts_of consumer) (values_for consumer values) below counts_second spread.y (taken consumer lasts read.y) point.y e fits.y
-          (taken_lies consumer lasts values own below read.y point.y lies.y);
+          (taken_lies consumer lasts values source_box below read.y point.y lies.y);
     }
 
     pub gathered_part : (lasts : List ℕ) → Below values lasts → (source : Source) (spread : Spread) (asked : List ReadRange) (points : List Point)
@@ -115,18 +116,18 @@ module _ (consumer : Option ConsumerLoop) (values : List ℕ) (below : Below (va
         → HoldsPart (lasts_of consumer) (values_for consumer values) counts_first counts_second source (gathered consumer lasts source counts_first
         counts_second
         spread asked) points
-    gathered_part lasts own source spread [] [] fits all = tt
-    gathered_part lasts own source spread [] (point ∷ points) fits all = absurd all
-    gathered_part lasts own source spread (read ∷ others) [] fits all = absurd all
-    gathered_part lasts own source spread (read ∷ others) (point ∷ points) fits all = (
+    gathered_part lasts source_box source spread [] [] fits all = tt
+    gathered_part lasts source_box source spread [] (point ∷ points) fits all = absurd all
+    gathered_part lasts source_box source spread (read ∷ others) [] fits all = absurd all
+    gathered_part lasts source_box source spread (read ∷ others) (point ∷ points) fits all = (
       λ e.
           gathered_keep lasts source counts_first counts_second (if same_source read.source source then with_read consumer lasts counts_first counts_second
           spread
           read else spread) others point.x point.y
           (subst (λ (test : Bool). Part (if test then with_read consumer lasts counts_first counts_second spread read else spread) point.x point.y)
           (sym e ∙ ap (λ (s : Source). same_source s source) all.0.source)
-          (part_takes lasts own spread read point fits all.0)),
-      gathered_part lasts own source (if same_source read.source source then with_read consumer lasts counts_first counts_second spread read else spread) others
+          (part_takes lasts source_box spread read point fits all.0)),
+      gathered_part lasts source_box source (if same_source read.source source then with_read consumer lasts counts_first counts_second spread read else spread) others
           points
           (next_fits consumer lasts counts_first counts_second (same_source read.source source) spread read fits) all.1,
     )

@@ -38,24 +38,24 @@ gathered_any consumer lasts other source first second spread (read ∷ others) =
     gathered_any consumer lasts other source first second (if same_source read.source source then with_read (Some consumer) lasts first second spread read
     else spread) others
 
-update_takes : (pipeline : Pipeline) (flags : List Bool) (place : ℕ) (points : List Point) (update : Update) (consumer : Option ConsumerLoop) (values : List ℕ)
+update_takes : (pipeline : Pipeline) (flags : List Bool) (func_index : ℕ) (points : List Point) (update : Update) (consumer : Option ConsumerLoop) (values : List ℕ)
     → Below (values_for consumer values) (lasts_of consumer)
-    → AreHeld IsNone (update_asked pipeline.inputs pipeline.funcs flags place unplaced update)
-    → AllLie no_loops no_loops (update_asked pipeline.inputs pipeline.funcs flags place unplaced update) points
+    → AreHeld IsNone (update_asked pipeline.inputs pipeline.funcs flags func_index unplaced update)
+    → AllLie no_loops no_loops (update_asked pipeline.inputs pipeline.funcs flags func_index unplaced update) points
     → (spread : Spread) → IsSpread (lasts_of consumer) spread
-    → HoldsPart (lasts_of consumer) (values_for consumer values) (not (is_first_in_place update)) (not (is_second_in_place update)) (sources.Func place)
-    (own_update pipeline flags place consumer spread update) points
+    → HoldsPart (lasts_of consumer) (values_for consumer values) (not (is_first_in_place update)) (not (is_second_in_place update)) (sources.Func func_index)
+    (own_update pipeline flags func_index consumer spread update) points
 unfolding own_update
-update_takes pipeline flags place points update None values below plain lie spread fits =
-    gathered_part None no_loops no_below (not (is_first_in_place update)) (not (is_second_in_place update)) no_loops no_below (sources.Func place) spread
-    (update_asked pipeline.inputs pipeline.funcs flags place unplaced update) points fits lie
-update_takes pipeline flags place points update (Some consumer) values below plain lie spread fits =
-    let asked = update_asked pipeline.inputs pipeline.funcs flags place unplaced update in
+update_takes pipeline flags func_index points update None values below plain lie spread fits =
+    gathered_part None no_loops no_below (not (is_first_in_place update)) (not (is_second_in_place update)) no_loops no_below (sources.Func func_index) spread
+    (update_asked pipeline.inputs pipeline.funcs flags func_index unplaced update) points fits lie
+update_takes pipeline flags func_index points update (Some consumer) values below plain lie spread fits =
+    let asked = update_asked pipeline.inputs pipeline.funcs flags func_index unplaced update in
     let first = not (is_first_in_place update) in
     let second = not (is_second_in_place update) in
-    subst (λ (s : Spread). HoldsPart consumer.lasts values first second (sources.Func place) s points)
-    (gathered_any consumer consumer.lasts no_loops (sources.Func place) first second spread asked)
-    (gathered_part (Some consumer) values below first second consumer.lasts below (sources.Func place) spread asked points fits (all_under consumer.lasts values
+    subst (λ (s : Spread). HoldsPart consumer.lasts values first second (sources.Func func_index) s points)
+    (gathered_any consumer consumer.lasts no_loops (sources.Func func_index) first second spread asked)
+    (gathered_part (Some consumer) values below first second consumer.lasts below (sources.Func func_index) spread asked points fits (all_under consumer.lasts values
     asked points plain lie))
 
 pub produced_own_reads_lie : ProducedOwnReadsLie

@@ -56,34 +56,34 @@ is_reached (Some own) = own.is_reached
 
 module _ (pipeline : Pipeline) (schedule : Schedule) where
   abbrev pub reached : ℕ → Bool
-  reached place = is_reached (slice_get schedule.standings place)
+  reached func_index = is_reached (slice_get schedule.standings func_index)
 
   abbrev pub put : ℕ → Bool
-  put place = is_put_in (slice_get schedule.standings place)
+  put func_index = is_put_in (slice_get schedule.standings func_index)
 
   abbrev pub flags : ℕ → Bool
   flags = flagged (flags_of schedule.standings)
 
-  agree_by : (place : ℕ) (own : Option FuncPlacement) → slice_get schedule.standings place ≡ own → is_reached own ≡ true → flags place ≡ is_put_in own
-  agree_by place None is r = absurd cc
-  agree_by place (Some own) is r = flag_is schedule.standings place own is ∙ sym (ap (λ (b : Bool). b && is_inlined own.place) r)
+  agree_by : (func_index : ℕ) (placement : Option FuncPlacement) → slice_get schedule.standings func_index ≡ placement → is_reached placement ≡ true → flags func_index ≡ is_put_in placement
+  agree_by func_index None is r = absurd cc
+  agree_by func_index (Some placement) is r = flag_is schedule.standings func_index placement is ∙ sym (ap (λ (b : Bool). b && is_inlined placement.place) r)
 
-  pub agree : (place : ℕ) → reached place ≡ true → flags place ≡ put place
-  agree place r = agree_by place (slice_get schedule.standings place) refl r
+  pub agree : (func_index : ℕ) → reached func_index ≡ true → flags func_index ≡ put func_index
+  agree func_index r = agree_by func_index (slice_get schedule.standings func_index) refl r
 
-  pub there_by : (place : ℕ) (own : Option FuncPlacement) → slice_get schedule.standings place ≡ own → is_reached own ≡ true → IsSome own × ((its : FuncPlacement)
-      → own ≡ Some its → IsReached schedule.standings place its)
-  there_by place None is r = absurd cc
-  there_by place (Some own) is r = (
-    record { value = own; is = refl },
-    λ its e. record { standing = is ∙ e; reached = let same : own ≡ its = cc in ap (λ (s : FuncPlacement). s.is_reached) (sym same) ∙ r },
+  pub there_by : (func_index : ℕ) (placement : Option FuncPlacement) → slice_get schedule.standings func_index ≡ placement → is_reached placement ≡ true → IsSome placement × ((its : FuncPlacement)
+      → placement ≡ Some its → IsReached schedule.standings func_index its)
+  there_by func_index None is r = absurd cc
+  there_by func_index (Some placement) is r = (
+    record { value = placement; is = refl },
+    λ its e. record { standing = is ∙ e; reached = let same : placement ≡ its = cc in ap (λ (s : FuncPlacement). s.is_reached) (sym same) ∙ r },
   )
 
   -- ---- an expression whose Funcs are reached
 
   abbrev there : Source → Bool
-  there (sources.Input place) = true
-  there (sources.Func place) = reached place
+  there (sources.Input func_index) = true
+  there (sources.Func func_index) = reached func_index
 
   abbrev reads_there : ℕ → Source → ℕ → Bool
   reads_there count s n = is_read pipeline.inputs pipeline.funcs count s n && there s
@@ -97,10 +97,10 @@ module _ (pipeline : Pipeline) (schedule : Schedule) where
 
     source_there : (s : Source) (n : ℕ) → is_read pipeline.inputs pipeline.funcs count s n ≡ true → Reaches count (λ func. is_func func s)
         → reads_there count s n ≡ true
-    source_there (sources.Input place) n read r = and_from (is_read pipeline.inputs pipeline.funcs count (sources.Input place) n) true read refl
-    source_there (sources.Func place) n read r =
-        and_from (is_read pipeline.inputs pipeline.funcs count (sources.Func place) n) (reached place) read
-        (r place (ltb-true place count (and_parts (nat_lt place count) (is_func_of (slice_get pipeline.funcs place) n) read).0) (eq-eqb place place refl))
+    source_there (sources.Input func_index) n read r = and_from (is_read pipeline.inputs pipeline.funcs count (sources.Input func_index) n) true read refl
+    source_there (sources.Func func_index) n read r =
+        and_from (is_read pipeline.inputs pipeline.funcs count (sources.Func func_index) n) (reached func_index) read
+        (r func_index (ltb-true func_index count (and_parts (nat_lt func_index count) (is_func_of (slice_get pipeline.funcs func_index) n) read).0) (eq-eqb func_index func_index refl))
 
     kept_levels : KeptLevels Kept (is_read pipeline.inputs pipeline.funcs count) has callers_at (keeps_at (reads_there count) has)
     kept_levels (layer.Number n) kept = λ r. kept
@@ -140,49 +140,51 @@ module _ (pipeline : Pipeline) (schedule : Schedule) where
         count) vars e
 
     -- what a reached Func calls is reached
-    pub reaching : (place : ℕ) → reached place ≡ true → (e : Expr) → ((func : ℕ) → calls func e ≡ true → place_calls pipeline place func ≡ true)
-        → Reaches place (λ func. calls func e)
-    reaching place r e called func below is =
-        let t = there_by place (slice_get schedule.standings place) refl r in
-        let c = called_reached pipeline schedule accepted place t.0.value (t.1 t.0.value t.0.is) func below (called func is) in
+    pub reaching : (func_index : ℕ) → reached func_index ≡ true → (e : Expr) → ((func : ℕ) → calls func e ≡ true → place_calls pipeline func_index func ≡ true)
+        → Reaches func_index (λ func. calls func e)
+    reaching func_index r e called func below is =
+        let t = there_by func_index (slice_get schedule.standings func_index) refl r in
+        let c = called_reached pipeline schedule accepted func_index t.0.value (t.1 t.0.value t.0.is) func below (called func is) in
         ap is_reached c.there.standing ∙ c.there.reached
 
-    made_same : (place : ℕ) → reached place ≡ true → Claim place → (found : Option Func) → slice_get pipeline.funcs place ≡ found
+    made_same : (func_index : ℕ) → reached func_index ≡ true → Claim func_index → (found_func : Option Func) → slice_get pipeline.funcs func_index ≡ found_func
         → (a x : Seen) (y : Option Seen)
-        → answered a x y (made_in (seeing reads) (inside (seeing reads) flags pipeline.funcs place) found)
-        ≡ answered a x y (made_in (seeing reads) (inside (seeing reads) put pipeline.funcs place) found)
+        → answered a x y (made_in (seeing reads) (inside (seeing reads) flags pipeline.funcs func_index) found_func)
+        ≡ answered a x y (made_in (seeing reads) (inside (seeing reads) put pipeline.funcs func_index) found_func)
     unfolding seeing place_calls func_calls
-    made_same place r claim None is a x y = refl
-    made_same place r claim (Some func) is a x y =
+    made_same func_index r claim None is a x y = refl
+    made_same func_index r claim (Some func) is a x y =
         ap (λ (v : Seen). (seeing reads).call func v x y)
         (claim (arguments (none (seeing reads)) ((seeing reads).argument x) ((seeing reads).argument (second_of (none (seeing reads)) y)))
-        (is_argument (dimensions func)) func.pure (rules.funcs place func is).pure
-        (reaching place r func.pure (λ other e. ap (place_calls_of other) is ∙ or_left (calls other func.pure) (updates_call other func.updates) e)))
+        (is_argument (dimensions func)) func.pure (rules.funcs func_index func is).pure
+        (reaching func_index r func.pure (λ other e. ap (place_calls_of other) is ∙ or_left (calls other func.pure) (updates_call other func.updates) e)))
 
-    module _ (count : ℕ) (claims : (place : ℕ) → place < count → Claim place) where
+    module _ (count : ℕ) (claims : (func_index : ℕ) → func_index < count → Claim func_index) where
       answered_same : (s : Source) (n : ℕ) → reads_there count s n ≡ true → (a x : Seen) (y : Option Seen)
           → answered a x y (answer (inside (seeing reads) flags pipeline.funcs count) s)
           ≡ answered a x y (answer (inside (seeing reads) put pipeline.funcs count) s)
-      answered_same (sources.Input place) n read a x y = refl
-      answered_same (sources.Func place) n read a x y = by_flag (flags place) refl
+      answered_same (sources.Input func_index) n read a x y = refl
+      answered_same (sources.Func func_index) n read a x y = by_flag (flags func_index) refl
         where
-          parts : (is_read pipeline.inputs pipeline.funcs count (sources.Func place) n ≡ true) × (reached place ≡ true)
-          parts = and_parts (is_read pipeline.inputs pipeline.funcs count (sources.Func place) n) (reached place) read
+          parts : (is_read pipeline.inputs pipeline.funcs count (sources.Func func_index) n ≡ true) ×
+              (reached func_index ≡ true)
+          parts = and_parts (is_read pipeline.inputs pipeline.funcs count (sources.Func func_index) n)
+              (reached func_index) read
 
-          before : place < count
-          before = ltb-true place count (and_parts (nat_lt place count) (is_func_of (slice_get pipeline.funcs place) n) parts.0).0
+          before : func_index < count
+          before = ltb-true func_index count (and_parts (nat_lt func_index count) (is_func_of (slice_get pipeline.funcs func_index) n) parts.0).0
 
-          by_flag : (flag : Bool) → flags place ≡ flag → answered a x y (inside (seeing reads) flags pipeline.funcs count place)
-              ≡ answered a x y (inside (seeing reads) put pipeline.funcs count place)
+          by_flag : (flag : Bool) → flags func_index ≡ flag → answered a x y (inside (seeing reads) flags pipeline.funcs count func_index)
+              ≡ answered a x y (inside (seeing reads) put pipeline.funcs count func_index)
           by_flag false f =
-              let g = sym (agree place parts.1) ∙ f in
-              ap (answered a x y) (inside_computed (seeing reads) flags pipeline.funcs count place f)
-              ∙ sym (ap (answered a x y) (inside_computed (seeing reads) put pipeline.funcs count place g))
+              let g = sym (agree func_index parts.1) ∙ f in
+              ap (answered a x y) (inside_computed (seeing reads) flags pipeline.funcs count func_index f)
+              ∙ sym (ap (answered a x y) (inside_computed (seeing reads) put pipeline.funcs count func_index g))
           by_flag true f =
-              let g = sym (agree place parts.1) ∙ f in
-              ap (answered a x y) (inside_before (seeing reads) flags pipeline.funcs count place before f)
-              ∙ made_same place parts.1 (claims place before) (slice_get pipeline.funcs place) refl a x y
-              ∙ sym (ap (answered a x y) (inside_before (seeing reads) put pipeline.funcs count place before g))
+              let g = sym (agree func_index parts.1) ∙ f in
+              ap (answered a x y) (inside_before (seeing reads) flags pipeline.funcs count func_index before f)
+              ∙ made_same func_index parts.1 (claims func_index before) (slice_get pipeline.funcs func_index) refl a x y
+              ∙ sym (ap (answered a x y) (inside_before (seeing reads) put pipeline.funcs count func_index before g))
 
       abbrev Same : Seen → Seen → Type 0
       Same a b = a ≡ b
@@ -219,9 +221,9 @@ module _ (pipeline : Pipeline) (schedule : Schedule) where
             (through_at (seeing reads) (inside (seeing reads) put pipeline.funcs count) vars) same_levels e
             (keeps_there count has e kept r)
 
-    claims_below : (most place : ℕ) → place < most → Claim place
-    claims_below zero place below = absurd (omega (arith, below))
-    claims_below (suc most) place below = claimed place (λ other before. claims_below most other (omega (arith, before, below)))
+    claims_below : (most func_index : ℕ) → func_index < most → Claim func_index
+    claims_below zero func_index below = absurd (omega (arith, below))
+    claims_below (suc most) func_index below = claimed func_index (λ other before. claims_below most other (omega (arith, before, below)))
 
     pub same_seen : (count : ℕ) (environment : Environment) (has : Variable → Bool) (e : Expr) → keeps (is_read pipeline.inputs pipeline.funcs count) has e
         ≡ true → Reaches count (λ func. calls func e)
@@ -232,13 +234,14 @@ module _ (pipeline : Pipeline) (schedule : Schedule) where
   -- ---- a reached Func that is inlined has no updates
 
   pub put_simple : IsAccepted pipeline schedule → AreSimple put pipeline.funcs
-  put_simple accepted place func is flag = by_standing (slice_get schedule.standings place) refl flag
+  put_simple accepted func_index func is flag = by_standing (slice_get schedule.standings func_index) refl flag
     where
-      by_standing : (own : Option FuncPlacement) → slice_get schedule.standings place ≡ own → is_put_in own ≡ true → length func.updates ≡ 0
-      by_standing None found e = absurd cc
-      by_standing (Some own) found e =
-          let k = and_parts own.is_reached (is_inlined own.place) e in
-          let plan = pair_there IsPlan pipeline.funcs schedule.funcs place func accepted.plans is in
-          let planned = pair_at IsPlan pipeline.funcs schedule.funcs place func plan.value accepted.plans is plan.is in
-          let legal = pair_at IsLegal schedule.funcs schedule.standings place plan.value own accepted.legal plan.is found in
+      by_standing : (placement : Option FuncPlacement) → slice_get schedule.standings func_index ≡ placement → is_put_in placement ≡ true → length func.updates ≡ 0
+      by_standing None found_func e = absurd cc
+      by_standing (Some placement) found_func e =
+          let k = and_parts placement.is_reached (is_inlined placement.place) e in
+          let plan = pair_there IsPlan pipeline.funcs schedule.funcs func_index func accepted.plans is in
+          let planned = pair_at IsPlan pipeline.funcs schedule.funcs func_index func plan.value accepted.plans is
+          plan.is in
+          let legal = pair_at IsLegal schedule.funcs schedule.standings func_index plan.value placement accepted.legal plan.is found_func in
           pair_length _ func.updates plan.value.updates planned.updates ∙ (legal k.0).no_updates k.1

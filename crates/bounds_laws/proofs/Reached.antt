@@ -50,20 +50,20 @@ same_length (a ∷ xs) (b ∷ ys) zero x e found = record { value = b; is = refl
 same_length (a ∷ xs) (b ∷ ys) (suc k) x e found = same_length xs ys k x (omega (arith, e)) found
 
 module _ (pipeline : Pipeline) (schedule : Schedule) (flags : List Bool) where
-  count_step : (at : ℕ) (func : Func) (others : List Func) (rest : Option (List (Option SourceBox))) (found : List (Option SourceBox))
-      → ((behind : List (Option SourceBox)) → rest ≡ Some behind → length behind ≡ length others) → with_func pipeline schedule flags at func rest ≡ Some found
-      → length found ≡ suc (length others)
-  count_step at func others None found next e = absurd cc
-  count_step at func others (Some behind) found next e =
-      sym (ap length (in_front_is (func_box pipeline schedule flags at func behind (slice_get schedule.standings at)) behind found e))
+  count_step : (at : ℕ) (func : Func) (others : List Func) (rest : Option (List (Option SourceBox))) (later_boxes : List (Option SourceBox))
+      → ((behind : List (Option SourceBox)) → rest ≡ Some behind → length behind ≡ length others) → with_func pipeline schedule flags at func rest ≡ Some later_boxes
+      → length later_boxes ≡ suc (length others)
+  count_step at func others None later_boxes next e = absurd cc
+  count_step at func others (Some behind) later_boxes next e =
+      sym (ap length (in_front_is (func_box pipeline schedule flags at func behind (slice_get schedule.standings at)) behind later_boxes e))
       ∙ ap suc (next behind refl)
 
   -- there are as many boxes as Funcs
-  boxes_count : (at : ℕ) (funcs : List Func) (found : List (Option SourceBox)) → boxes_from pipeline schedule flags at funcs ≡ Some found
-      → length found ≡ length funcs
-  boxes_count at [] found e = sym (ap length (got [] found e))
-  boxes_count at (func ∷ others) found e =
-      count_step at func others (boxes_from pipeline schedule flags (at + 1) others) found (λ behind is. boxes_count (at + 1) others behind is) e
+  boxes_count : (at : ℕ) (funcs : List Func) (later_boxes : List (Option SourceBox)) → boxes_from pipeline schedule flags at funcs ≡ Some later_boxes
+      → length later_boxes ≡ length funcs
+  boxes_count at [] later_boxes e = sym (ap length (got [] later_boxes e))
+  boxes_count at (func ∷ others) later_boxes e =
+      count_step at func others (boxes_from pipeline schedule flags (at + 1) others) later_boxes (λ behind is. boxes_count (at + 1) others behind is) e
 
 -- ---- a reached Func that isn't the output is called by a later one that is reached
 
@@ -94,17 +94,17 @@ module _ (pipeline : Pipeline) where
     | inr r ↦ next_called func at first others (called_in func (at + 1) others r)
   ]
 
-  called_later : (plans : List FuncPlan) (at : ℕ) (rest : List FuncPlan) (k func : ℕ) → at + k ≡ func → (own : FuncPlacement)
-      → slice_get (standings_from pipeline plans at rest) k ≡ Some own
-      → own.is_reached ≡ true → (func ≡ pipeline.output.func → ⊥) → (c : IsCalledIn pipeline func at (standings_from pipeline plans at rest)) × (k < c.place)
-  called_later plans at [] k func place own found reached other = absurd cc
-  called_later plans at (first ∷ others) (suc k) func place own found reached other =
-      let c = called_later plans (at + 1) others k func (omega (arith, place)) own found reached other in
+  called_later : (plans : List FuncPlan) (at : ℕ) (rest : List FuncPlan) (k func : ℕ) → at + k ≡ func → (placement : FuncPlacement)
+      → slice_get (standings_from pipeline plans at rest) k ≡ Some placement
+      → placement.is_reached ≡ true → (func ≡ pipeline.output.func → ⊥) → (c : IsCalledIn pipeline func at (standings_from pipeline plans at rest)) × (k < c.place)
+  called_later plans at [] k func place placement found reached other = absurd cc
+  called_later plans at (first ∷ others) (suc k) func place placement found reached other =
+      let c = called_later plans (at + 1) others k func (omega (arith, place)) placement found reached other in
       (next_called func at _ (standings_from pipeline plans (at + 1) others) c.0, omega (arith, c.1))
-  called_later plans at (first ∷ others) zero func place own found reached other =
+  called_later plans at (first ∷ others) zero func place placement found reached other =
       let behind = standings_from pipeline plans (at + 1) others in
       let raised : standing.is_reached pipeline at behind ≡ true = ap (λ (s : FuncPlacement). s.is_reached) (got (standing.standing pipeline plans at first behind)
-      own found) ∙ reached in
+      placement found) ∙ reached in
       elim (or_cases (at == pipeline.output.func) (is_read pipeline at (at + 1) behind) raised) [
         | inl l ↦ absurd (other (omega (arith, place, eqb-true at pipeline.output.func l)))
         | inr r ↦ (
@@ -131,21 +131,22 @@ module _ (pipeline : Pipeline) (schedule : Schedule) (boxes : Boxes) (accepted :
     funcs_are_many : length pipeline.funcs ≡ length schedule.standings
     funcs_are_many = pair_length IsPlan pipeline.funcs schedule.funcs accepted.plans ∙ pair_length IsLegal schedule.funcs schedule.standings accepted.legal
 
-    placed_so : (place : ℕ) (own : FuncPlacement) → IsReached schedule.standings place own → is_inlined own.place ≡ false → IsComputed place own.place
-    placed_so place own there plain = by_place own.place refl plain legal.somewhere
+    placed_so : (func_index : ℕ) (own : FuncPlacement) → IsReached schedule.standings func_index own → is_inlined own.place ≡ false → IsComputed func_index own.place
+    placed_so func_index own there plain = by_place own.place refl plain legal.somewhere
       where
-        plan : IsSome (slice_get schedule.funcs place)
-        plan = same_length schedule.standings schedule.funcs place own (sym (pair_length IsLegal schedule.funcs schedule.standings accepted.legal))
+        plan : IsSome (slice_get schedule.funcs func_index)
+        plan = same_length schedule.standings schedule.funcs func_index own (sym (pair_length IsLegal schedule.funcs schedule.standings accepted.legal))
             there.standing
 
         legal : Legal plan.value own
-        legal = pair_at IsLegal schedule.funcs schedule.standings place plan.value own accepted.legal plan.is there.standing there.reached
+        legal = pair_at IsLegal schedule.funcs schedule.standings func_index plan.value own accepted.legal plan.is there.standing there.reached
 
-        produced : IsProduced pipeline schedule.funcs place own
+        produced : IsProduced pipeline schedule.funcs func_index own
         produced = subst (λ (n : ℕ). IsProduced pipeline schedule.funcs n own) (omega arith) (numbered_at (IsProduced pipeline schedule.funcs) 0
-            schedule.standings accepted.consumers place own there.standing)
+            schedule.standings accepted.consumers func_index own there.standing)
 
-        by_place : (p : ComputeLevel) → own.place ≡ p → is_inlined p ≡ false → is_nowhere p ≡ false → IsComputed place p
+        by_place : (p : ComputeLevel) → own.place ≡ p → is_inlined p ≡ false → is_nowhere p ≡ false
+            → IsComputed func_index p
         by_place places.Root e not_inlined somewhere = tt
         by_place (places.At consumer) e not_inlined somewhere = (produced consumer e).later
         by_place places.Inlined e not_inlined somewhere = absurd cc
@@ -167,14 +168,14 @@ module _ (pipeline : Pipeline) (schedule : Schedule) (boxes : Boxes) (accepted :
         let standing_is = sym (ap (λ (l : List FuncPlacement). slice_get l func) standings_are) ∙ there.standing in
         let called = called_later pipeline schedule.funcs 0 schedule.funcs func func (omega arith) own standing_is there.reached other in
         let c = called.0 in
-        let found : slice_get schedule.standings c.place ≡ Some c.its = ap (λ (l : List FuncPlacement). slice_get l c.place) standings_are ∙ c.found in
-        let f = same_length schedule.standings pipeline.funcs c.place c.its (sym funcs_are_many) found in
+        let source_box : slice_get schedule.standings c.place ≡ Some c.its = ap (λ (l : List FuncPlacement). slice_get l c.place) standings_are ∙ c.found in
+        let f = same_length schedule.standings pipeline.funcs c.place c.its (sym funcs_are_many) source_box in
         let here : 0 + c.place ≡ c.place = omega arith in
         record {
           reader = c.place;
           later = called.1;
           its = c.its;
-          there = record { standing = found; reached = c.reached };
+          there = record { standing = source_box; reached = c.reached };
           own = f.value;
           own_is = f.is;
           calls = sym (ap (place_calls_of func) f.is) ∙ subst (λ (n : ℕ). place_calls pipeline n func ≡ true) here c.called;
@@ -247,58 +248,59 @@ module _ (pipeline : Pipeline) (schedule : Schedule) (boxes : Boxes) (accepted :
           ]
 
     abbrev IsBoxed : ℕ → Type 0
-    IsBoxed place = (own : SourceBox) × (slice_get boxes.funcs place ≡ Some (Some own))
+    IsBoxed func_index = (own : SourceBox) × (slice_get boxes.funcs func_index ≡ Some (Some own))
 
-    module _ (place : ℕ) (own : FuncPlacement) (there : IsReached schedule.standings place own) (plain : is_inlined own.place ≡ false)
-        (behind : (reader : ℕ) (its : FuncPlacement) → place < reader → IsReached schedule.standings reader its → is_inlined its.place ≡ false
+    module _ (func_index : ℕ) (own : FuncPlacement) (there : IsReached schedule.standings func_index own) (plain : is_inlined own.place ≡ false)
+        (behind : (reader : ℕ) (its : FuncPlacement) → func_index < reader → IsReached schedule.standings reader its → is_inlined its.place ≡ false
         → IsBoxed reader) where
       consumer : Option ConsumerLoop
       consumer = consumer_in schedule boxes.funcs own.place
 
-      full : (func : Func) (others : List (Option SourceBox)) → ((n : ℕ) → slice_get others n ≡ slice_get boxes.funcs (place + 1 + n))
-          → IsFull (read_from pipeline schedule flags (place + 1) consumer (sources.Func place) others (own_updates pipeline flags place consumer
-          (wanted pipeline.output place consumer) func.updates))
-      full func others later = elim (cases_eq place pipeline.output.func) [
+      full : (func : Func) (others : List (Option SourceBox)) → ((n : ℕ) → slice_get others n ≡ slice_get boxes.funcs (func_index + 1 + n))
+          → IsFull (read_from pipeline schedule flags (func_index + 1) consumer (sources.Func func_index) others (own_updates pipeline flags func_index consumer
+          (wanted pipeline.output func_index consumer) func.updates))
+      full func others later = elim (cases_eq func_index pipeline.output.func) [
         | inl e ↦
-            from_full consumer pipeline flags schedule (place + 1) (sources.Func place) others start
-            (updates_full consumer pipeline flags place (wanted pipeline.output place consumer) func.updates
-            (wanted_full pipeline.output consumer (place == pipeline.output.func) (eq-eqb place pipeline.output.func e)))
+            from_full consumer pipeline flags schedule (func_index + 1) (sources.Func func_index) others start
+            (updates_full consumer pipeline flags func_index (wanted pipeline.output func_index consumer) func.updates
+            (wanted_full pipeline.output consumer (func_index == pipeline.output.func) (eq-eqb func_index pipeline.output.func e)))
         | inr e ↦
-            let a = is_asked place (length schedule.standings) place (omega arith) (omega arith) own there e
-            (inl (refl, flag_is schedule.standings place own there.standing ∙ plain)) in
+            let a = is_asked func_index (length schedule.standings) func_index (omega arith) (omega arith) own there e
+            (inl (refl, flag_is schedule.standings func_index own there.standing ∙ plain)) in
             let b = behind a.reader a.its a.later a.there a.plain in
-            from_asked consumer pipeline flags schedule place a.reader a.own a.own_is a.asking b.0 (place + 1) (a.reader - (place + 1)) (omega (arith, a.later))
+            from_asked consumer pipeline flags schedule func_index a.reader a.own a.own_is a.asking b.0 (func_index + 1) (a.reader - (func_index + 1)) (omega (arith, a.later))
             others
-            (later (a.reader - (place + 1)) ∙ ap (λ (n : ℕ). slice_get boxes.funcs n) (omega (arith, a.later)) ∙ b.1) start
+            (later (a.reader - (func_index + 1)) ∙ ap (λ (n : ℕ). slice_get boxes.funcs n) (omega (arith, a.later)) ∙ b.1) start
       ]
         where
           start : Spread
-          start = own_updates pipeline flags place consumer (wanted pipeline.output place consumer) func.updates
+          start = own_updates pipeline flags func_index consumer (wanted pipeline.output func_index consumer)
+              func.updates
 
-      is_boxed : IsBoxed place
+      is_boxed : IsBoxed func_index
       unfolding consumer
       is_boxed =
-          let box = same_length schedule.standings boxes.funcs place own (sym (boxes_are_many ∙ funcs_are_many)) there.standing in
-          let at = boxes_at pipeline schedule flags 0 pipeline.funcs boxes.funcs (are_found pipeline schedule boxes is).funcs place box.value box.is in
-          let spread = read_from pipeline schedule flags (place + 1) consumer (sources.Func place) at.behind (own_updates pipeline flags place consumer
-          (wanted pipeline.output place consumer) at.func.updates) in
+          let box = same_length schedule.standings boxes.funcs func_index own (sym (boxes_are_many ∙ funcs_are_many)) there.standing in
+          let at = boxes_at pipeline schedule flags 0 pipeline.funcs boxes.funcs (are_found pipeline schedule boxes is).funcs func_index box.value box.is in
+          let spread = read_from pipeline schedule flags (func_index + 1) consumer (sources.Func func_index) at.behind (own_updates pipeline flags func_index consumer
+          (wanted pipeline.output func_index consumer) at.func.updates) in
           let f = full at.func at.behind at.later in
           by_box box.value box.is
           (ap is_some (at.own_is
           ∙ ap (λ (n : ℕ). func_box pipeline schedule flags n at.func at.behind (slice_get schedule.standings n)) (omega arith)
-          ∙ sought_is pipeline schedule flags boxes.funcs place at.func at.behind at.later own there.standing there.reached (placed_so place own there plain))
+          ∙ sought_is pipeline schedule flags boxes.funcs func_index at.func at.behind at.later own there.standing there.reached (placed_so func_index own there plain))
           ∙ full_box (lasts_of consumer) spread.x spread.y f.0 f.1)
         where
-          by_box : (found : Option SourceBox) → slice_get boxes.funcs place ≡ Some found → is_some found ≡ true → IsBoxed place
+          by_box : (source_box : Option SourceBox) → slice_get boxes.funcs func_index ≡ Some source_box → is_some source_box ≡ true → IsBoxed func_index
           by_box None e some = absurd cc
           by_box (Some other) e some = (other, e)
 
-    boxed : (fuel place : ℕ) → length schedule.standings ≤ place + fuel → (own : FuncPlacement) → IsReached schedule.standings place own
+    boxed : (fuel func_index : ℕ) → length schedule.standings ≤ func_index + fuel → (own : FuncPlacement) → IsReached schedule.standings func_index own
         → is_inlined own.place ≡ false
-        → IsBoxed place
-    boxed zero place le own there plain = absurd (omega (arith, le, slice_get_within schedule.standings place own there.standing))
-    boxed (suc fuel) place le own there plain =
-        is_boxed place own there plain (λ reader its later its_there its_plain. boxed fuel reader (omega (arith, le, later)) its its_there its_plain)
+        → IsBoxed func_index
+    boxed zero func_index le own there plain = absurd (omega (arith, le, slice_get_within schedule.standings func_index own there.standing))
+    boxed (suc fuel) func_index le own there plain =
+        is_boxed func_index own there plain (λ reader its later its_there its_plain. boxed fuel reader (omega (arith, le, later)) its its_there its_plain)
 
 -- ---- the laws
 
@@ -339,24 +341,25 @@ boxes_are_of_reached_funcs pipeline schedule boxes accepted is place =
 
 -- ---- phases
 
-phases_at : (place : ComputeLevel) (reached : Bool) (func : Func) (own : Option SourceBox) → is_some own ≡ (reached && not (is_inlined place))
-    → phases_of place func own ≡ cond (reached && is_root place) (length func.updates + 1) 0
+phases_at : (level : ComputeLevel) (reached : Bool) (func : Func) (source_box : Option SourceBox) → is_some source_box ≡ (reached && not (is_inlined level))
+    → phases_of level func source_box ≡ cond (reached && is_root level) (length func.updates + 1) 0
 phases_at places.Root true func None e = absurd cc
-phases_at places.Root true func (Some own) e = refl
+phases_at places.Root true func (Some source_box) e = refl
 phases_at places.Root false func None e = refl
-phases_at places.Root false func (Some own) e = absurd cc
-phases_at other true func own e = refl
-phases_at other false func own e = refl
+phases_at places.Root false func (Some source_box) e = absurd cc
+phases_at other true func source_box e = refl
+phases_at other false func source_box e = refl
 
 phases_are : (standings : List FuncPlacement) (funcs : List Func) (boxes : List (Option SourceBox)) → length boxes ≡ length funcs
-    → ((place : ℕ) → is_some (box_in (slice_get boxes place)) ≡ is_computed_there (slice_get standings place))
+    → ((func_index : ℕ) → is_some (box_in (slice_get boxes func_index)) ≡ is_computed_there
+    (slice_get standings func_index))
     → phases standings funcs boxes ≡ reached_stages standings funcs
 phases_are [] funcs boxes many are = refl
 phases_are (own ∷ standings) [] boxes many are = refl
 phases_are (own ∷ standings) (func ∷ funcs) [] many are = absurd (omega (arith, many))
 phases_are (own ∷ standings) (func ∷ funcs) (box ∷ boxes) many are =
     let first = phases_at own.place own.is_reached func box (are 0) in
-    let others = phases_are standings funcs boxes (omega (arith, many)) (λ place. are (suc place)) in
+    let others = phases_are standings funcs boxes (omega (arith, many)) (λ func_index. are (suc func_index)) in
     cc
 
 pub phases_are_reached_stages : PhasesAreReachedStages

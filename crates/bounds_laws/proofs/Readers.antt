@@ -57,17 +57,17 @@ module _ (pipeline : Pipeline) (schedule : Schedule) (flags : List Bool) (consum
   of_fits at view spread (Some func) fits = gathered_fits consumer view.lasts source true true spread (func_asked pipeline.inputs pipeline.funcs flags at view
       func) fits
 
-  box_fits : (at : ℕ) (own : Option SourceBox) (spread : Spread) → IsSpread (lasts_of consumer) spread
-      → IsSpread (lasts_of consumer) (read_by_box pipeline schedule flags at own consumer source spread)
+  box_fits : (at : ℕ) (source_box : Option SourceBox) (spread : Spread) → IsSpread (lasts_of consumer) spread
+      → IsSpread (lasts_of consumer) (read_by_box pipeline schedule flags at source_box consumer source spread)
   box_fits at None spread fits = fits
-  box_fits at (Some own) spread fits = of_fits at (view_of (slice_get schedule.funcs at) (slice_get schedule.standings at) own consumer) spread
+  box_fits at (Some source_box) spread fits = of_fits at (view_of (slice_get schedule.funcs at) (slice_get schedule.standings at) source_box consumer) spread
       (slice_get pipeline.funcs at) fits
 
   pub from_fits : (at : ℕ) (boxes : List (Option SourceBox)) (spread : Spread) → IsSpread (lasts_of consumer) spread
       → IsSpread (lasts_of consumer) (read_from pipeline schedule flags at consumer source boxes spread)
   from_fits at [] spread fits = fits
-  from_fits at (own ∷ boxes) spread fits = from_fits (at + 1) boxes (read_by_box pipeline schedule flags at own consumer source spread)
-      (box_fits at own spread fits)
+  from_fits at (source_box ∷ boxes) spread fits = from_fits (at + 1) boxes (read_by_box pipeline schedule flags at source_box consumer source spread)
+      (box_fits at source_box spread fits)
 
   module _ (values : List ℕ) (below : Below (values_for consumer values) (lasts_of consumer)) where
     abbrev Holds : Spread → ℕ → ℕ → Type 0
@@ -80,17 +80,17 @@ module _ (pipeline : Pipeline) (schedule : Schedule) (flags : List Bool) (consum
     of_keeps at view spread (Some func) x y holds = gathered_keeps consumer view.lasts values below source true true spread (func_asked pipeline.inputs
         pipeline.funcs flags at view func) x y holds
 
-    box_keeps : (at : ℕ) (own : Option SourceBox) (spread : Spread) (x y : ℕ) → Holds spread x y
-        → Holds (read_by_box pipeline schedule flags at own consumer source spread) x y
+    box_keeps : (at : ℕ) (source_box : Option SourceBox) (spread : Spread) (x y : ℕ) → Holds spread x y
+        → Holds (read_by_box pipeline schedule flags at source_box consumer source spread) x y
     box_keeps at None spread x y holds = holds
-    box_keeps at (Some own) spread x y holds = of_keeps at (view_of (slice_get schedule.funcs at) (slice_get schedule.standings at) own consumer) spread
+    box_keeps at (Some source_box) spread x y holds = of_keeps at (view_of (slice_get schedule.funcs at) (slice_get schedule.standings at) source_box consumer) spread
         (slice_get pipeline.funcs at) x y holds
 
     pub from_keeps : (at : ℕ) (boxes : List (Option SourceBox)) (spread : Spread) (x y : ℕ) → Holds spread x y
         → Holds (read_from pipeline schedule flags at consumer source boxes spread) x y
     from_keeps at [] spread x y holds = holds
-    from_keeps at (own ∷ boxes) spread x y holds =
-        from_keeps (at + 1) boxes (read_by_box pipeline schedule flags at own consumer source spread) x y (box_keeps at own spread x y holds)
+    from_keeps at (source_box ∷ boxes) spread x y holds =
+        from_keeps (at + 1) boxes (read_by_box pipeline schedule flags at source_box consumer source spread) x y (box_keeps at source_box spread x y holds)
 
     -- ---- and what a pure definition reads
 
@@ -100,7 +100,7 @@ module _ (pipeline : Pipeline) (schedule : Schedule) (flags : List Bool) (consum
         → HoldsAll (lasts_of consumer) (values_for consumer values) source (read_in pipeline flags reader view consumer source spread func)
         (points_of pipeline flags reads reader func x y)
     unfolding read_in func_asked
-    in_takes rules reads words reader func is view own x y lies spread fits =
+    in_takes rules reads words reader func is view source_box x y lies spread fits =
         let pure = (walked view.lasts pipeline.inputs flags pipeline.funcs reader (pure_variables view) func.pure).asked in
         let more = updates_asked pipeline.inputs pipeline.funcs flags reader view func.updates in
         let some = gathered consumer view.lasts source true true spread pure in
@@ -108,21 +108,21 @@ module _ (pipeline : Pipeline) (schedule : Schedule) (flags : List Bool) (consum
         (λ u v holds. subst (λ (s : Spread). Holds s u v) (sym (gathered_both consumer view.lasts source true true spread pure more)) (gathered_keeps consumer
         view.lasts values below source true true some more u v holds))
         (points_of pipeline flags reads reader func x y)
-        (gathered_takes consumer view.lasts values own below source spread pure (points_of pipeline flags reads reader func x y) fits (pure_lies pipeline flags
-        rules reads words reader func is view values own x y lies))
+        (gathered_takes consumer view.lasts values source_box below source spread pure (points_of pipeline flags reads reader func x y) fits (pure_lies pipeline flags
+        rules reads words reader func is view values source_box x y lies))
 
     -- ---- whatever is held of what a reader reads is held of what all do
 
-    pub from_takes : (reader : ℕ) (func : Func) → slice_get pipeline.funcs reader ≡ Some func → (own : SourceBox)
-        → (view : SourceBox) → view_of (slice_get schedule.funcs reader) (slice_get schedule.standings reader) own consumer ≡ view → (points : List Point)
+    pub from_takes : (reader : ℕ) (func : Func) → slice_get pipeline.funcs reader ≡ Some func → (source_box : SourceBox)
+        → (view : SourceBox) → view_of (slice_get schedule.funcs reader) (slice_get schedule.standings reader) source_box consumer ≡ view → (points : List Point)
         → ((spread : Spread) → IsSpread (lasts_of consumer) spread
         → HoldsAll (lasts_of consumer) (values_for consumer values) source (read_in pipeline flags reader view consumer source spread func) points)
-        → (at before : ℕ) → at + before ≡ reader → (boxes : List (Option SourceBox)) → slice_get boxes before ≡ Some (Some own) → (spread : Spread)
+        → (at before : ℕ) → at + before ≡ reader → (boxes : List (Option SourceBox)) → slice_get boxes before ≡ Some (Some source_box) → (spread : Spread)
         → IsSpread (lasts_of consumer) spread
         → HoldsAll (lasts_of consumer) (values_for consumer values) source (read_from pipeline schedule flags at consumer source boxes spread) points
-    from_takes reader func is own view seen points takes at zero place [] found spread fits = absurd cc
-    from_takes reader func is own view seen points takes at (suc before) place [] found spread fits = absurd cc
-    from_takes reader func is own view seen points takes at zero place (first ∷ boxes) found spread fits =
+    from_takes reader func is source_box view seen points takes at zero place [] found spread fits = absurd cc
+    from_takes reader func is source_box view seen points takes at (suc before) place [] found spread fits = absurd cc
+    from_takes reader func is source_box view seen points takes at zero place (first ∷ boxes) found spread fits =
         holds_more (lasts_of consumer) (values_for consumer values) source (read_by_box pipeline schedule flags at first consumer source spread)
         (read_from pipeline schedule flags (at + 1) consumer source boxes (read_by_box pipeline schedule flags at first consumer source spread))
         (from_keeps (at + 1) boxes (read_by_box pipeline schedule flags at first consumer source spread))
@@ -135,15 +135,16 @@ module _ (pipeline : Pipeline) (schedule : Schedule) (flags : List Bool) (consum
         at_is : at ≡ reader
         at_is = omega (arith, place)
 
-        first_is : (other : Option SourceBox) → Some other ≡ Some (Some own) → read_by_box pipeline schedule flags at other consumer source spread
+        first_is : (other : Option SourceBox) → Some other ≡ Some (Some source_box) → read_by_box pipeline schedule flags at other consumer source spread
             ≡ read_in pipeline flags reader view consumer source spread func
         first_is None e = absurd cc
         first_is (Some other) e =
-            ap (λ (b : Option SourceBox). read_by_box pipeline schedule flags at b consumer source spread) (some_is (Some other) (Some own) e)
-            ∙ ap (λ (n : ℕ). read_by pipeline schedule flags n own consumer source spread) at_is
-            ∙ ap (λ (f : Option Func). read_of pipeline flags reader (view_of (slice_get schedule.funcs reader) (slice_get schedule.standings reader) own
+            ap (λ (b : Option SourceBox). read_by_box pipeline schedule flags at b consumer source spread) (some_is (Some other) (Some source_box) e)
+            ∙ ap (λ (n : ℕ). read_by pipeline schedule flags n source_box consumer source spread) at_is
+            ∙ ap (λ (f : Option Func). read_of pipeline flags reader (view_of (slice_get schedule.funcs reader) (slice_get schedule.standings reader) source_box
             consumer) consumer source spread f) is
             ∙ ap (λ (v : SourceBox). read_in pipeline flags reader v consumer source spread func) seen
-    from_takes reader func is own view seen points takes at (suc before) place (first ∷ boxes) found spread fits =
-        from_takes reader func is own view seen points takes (at + 1) before (omega (arith, place)) boxes found (read_by_box pipeline schedule flags at first
+    from_takes reader func is source_box view seen points takes at (suc before) place (first ∷ boxes) found spread fits
+        =
+        from_takes reader func is source_box view seen points takes (at + 1) before (omega (arith, place)) boxes found (read_by_box pipeline schedule flags at first
         consumer source spread) (box_fits at first spread fits)

@@ -14,7 +14,7 @@ use Rattle.schedule_lines.specs.declared.stages.Stage.{Stage}
 use Rattle.schedule_lines.specs.Directives.{same_id}
 use Rattle.schedule.specs.declared.plans.FuncPlan.{FuncPlan}
 use Rattle.schedule.specs.declared.schedules.Schedule.{Schedule}
-use Rattle.schedule.specs.declared.placements.LoopPlace.{LoopPlace}
+use Rattle.schedule.specs.declared.placements.LoopPosition.{LoopPosition}
 use Rattle.schedule.specs.declared.placements.ComputeLevel.{ComputeLevel}
 use Rattle.schedule.specs.declared.placements.ComputeLevel.TheVariants as places
 use Rattle.schedule.specs.declared.placements.FuncPlacement.{FuncPlacement}
@@ -54,11 +54,12 @@ use Rattle.bounds_laws.proofs.Settled.{settled_boxes_hold}
 use Rattle.bounds_laws.proofs.StandingWithin.{one_standing}
 
 -- a reader's point lies in the view with which a source is asked, while the loops of the source's consumer have these values
-pub record Sees (pipeline : Pipeline) (schedule : Schedule) (boxes : Boxes) (reader : ℕ) (own : SourceBox) (x y : ℕ) (place : ComputeLevel) : Type 0 where
+pub record Sees (pipeline : Pipeline) (schedule : Schedule) (boxes : Boxes) (reader : ℕ) (source_box : SourceBox) (x y : ℕ) (level : ComputeLevel) : Type 0 where
   pub consumer : Option ConsumerLoop
-  pub consumer_is : consumer_in schedule boxes.funcs place ≡ consumer
+  pub consumer_is : consumer_in schedule boxes.funcs level ≡ consumer
   pub view : SourceBox
-  pub view_is : view_of (slice_get schedule.funcs reader) (slice_get schedule.standings reader) own consumer ≡ view
+  pub view_is : view_of (slice_get schedule.funcs reader) (slice_get schedule.standings reader) source_box consumer ≡
+      view
   pub values : List ℕ
   pub below_view : Below values view.lasts
   pub below_consumer : Below (values_for consumer values) (lasts_of consumer)
@@ -155,9 +156,10 @@ module _ (pipeline : Pipeline) (schedule : Schedule) (boxes : Boxes) (rules : Is
     (is : inferred pipeline schedule ≡ Ok boxes) where
   -- ---- the reader has the loop
 
-  module _ (reader : ℕ) (own : SourceBox) (own_is : slice_get boxes.funcs reader ≡ Some (Some own)) (box : HasBox pipeline schedule boxes reader own)
+  module _ (reader : ℕ) (source_box : SourceBox) (own_is : slice_get boxes.funcs reader ≡ Some (Some source_box)) (box : HasBox pipeline schedule boxes reader source_box)
       (root : box.standing.place ≡ places.Root) (plan : FuncPlan) (plan_is : slice_get schedule.funcs reader ≡ Some plan)
-      (id : LoopId) (values : List ℕ) (below : Below values own.lasts) (x y : ℕ) (lies : LiesIn values own x y) where
+      (id : LoopId) (values : List ℕ) (below : Below values source_box.lasts) (x y : ℕ)
+      (lies : LiesIn values source_box x y) where
     func : Func
     func = box.func
 
@@ -174,19 +176,21 @@ module _ (pipeline : Pipeline) (schedule : Schedule) (boxes : Boxes) (rules : Is
     outside = drop inner stage.loops
 
     extents : Extents
-    extents = extents_of own
+    extents = extents_of source_box
 
-    no_lasts : own.lasts ≡ no_loops
+    no_lasts : source_box.lasts ≡ no_loops
     no_lasts = box.lasts ∙ ap (λ (p : ComputeLevel). lasts_of (consumer_in schedule boxes.funcs p)) root
 
     below_none : Below values no_loops
     below_none = subst (λ (l : List ℕ). Below values l) no_lasts below
 
-    in_x : Stands own.x x
-    in_x = stands own.x values x below_none (subst (λ (l : List ℕ). Lies l values own.x x) no_lasts lies.first)
+    in_x : Stands source_box.x x
+    in_x = stands source_box.x values x below_none (subst (λ (l : List ℕ). Lies l values source_box.x x) no_lasts
+        lies.first)
 
-    in_y : Stands own.y y
-    in_y = stands own.y values y below_none (subst (λ (l : List ℕ). Lies l values own.y y) no_lasts lies.second)
+    in_y : Stands source_box.y y
+    in_y = stands source_box.y values y below_none (subst (λ (l : List ℕ). Lies l values source_box.y y) no_lasts
+        lies.second)
 
     stage_is : IsStageOf func None stage
     unfolding func stage
@@ -196,13 +200,13 @@ module _ (pipeline : Pipeline) (schedule : Schedule) (boxes : Boxes) (rules : Is
 
     -- how far the point is from the corner
     far_x : ℕ
-    far_x = spot x - own.x.low
+    far_x = spot x - source_box.x.low
 
     far_y : ℕ
-    far_y = cond (has_variable variables.SecondArgument (first_loops func None)) (spot y - own.y.low) 0
+    far_y = cond (has_variable variables.SecondArgument (first_loops func None)) (spot y - source_box.y.low) 0
 
     slice_by : (test : Bool) → has_variable variables.SecondArgument (first_loops func None) ≡ test
-        → cond test (spot y - own.y.low) 0 < cond test (extent own.y) 1
+        → cond test (spot y - source_box.y.low) 0 < cond test (extent source_box.y) 1
     slice_by true e = omega (arith, in_y.low, in_y.high)
     slice_by false e = omega arith
 
@@ -210,12 +214,13 @@ module _ (pipeline : Pipeline) (schedule : Schedule) (boxes : Boxes) (rules : Is
     unfolding far_x far_y extents
     is_slice =
         and_from (nat_lt far_x (extent_in func None extents variables.FirstArgument)) (nat_lt far_y (extent_in func None extents variables.SecondArgument))
-        (rw (has_first func) (lt-ltb (spot x - own.x.low) (extent own.x) (omega (arith, in_x.low, in_x.high))))
+        (rw (has_first func) (lt-ltb (spot x - source_box.x.low) (extent source_box.x)
+        (omega (arith, in_x.low, in_x.high))))
         (lt-ltb far_y (extent_in func None extents variables.SecondArgument) (slice_by (has_variable variables.SecondArgument (first_loops func None)) refl))
 
     fits : shifts_fit extents stage.splits ≡ true
     unfolding extents stage
-    fits = shifts_at schedule.funcs boxes.funcs reader plan own (is_judged pipeline schedule boxes is).shifts plan_is own_is
+    fits = shifts_at schedule.funcs boxes.funcs reader plan source_box (is_judged pipeline schedule boxes is).shifts plan_is own_is
 
     made : IsMadeIn extents stage inside outside (record { x = far_x; y = far_y; number = 0 })
     unfolding inside outside
@@ -228,45 +233,45 @@ module _ (pipeline : Pipeline) (schedule : Schedule) (boxes : Boxes) (rules : Is
     at_second : made.whole (ids.Whole variables.SecondArgument) ≡ far_y
     at_second = ap (λ (v : Visit). v.y) made.visit_is
 
-    gone_x : IsGone own.x (gone func variables.FirstArgument made.whole) x
+    gone_x : IsGone source_box.x (gone func variables.FirstArgument made.whole) x
     unfolding far_x
     gone_x = record { word = in_x.word; is = rw (has_first func) (omega (arith, at_first, in_x.low)) }
 
-    gone_by : (test : Bool) → has_variable variables.SecondArgument (first_loops func None) ≡ test → far_y ≡ cond test (spot y - own.y.low) 0
-        → spot y ≡ own.y.low + cond test (made.whole (ids.Whole variables.SecondArgument)) 0
+    gone_by : (test : Bool) → has_variable variables.SecondArgument (first_loops func None) ≡ test → far_y ≡ cond test (spot y - source_box.y.low) 0
+        → spot y ≡ source_box.y.low + cond test (made.whole (ids.Whole variables.SecondArgument)) 0
     unfolding func
     gone_by true e f = omega (arith, at_second, f, in_y.low)
     gone_by false e f =
-        let row = one_row_boxes pipeline schedule boxes rules accepted is reader func own box.func_is (one_without func e) own_is in
-        let low : own.y.low ≡ origin = ap (λ (r : Range). r.low) row in
-        let high : own.y.high ≡ origin = ap (λ (r : Range). r.high) row in
+        let row = one_row_boxes pipeline schedule boxes rules accepted is reader func source_box box.func_is (one_without func e) own_is in
+        let low : source_box.y.low ≡ origin = ap (λ (r : Range). r.low) row in
+        let high : source_box.y.high ≡ origin = ap (λ (r : Range). r.high) row in
         omega (arith, low, high, in_y.low, in_y.high)
 
-    gone_y : IsGone own.y (gone func variables.SecondArgument made.whole) y
+    gone_y : IsGone source_box.y (gone func variables.SecondArgument made.whole) y
     unfolding far_y
     gone_y = record { word = in_y.word; is = gone_by (has_variable variables.SecondArgument (first_loops func None)) refl refl }
 
     iterations : List ℕ
     iterations = iterations_from (length inside) made.iterations stage.loops
 
-    taken : Below iterations (consumer_loop plan own id).lasts × LiesIn iterations (consumer_view stage own (consumer_loop plan own id)) x y
+    taken : Below iterations (consumer_loop plan source_box id).lasts × LiesIn iterations (consumer_view stage source_box (consumer_loop plan source_box id)) x y
     unfolding iterations inside outside inner stage extents
     taken =
-        let h = consumer_arguments_lie func plan own id inside outside made.iterations stage_is (parted inner stage.loops) (taken_length inner stage.loops
+        let h = consumer_arguments_lie func plan source_box id inside outside made.iterations stage_is (parted inner stage.loops) (taken_length inner stage.loops
         (count_few id stage.loops)) made.are in (
           h.0,
-          of_all (λ (whole : Values). (a b : ℕ) → IsTakenTo func own whole a b → LiesIn iterations (consumer_view stage own (consumer_loop plan own id)) a b)
+          of_all (λ (whole : Values). (a b : ℕ) → IsTakenTo func source_box whole a b → LiesIn iterations (consumer_view stage source_box (consumer_loop plan source_box id)) a b)
               (wholes extents stage.splits inside made.iterations) h.1 made.whole made.visited x y
               (record { first = gone_x; second = gone_y }),
         )
 
-    pub consumer_sees : (place : ComputeLevel) → consumer_in schedule boxes.funcs place ≡ Some (consumer_loop plan own id)
-        → Sees pipeline schedule boxes reader own x y place
+    pub consumer_sees : (level : ComputeLevel) → consumer_in schedule boxes.funcs level ≡ Some (consumer_loop plan source_box id)
+        → Sees pipeline schedule boxes reader source_box x y level
     unfolding stage consumer_view_in
-    consumer_sees place consumer_is = record {
-      consumer = Some (consumer_loop plan own id);
+    consumer_sees level consumer_is = record {
+      consumer = Some (consumer_loop plan source_box id);
       consumer_is = consumer_is;
-      view = consumer_view plan.pure own (consumer_loop plan own id);
+      view = consumer_view plan.pure source_box (consumer_loop plan source_box id);
       view_is = rw (box.there.standing, plan_is) (rw root refl);
       values = iterations;
       below_view = taken.0;
@@ -276,16 +281,16 @@ module _ (pipeline : Pipeline) (schedule : Schedule) (boxes : Boxes) (rules : Is
 
   -- ---- whichever it is
 
-  module _ (reader : ℕ) (own : SourceBox) (own_is : slice_get boxes.funcs reader ≡ Some (Some own)) (values : List ℕ) (below : Below values own.lasts) (x y : ℕ)
-      (lies : LiesIn values own x y) where
-    box : HasBox pipeline schedule boxes reader own
-    box = has_box pipeline schedule boxes accepted is reader own own_is
+  module _ (reader : ℕ) (source_box : SourceBox) (own_is : slice_get boxes.funcs reader ≡ Some (Some source_box)) (values : List ℕ) (below : Below values source_box.lasts) (x y : ℕ)
+      (lies : LiesIn values source_box x y) where
+    box : HasBox pipeline schedule boxes reader source_box
+    box = has_box pipeline schedule boxes accepted is reader source_box own_is
 
-    root_sees : (place : ComputeLevel) → consumer_in schedule boxes.funcs place ≡ None → Sees pipeline schedule boxes reader own x y place
-    root_sees place none = record {
+    root_sees : (level : ComputeLevel) → consumer_in schedule boxes.funcs level ≡ None → Sees pipeline schedule boxes reader source_box x y level
+    root_sees level none = record {
       consumer = None;
       consumer_is = none;
-      view = own;
+      view = source_box;
       view_is = refl;
       values = values;
       below_view = below;
@@ -296,7 +301,7 @@ module _ (pipeline : Pipeline) (schedule : Schedule) (boxes : Boxes) (rules : Is
     here : (n : ℕ) → 0 + n ≡ n
     here n = omega arith
 
-    module _ (func : ℕ) (within : IsReadWithin schedule reader func) (at : LoopPlace) (place_is : within.own.place ≡ places.At at) where
+    module _ (func : ℕ) (within : IsReadWithin schedule reader func) (at : LoopPosition) (place_is : within.own.place ≡ places.At at) where
       rooted : IsRootReached schedule.standings at.func
       rooted =
           let h : HasConsumerAtRoot schedule.standings func within.own = subst (λ (n : ℕ). HasConsumerAtRoot schedule.standings n within.own) (here func)
@@ -307,7 +312,7 @@ module _ (pipeline : Pipeline) (schedule : Schedule) (boxes : Boxes) (rules : Is
       produced = subst (λ (n : ℕ). IsProduced pipeline schedule.funcs n within.own) (here func) (numbered_at (IsProduced pipeline schedule.funcs) 0
           schedule.standings accepted.consumers func within.own within.there.standing)
 
-      by_loop : StandsAt schedule at reader → Sees pipeline schedule boxes reader own x y (places.At at)
+      by_loop : StandsAt schedule at reader → Sees pipeline schedule boxes reader source_box x y (places.At at)
       unfolding box consumer_loop_in
       by_loop (HasLoop same) =
           let consumer = produced at place_is in
@@ -315,8 +320,8 @@ module _ (pipeline : Pipeline) (schedule : Schedule) (boxes : Boxes) (rules : Is
           let standing_is = one_standing schedule.standings reader box.standing rooted.own box.there.standing (ap (λ (n : ℕ). slice_get schedule.standings n)
           same ∙ rooted.there.standing) in
           let root : box.standing.place ≡ places.Root = ap (λ (s : FuncPlacement). s.place) standing_is ∙ rooted.root in
-          let box_is : slice_get boxes.funcs at.func ≡ Some (Some own) = ap (λ (n : ℕ). slice_get boxes.funcs n) (sym same) ∙ own_is in
-          consumer_sees reader own own_is box root consumer.plan plan_is at.inside values below x y lies (places.At at) (rw (consumer.plan_is, box_is) refl)
+          let box_is : slice_get boxes.funcs at.func ≡ Some (Some source_box) = ap (λ (n : ℕ). slice_get boxes.funcs n) (sym same) ∙ own_is in
+          consumer_sees reader source_box own_is box root consumer.plan plan_is at.inside values below x y lies (places.At at) (rw (consumer.plan_is, box_is) refl)
       by_loop (IsWithin st other there other_place inside) = by_box (slice_get schedule.funcs at.func) refl (box_in (slice_get boxes.funcs at.func)) refl
         where
           same_func : other.func ≡ at.func
@@ -326,35 +331,35 @@ module _ (pipeline : Pipeline) (schedule : Schedule) (boxes : Boxes) (rules : Is
           own_place : box.standing.place ≡ places.At other
           own_place = ap (λ (s : FuncPlacement). s.place) (one_standing schedule.standings reader box.standing st box.there.standing there.standing) ∙ other_place
 
-          own_lasts : own.lasts ≡ lasts_of (consumer_of other (slice_get schedule.funcs at.func) (box_in (slice_get boxes.funcs at.func)))
+          own_lasts : source_box.lasts ≡ lasts_of (consumer_of other (slice_get schedule.funcs at.func) (box_in (slice_get boxes.funcs at.func)))
           own_lasts =
               box.lasts ∙ ap (λ (p : ComputeLevel). lasts_of (consumer_in schedule boxes.funcs p)) own_place
               ∙ ap (λ (n : ℕ). lasts_of (consumer_of other (slice_get schedule.funcs n) (box_in (slice_get boxes.funcs n)))) same_func
 
           by_box : (plan : Option FuncPlan) → slice_get schedule.funcs at.func ≡ plan → (consumer_box : Option SourceBox)
               → box_in (slice_get boxes.funcs at.func) ≡ consumer_box
-              → Sees pipeline schedule boxes reader own x y (places.At at)
+              → Sees pipeline schedule boxes reader source_box x y (places.At at)
           by_box None p consumer_box b = root_sees (places.At at) (rw p refl)
           by_box (Some plan) p None b = root_sees (places.At at) (rw (p, b) refl)
           by_box (Some plan) p (Some consumer_box) b =
               let consumer = consumer_loop plan consumer_box at.inside in
-              let lasts_are : own.lasts ≡ consumer.lasts = own_lasts ∙ rw (p, b) refl in
+              let lasts_are : source_box.lasts ≡ consumer.lasts = own_lasts ∙ rw (p, b) refl in
               record {
                 consumer = Some consumer;
                 consumer_is = rw (p, b) refl;
-                view = settled_box consumer.inner own;
+                view = settled_box consumer.inner source_box;
                 view_is = rw box.there.standing (rw own_place refl);
                 values = values;
                 below_view = below;
                 below_consumer = subst (λ (l : List ℕ). Below values l) lasts_are below;
-                lies = settled_boxes_hold consumer.inner own values values below (agree_self consumer.inner values) x y lies;
+                lies = settled_boxes_hold consumer.inner source_box values values below (agree_self consumer.inner values) x y lies;
               }
 
     pub sees : (func : ℕ) (within : IsReadWithin schedule reader func) → IsComputed func within.own.place
-        → Sees pipeline schedule boxes reader own x y within.own.place
+        → Sees pipeline schedule boxes reader source_box x y within.own.place
     sees func within computed = by_place within.own.place refl computed
       where
-        by_place : (place : ComputeLevel) → within.own.place ≡ place → IsComputed func place → Sees pipeline schedule boxes reader own x y place
+        by_place : (level : ComputeLevel) → within.own.place ≡ level → IsComputed func level → Sees pipeline schedule boxes reader source_box x y level
         by_place places.Root e c = root_sees places.Root refl
         by_place (places.At at) e c = by_loop func within at e (within.within at e)
         by_place places.Inlined e c = absurd c

@@ -25,28 +25,28 @@ use Rattle.bounds_laws.proofs.Spans.{IsNormal, AreKept, hulls, hulls_kept, hulls
 -- ---- ranges joined one after the other
 
 abbrev pub folded : List ℕ → Option Range → List Range → Option Range
-folded lasts own [] = own
-folded lasts own (range ∷ others) = folded lasts (Some (with_range lasts own range)) others
+folded lasts own_range [] = own_range
+folded lasts own_range (range ∷ others) = folded lasts (Some (with_range lasts own_range range)) others
 
-pub folded_both : (lasts : List ℕ) (own : Option Range) (some more : List Range) → folded lasts own (some ++ more) ≡ folded lasts (folded lasts own some) more
-folded_both lasts own [] more = refl
-folded_both lasts own (range ∷ some) more = folded_both lasts (Some (with_range lasts own range)) some more
+pub folded_both : (lasts : List ℕ) (own_range : Option Range) (some more : List Range) → folded lasts own_range (some ++ more) ≡ folded lasts (folded lasts own_range some) more
+folded_both lasts own_range [] more = refl
+folded_both lasts own_range (range ∷ some) more = folded_both lasts (Some (with_range lasts own_range range)) some more
 
-pub folded_is : (lasts : List ℕ) (own : Range) (all : List Range) → folded lasts (Some own) all ≡ Some (hulls lasts own all)
-folded_is lasts own [] = refl
-folded_is lasts own (range ∷ others) = folded_is lasts (with_range lasts (Some own) range) others
+pub folded_is : (lasts : List ℕ) (own_range : Range) (all : List Range) → folded lasts (Some own_range) all ≡ Some (hulls lasts own_range all)
+folded_is lasts own_range [] = refl
+folded_is lasts own_range (range ∷ others) = folded_is lasts (with_range lasts (Some own_range) range) others
 
 -- the fold of a list that is kept is its least range
-pub folded_least : (lasts : List ℕ) (all : List Range) → AreKept lasts all → (own : Range) → folded lasts None all ≡ Some own
-    → IsNormal own.base × IsLeast lasts all own
-folded_least lasts [] kept own e = absurd cc
-folded_least lasts (range ∷ others) kept own e =
-    subst (λ (r : Range). IsNormal r.base × IsLeast lasts (range ∷ others) r) (got (hulls lasts range others) own (sym (folded_is lasts range others) ∙ e))
+pub folded_least : (lasts : List ℕ) (all : List Range) → AreKept lasts all → (own_range : Range) → folded lasts None all ≡ Some own_range
+    → IsNormal own_range.base × IsLeast lasts all own_range
+folded_least lasts [] kept own_range e = absurd cc
+folded_least lasts (range ∷ others) kept own_range e =
+    subst (λ (r : Range). IsNormal r.base × IsLeast lasts (range ∷ others) r) (got (hulls lasts range others) own_range (sym (folded_is lasts range others) ∙ e))
     ((hulls_kept lasts range others kept.0 kept.1).normal, hulls_least lasts range others kept.0 kept.1)
 
 -- ---- a dimension
 
--- one of the two: how it stands in a read and in what is gathered, whether it counts, where it stands in place, and how many pixels it has
+-- one of the two: how it is in a read and in what is gathered, whether it counts, where it is in place, and how many pixels it has
 pub record Side : Type 0 where
   pub of : ReadRange → Range
   pub part : Spread → Option Range
@@ -194,22 +194,23 @@ module _ (side : Side) (consumer : Option ConsumerLoop) where
 
     -- all that is asked of the Func at a place
     abbrev pub all_asked : ℕ → Func → List (Option SourceBox) → List Range
-    all_asked place func boxes =
-        wanted_of pipeline.output place consumer (side.count pipeline.output)
-        ++ (asked_by_updates side.of pipeline schedule side.is_in_place place consumer func.updates
-        ++ asked_from side.of pipeline schedule (place + 1) consumer (sources.Func place) boxes)
+    all_asked func_index func boxes =
+        wanted_of pipeline.output func_index consumer (side.count pipeline.output)
+        ++ (asked_by_updates side.of pipeline schedule side.is_in_place func_index consumer func.updates
+        ++ asked_from side.of pipeline schedule (func_index + 1) consumer (sources.Func func_index) boxes)
 
-    pub all_is : (place : ℕ) (func : Func) (boxes : List (Option SourceBox))
-        → side.part (read_from pipeline schedule flags (place + 1) consumer (sources.Func place) boxes (own_updates pipeline flags place consumer
-        (wanted pipeline.output place consumer) func.updates))
-        ≡ joins None (all_asked place func boxes)
-    all_is place func boxes =
-        let begun = wanted pipeline.output place consumer in
-        let picture = wanted_of pipeline.output place consumer (side.count pipeline.output) in
-        let updates = asked_by_updates side.of pipeline schedule side.is_in_place place consumer func.updates in
-        let later = asked_from side.of pipeline schedule (place + 1) consumer (sources.Func place) boxes in
-        from_is (sources.Func place) (place + 1) boxes (own_updates pipeline flags place consumer begun func.updates)
-        ∙ ap (λ (o : Option Range). joins o later) (updates_are place begun func.updates
-        ∙ ap (λ (o : Option Range). joins o updates) (wanted_is pipeline.output place))
+    pub all_is : (func_index : ℕ) (func : Func) (boxes : List (Option SourceBox))
+        → side.part (read_from pipeline schedule flags (func_index + 1) consumer (sources.Func func_index) boxes (own_updates pipeline flags func_index consumer
+        (wanted pipeline.output func_index consumer) func.updates))
+        ≡ joins None (all_asked func_index func boxes)
+    all_is func_index func boxes =
+        let begun = wanted pipeline.output func_index consumer in
+        let picture = wanted_of pipeline.output func_index consumer (side.count pipeline.output) in
+        let updates = asked_by_updates side.of pipeline schedule side.is_in_place func_index consumer func.updates in
+        let later = asked_from side.of pipeline schedule (func_index + 1) consumer (sources.Func func_index) boxes in
+        from_is (sources.Func func_index) (func_index + 1) boxes
+        (own_updates pipeline flags func_index consumer begun func.updates)
+        ∙ ap (λ (o : Option Range). joins o later) (updates_are func_index begun func.updates
+        ∙ ap (λ (o : Option Range). joins o updates) (wanted_is pipeline.output func_index))
         ∙ sym (folded_both (lasts_of consumer) (joins None picture) updates later)
         ∙ sym (folded_both (lasts_of consumer) None picture (updates ++ later))

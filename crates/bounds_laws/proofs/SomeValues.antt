@@ -90,12 +90,18 @@ module _ (lasts values : List ℕ) (range : Range) (x : ℕ) where
         fits_high = leb-true (range.high + more_sum range.base lasts) greatest d.1;
       }
 
-pub lies_in_of : (own : SourceBox) (values : List ℕ) (x y : ℕ) → LiesIn values own x y → lies_in own x y values ≡ true
-lies_in_of own values x y l =
-    and_from (lies own.lasts values own.x x) (lies own.lasts values own.y y) (lies_of own.lasts values own.x x l.first) (lies_of own.lasts values own.y y
+pub lies_in_of : (source_box : SourceBox) (values : List ℕ) (x y : ℕ) → LiesIn values source_box x y
+    → lies_in source_box x y values ≡ true
+lies_in_of source_box values x y l =
+    and_from (lies source_box.lasts values source_box.x x) (lies source_box.lasts values source_box.y y) (lies_of source_box.lasts values source_box.x x l.first) (lies_of source_box.lasts values source_box.y y
     l.second)
 
-pub of_lies_in : (own : SourceBox) (values : List ℕ) (x y : ℕ) → lies_in own x y values ≡ true → LiesIn values own x y
-of_lies_in own values x y e =
-    let k = and_parts (lies own.lasts values own.x x) (lies own.lasts values own.y y) e in
-    record { first = of_lies own.lasts values own.x x k.0; second = of_lies own.lasts values own.y y k.1 }
+pub of_lies_in : (source_box : SourceBox) (values : List ℕ) (x y : ℕ) → lies_in source_box x y values ≡ true
+    → LiesIn values source_box x y
+of_lies_in source_box values x y e =
+    let k = and_parts (lies source_box.lasts values source_box.x x) (lies source_box.lasts values source_box.y y) e in
+    record {
+      first = of_lies source_box.lasts values source_box.x x k.0;
+      second = of_lies source_box.lasts values
+          source_box.y y k.1;
+    }

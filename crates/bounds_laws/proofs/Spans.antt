@@ -74,45 +74,48 @@ same_refl (m ∷ ms) = and_from (same_multiple m m) (same_base ms ms) (eq-eqb (c
 
 -- ---- what has the span of the hull of two has that of the two
 
-module _ (own a b : Ends) (all : List Ends) (span : IsSpan own (hull a b ∷ all)) where
-  lowest_by : ((min a.low b.low == own.low) ≡ true) ⊎ (list_any (λ (ends : Ends). ends.low == own.low) all ≡ true) → (a.low ≤ b.low) ⊎ (b.low ≤ a.low)
-      → ((a.low == own.low) || ((b.low == own.low) || list_any (λ (ends : Ends). ends.low == own.low) all)) ≡ true
-  lowest_by (inr any) order = or_right (a.low == own.low) _ (or_right (b.low == own.low) _ any)
-  lowest_by (inl here) (inl order) = or_left (a.low == own.low) _ (eq-eqb a.low own.low (omega (arith, order, eqb-true (min a.low b.low) own.low here)))
-  lowest_by (inl here) (inr order) = or_right (a.low == own.low) _ (or_left (b.low == own.low)
-      _ (eq-eqb b.low own.low (omega (arith, order, eqb-true (min a.low b.low) own.low here))))
+module _ (own_ends a b : Ends) (all : List Ends) (span : IsSpan own_ends (hull a b ∷ all)) where
+  lowest_by : ((min a.low b.low == own_ends.low) ≡ true) ⊎ (list_any (λ (ends : Ends). ends.low == own_ends.low) all ≡ true) → (a.low ≤ b.low) ⊎ (b.low ≤ a.low)
+      → ((a.low == own_ends.low) || ((b.low == own_ends.low) || list_any (λ (ends : Ends). ends.low == own_ends.low)
+      all)) ≡ true
+  lowest_by (inr any) order = or_right (a.low == own_ends.low) _ (or_right (b.low == own_ends.low) _ any)
+  lowest_by (inl here) (inl order) = or_left (a.low == own_ends.low) _ (eq-eqb a.low own_ends.low (omega (arith, order, eqb-true (min a.low b.low) own_ends.low here)))
+  lowest_by (inl here) (inr order) = or_right (a.low == own_ends.low) _ (or_left (b.low == own_ends.low)
+      _ (eq-eqb b.low own_ends.low (omega (arith, order, eqb-true (min a.low b.low) own_ends.low here))))
 
-  highest_by : ((max a.high b.high == own.high) ≡ true) ⊎ (list_any (λ (ends : Ends). ends.high == own.high) all ≡ true) → (a.high ≤ b.high) ⊎ (b.high ≤ a.high)
-      → ((a.high == own.high) || ((b.high == own.high) || list_any (λ (ends : Ends). ends.high == own.high) all)) ≡ true
-  highest_by (inr any) order = or_right (a.high == own.high) _ (or_right (b.high == own.high) _ any)
-  highest_by (inl here) (inr order) = or_left (a.high == own.high) _ (eq-eqb a.high own.high (omega (arith, order, eqb-true (max a.high b.high) own.high here)))
-  highest_by (inl here) (inl order) = or_right (a.high == own.high) _ (or_left (b.high == own.high) _ (eq-eqb b.high own.high
-      (omega (arith, order, eqb-true (max a.high b.high) own.high here))))
+  highest_by : ((max a.high b.high == own_ends.high) ≡ true) ⊎ (list_any (λ (ends : Ends). ends.high == own_ends.high) all ≡ true) → (a.high ≤ b.high) ⊎ (b.high ≤ a.high)
+      → ((a.high == own_ends.high) || ((b.high == own_ends.high) || list_any
+      (λ (ends : Ends). ends.high == own_ends.high) all)) ≡ true
+  highest_by (inr any) order = or_right (a.high == own_ends.high) _ (or_right (b.high == own_ends.high) _ any)
+  highest_by (inl here) (inr order) = or_left (a.high == own_ends.high) _ (eq-eqb a.high own_ends.high (omega (arith, order, eqb-true (max a.high b.high) own_ends.high here)))
+  highest_by (inl here) (inl order) = or_right (a.high == own_ends.high) _ (or_left (b.high == own_ends.high) _ (eq-eqb b.high own_ends.high
+      (omega (arith, order, eqb-true (max a.high b.high) own_ends.high here))))
 
   either : (n m : ℕ) → (n ≤ m) ⊎ (m ≤ n)
   either n m = elim (cases_lt n m) [ inl l ↦ inl (omega (arith, l)) | inr l ↦ inr l ]
 
-  span_of_two : IsSpan own (a ∷ b ∷ all)
+  span_of_two : IsSpan own_ends (a ∷ b ∷ all)
   span_of_two =
-      let lower = and_parts (nat_le own.low (min a.low b.low)) (list_all (λ (ends : Ends). nat_le own.low ends.low) all) span.none_lower in
-      let higher = and_parts (nat_le (max a.high b.high) own.high) (list_all (λ (ends : Ends). nat_le ends.high own.high) all) span.none_higher in
-      let low = leb-true own.low (min a.low b.low) lower.0 in
-      let high = leb-true (max a.high b.high) own.high higher.0 in
+      let lower = and_parts (nat_le own_ends.low (min a.low b.low)) (list_all (λ (ends : Ends). nat_le own_ends.low ends.low) all) span.none_lower in
+      let higher = and_parts (nat_le (max a.high b.high) own_ends.high) (list_all (λ (ends : Ends). nat_le ends.high own_ends.high) all) span.none_higher in
+      let low = leb-true own_ends.low (min a.low b.low) lower.0 in
+      let high = leb-true (max a.high b.high) own_ends.high higher.0 in
       record {
-        none_lower = and_from (nat_le own.low a.low) _ (le-leb own.low a.low (omega (arith, low))) (and_from (nat_le own.low b.low)
-            _ (le-leb own.low b.low (omega (arith, low))) lower.1);
-        none_higher = and_from (nat_le a.high own.high) _ (le-leb a.high own.high (omega (arith, high))) (and_from (nat_le b.high own.high)
-            _ (le-leb b.high own.high (omega (arith, high))) higher.1);
-        lowest = lowest_by (or_cases (min a.low b.low == own.low) _ span.lowest) (either a.low b.low);
-        highest = highest_by (or_cases (max a.high b.high == own.high) _ span.highest) (either a.high b.high);
+        none_lower = and_from (nat_le own_ends.low a.low) _ (le-leb own_ends.low a.low (omega (arith, low))) (and_from (nat_le own_ends.low b.low)
+            _ (le-leb own_ends.low b.low (omega (arith, low))) lower.1);
+        none_higher = and_from (nat_le a.high own_ends.high) _ (le-leb a.high own_ends.high (omega (arith, high))) (and_from (nat_le b.high own_ends.high)
+            _ (le-leb b.high own_ends.high (omega (arith, high))) higher.1);
+        lowest = lowest_by (or_cases (min a.low b.low == own_ends.low) _ span.lowest) (either a.low b.low);
+        highest = highest_by (or_cases (max a.high b.high == own_ends.high) _ span.highest) (either a.high b.high);
       }
 
-span_of_one : (own : Ends) → IsSpan own (own ∷ [])
-span_of_one own = record {
-  none_lower = and_from (nat_le own.low own.low) true (le-leb own.low own.low (omega arith)) refl;
-  none_higher = and_from (nat_le own.high own.high) true (le-leb own.high own.high (omega arith)) refl;
-  lowest = or_left (own.low == own.low) false (eq-eqb own.low own.low refl);
-  highest = or_left (own.high == own.high) false (eq-eqb own.high own.high refl);
+span_of_one : (own_ends : Ends) → IsSpan own_ends (own_ends ∷ [])
+span_of_one own_ends = record {
+  none_lower = and_from (nat_le own_ends.low own_ends.low) true (le-leb own_ends.low own_ends.low (omega arith)) refl;
+  none_higher = and_from (nat_le own_ends.high own_ends.high) true (le-leb own_ends.high own_ends.high (omega arith))
+      refl;
+  lowest = or_left (own_ends.low == own_ends.low) false (eq-eqb own_ends.low own_ends.low refl);
+  highest = or_left (own_ends.high == own_ends.high) false (eq-eqb own_ends.high own_ends.high refl);
 }
 
 -- ---- the hull of two
@@ -133,17 +136,18 @@ module _ (lasts : List ℕ) where
       → fit lasts base ends ≡ record { base = base; low = ends.low; high = ends.high }
   fit_is base ends l h = rw (le-leb (least + less_sum base lasts) ends.low l, le-leb (ends.high + more_sum base lasts) greatest h) refl
 
-  record AreJoined (a b own : Range) : Type 0 where
-    pub kept : IsKept lasts own
-    pub ends : widened lasts own ≡ hull (widened lasts a) (widened lasts b)
-    pub same : same_base a.base b.base ≡ true → (own.base ≡ a.base) × (ends_of own ≡ hull (ends_of a) (ends_of b))
-    pub other : same_base a.base b.base ≡ false → own.base ≡ no_base
+  record AreJoined (a b own_range : Range) : Type 0 where
+    pub kept : IsKept lasts own_range
+    pub ends : widened lasts own_range ≡ hull (widened lasts a) (widened lasts b)
+    pub same : same_base a.base b.base ≡ true → (own_range.base ≡ a.base) ×
+        (ends_of own_range ≡ hull (ends_of a) (ends_of b))
+    pub other : same_base a.base b.base ≡ false → own_range.base ≡ no_base
 
-  plain_widened : (own : Range) → own.base ≡ no_base → widened lasts own ≡ ends_of own
-  plain_widened own e =
-      let less : less_sum own.base lasts ≡ 0 = ap (λ (l : List Multiple). less_sum l lasts) e ∙ no_less lasts in
-      let more : more_sum own.base lasts ≡ 0 = ap (λ (l : List Multiple). more_sum l lasts) e ∙ no_more lasts in
-      ends_are (own.low - less_sum own.base lasts) (own.high + more_sum own.base lasts) own.low own.high (omega (arith, less)) (omega (arith, more))
+  plain_widened : (own_range : Range) → own_range.base ≡ no_base → widened lasts own_range ≡ ends_of own_range
+  plain_widened own_range e =
+      let less : less_sum own_range.base lasts ≡ 0 = ap (λ (l : List Multiple). less_sum l lasts) e ∙ no_less lasts in
+      let more : more_sum own_range.base lasts ≡ 0 = ap (λ (l : List Multiple). more_sum l lasts) e ∙ no_more lasts in
+      ends_are (own_range.low - less_sum own_range.base lasts) (own_range.high + more_sum own_range.base lasts) own_range.low own_range.high (omega (arith, less)) (omega (arith, more))
 
   module _ (a b : Range) (ka : IsKept lasts a) (kb : IsKept lasts b) where
     abbrev both : Bool → CommonBase
@@ -163,8 +167,8 @@ module _ (lasts : List ℕ) where
         let is : together lasts hull a b ≡ record { base = a.base; low = min a.low b.low; high = max a.high b.high } =
         fitted true e ∙ fit_is a.base (hull (ends_of a) (ends_of b)) (omega (arith, ka.fits.low, kb.fits.low, sums.1))
         (omega (arith, ka.fits.high, kb.fits.high, sums.0)) in
-        subst (λ (own : Range). AreJoined a b own) (sym is) (record {
-          kept = record { fits = subst (λ (own : Range). IsFit lasts own) is (hull_fits lasts a b ka.fits kb.fits); normal = ka.normal };
+        subst (λ (own_range : Range). AreJoined a b own_range) (sym is) (record {
+          kept = record { fits = subst (λ (own_range : Range). IsFit lasts own_range) is (hull_fits lasts a b ka.fits kb.fits); normal = ka.normal };
           ends = ends_are (min a.low b.low - less_sum a.base lasts) (max a.high b.high + more_sum a.base lasts)
               (min (a.low - less_sum a.base lasts) (b.low - less_sum b.base lasts)) (max (a.high + more_sum a.base lasts) (b.high + more_sum b.base lasts))
               (omega (arith, sums.1)) (omega (arith, sums.0));
@@ -172,19 +176,19 @@ module _ (lasts : List ℕ) where
           other = λ f. absurd cc;
         })
     joined_by false e =
-        let own : Range = record {
+        let own_range : Range = record {
           base = no_base;
           low = min (widened lasts a).low (widened lasts b).low;
           high = max (widened lasts a).high
               (widened lasts b).high;
         } in
-        let is : together lasts hull a b ≡ own =
+        let is : together lasts hull a b ≡ own_range =
         fitted false e
         ∙ fit_is no_base (hull (widened lasts a) (widened lasts b)) (omega (arith, ka.fits.low, kb.fits.low, no_less lasts))
         (omega (arith, ka.fits.high, kb.fits.high, no_more lasts)) in
         subst (λ (c : Range). AreJoined a b c) (sym is) (record {
           kept = record { fits = subst (λ (c : Range). IsFit lasts c) is (hull_fits lasts a b ka.fits kb.fits); normal = none_normal };
-          ends = plain_widened own refl;
+          ends = plain_widened own_range refl;
           same = λ t. absurd cc;
           other = λ f. refl;
         })
@@ -195,20 +199,20 @@ module _ (lasts : List ℕ) where
   -- ---- the hull of a list
 
   abbrev pub hulls : Range → List Range → Range
-  hulls own [] = own
-  hulls own (range ∷ others) = hulls (together lasts hull own range) others
+  hulls own_range [] = own_range
+  hulls own_range (range ∷ others) = hulls (together lasts hull own_range range) others
 
-  pub hulls_kept : (own : Range) (others : List Range) → IsKept lasts own → AreKept lasts others → IsKept lasts (hulls own others)
-  hulls_kept own [] kept all = kept
-  hulls_kept own (range ∷ others) kept all = hulls_kept (together lasts hull own range) others (joined_two own range kept all.0).kept all.1
+  pub hulls_kept : (own_range : Range) (others : List Range) → IsKept lasts own_range → AreKept lasts others → IsKept lasts (hulls own_range others)
+  hulls_kept own_range [] kept all = kept
+  hulls_kept own_range (range ∷ others) kept all = hulls_kept (together lasts hull own_range range) others (joined_two own_range range kept all.0).kept all.1
 
-  widened_span : (own : Range) (others : List Range) → IsKept lasts own → AreKept lasts others
-      → IsSpan (widened lasts (hulls own others)) (map (widened lasts) (own ∷ others))
-  widened_span own [] kept all = span_of_one (widened lasts own)
-  widened_span own (range ∷ others) kept all =
-      let join = joined_two own range kept all.0 in
-      let next = together lasts hull own range in
-      span_of_two (widened lasts (hulls next others)) (widened lasts own) (widened lasts range) (map (widened lasts) others)
+  widened_span : (own_range : Range) (others : List Range) → IsKept lasts own_range → AreKept lasts others
+      → IsSpan (widened lasts (hulls own_range others)) (map (widened lasts) (own_range ∷ others))
+  widened_span own_range [] kept all = span_of_one (widened lasts own_range)
+  widened_span own_range (range ∷ others) kept all =
+      let join = joined_two own_range range kept all.0 in
+      let next = together lasts hull own_range range in
+      span_of_two (widened lasts (hulls next others)) (widened lasts own_range) (widened lasts range) (map (widened lasts) others)
       (subst (λ (ends : Ends). IsSpan (widened lasts (hulls next others)) (ends ∷ map (widened lasts) others)) join.ends (widened_span next others join.kept
       all.1))
 
@@ -216,62 +220,63 @@ module _ (lasts : List ℕ) where
   have_base base all = list_all (λ (range : Range). same_base base range.base) all
 
   -- all of one base
-  one_base : (own : Range) (others : List Range) → IsKept lasts own → AreKept lasts others → have_base own.base others ≡ true
-      → ((hulls own others).base ≡ own.base) × IsSpan (ends_of (hulls own others)) (map ends_of (own ∷ others))
-  one_base own [] kept all e = (refl, span_of_one (ends_of own))
-  one_base own (range ∷ others) kept all e =
-      let join = joined_two own range kept all.0 in
-      let next = together lasts hull own range in
-      let bases = and_parts (same_base own.base range.base) (have_base own.base others) e in
+  one_base : (own_range : Range) (others : List Range) → IsKept lasts own_range → AreKept lasts others → have_base own_range.base others ≡ true
+      → ((hulls own_range others).base ≡ own_range.base) × IsSpan (ends_of (hulls own_range others))
+      (map ends_of (own_range ∷ others))
+  one_base own_range [] kept all e = (refl, span_of_one (ends_of own_range))
+  one_base own_range (range ∷ others) kept all e =
+      let join = joined_two own_range range kept all.0 in
+      let next = together lasts hull own_range range in
+      let bases = and_parts (same_base own_range.base range.base) (have_base own_range.base others) e in
       let same = join.same bases.0 in
       let rest = one_base next others join.kept all.1 (subst (λ (base : List Multiple). have_base base others ≡ true) (sym same.0) bases.1) in (
         rest.0 ∙ same.0,
-        span_of_two (ends_of (hulls next others)) (ends_of own) (ends_of range) (map ends_of others)
+        span_of_two (ends_of (hulls next others)) (ends_of own_range) (ends_of range) (map ends_of others)
             (subst (λ (ends : Ends). IsSpan (ends_of (hulls next others)) (ends ∷ map ends_of others)) same.1 rest.1),
       )
 
   -- once the bases differ there is none
-  still_none : (own : Range) (others : List Range) → IsKept lasts own → AreKept lasts others → own.base ≡ no_base → (hulls own others).base ≡ no_base
-  still_none own [] kept all none = none
-  still_none own (range ∷ others) kept all none =
-      let join = joined_two own range kept all.0 in
-      still_none (together lasts hull own range) others join.kept all.1 (by_test join (same_base own.base range.base) refl)
+  still_none : (own_range : Range) (others : List Range) → IsKept lasts own_range → AreKept lasts others → own_range.base ≡ no_base → (hulls own_range others).base ≡ no_base
+  still_none own_range [] kept all none = none
+  still_none own_range (range ∷ others) kept all none =
+      let join = joined_two own_range range kept all.0 in
+      still_none (together lasts hull own_range range) others join.kept all.1 (by_test join (same_base own_range.base range.base) refl)
     where
-      by_test : AreJoined own range (together lasts hull own range) → (test : Bool) → same_base own.base range.base ≡ test
-          → (together lasts hull own range).base ≡ no_base
+      by_test : AreJoined own_range range (together lasts hull own_range range) → (test : Bool) → same_base own_range.base range.base ≡ test
+          → (together lasts hull own_range range).base ≡ no_base
       by_test join true e = (join.same e).0 ∙ none
       by_test join false e = join.other e
 
-  more_bases : (own : Range) (others : List Range) → IsKept lasts own → AreKept lasts others → have_base own.base others ≡ false
-      → (hulls own others).base ≡ no_base
-  more_bases own [] kept all e = absurd cc
-  more_bases own (range ∷ others) kept all e =
-      by_test (same_base own.base range.base) refl (λ differ. more_bases (together lasts hull own range) others (joined_two own range kept all.0).kept all.1
+  more_bases : (own_range : Range) (others : List Range) → IsKept lasts own_range → AreKept lasts others → have_base own_range.base others ≡ false
+      → (hulls own_range others).base ≡ no_base
+  more_bases own_range [] kept all e = absurd cc
+  more_bases own_range (range ∷ others) kept all e =
+      by_test (same_base own_range.base range.base) refl (λ differ. more_bases (together lasts hull own_range range) others (joined_two own_range range kept all.0).kept all.1
       differ)
     where
-      join : AreJoined own range (together lasts hull own range)
-      join = joined_two own range kept all.0
+      join : AreJoined own_range range (together lasts hull own_range range)
+      join = joined_two own_range range kept all.0
 
-      by_test : (test : Bool) → same_base own.base range.base ≡ test
-          → (have_base (together lasts hull own range).base others ≡ false → (hulls (together lasts hull own range) others).base ≡ no_base)
-          → (hulls (together lasts hull own range) others).base ≡ no_base
-      by_test false f next = still_none (together lasts hull own range) others join.kept all.1 (join.other f)
+      by_test : (test : Bool) → same_base own_range.base range.base ≡ test
+          → (have_base (together lasts hull own_range range).base others ≡ false → (hulls (together lasts hull own_range range) others).base ≡ no_base)
+          → (hulls (together lasts hull own_range range) others).base ≡ no_base
+      by_test false f next = still_none (together lasts hull own_range range) others join.kept all.1 (join.other f)
       by_test true f next =
-          next (subst (λ (base : List Multiple). have_base base others ≡ false) (sym (join.same f).0) (ap (λ (t : Bool). t && have_base own.base others) (sym f)
+          next (subst (λ (base : List Multiple). have_base base others ≡ false) (sym (join.same f).0) (ap (λ (t : Bool). t && have_base own_range.base others) (sym f)
           ∙ e))
 
-  pub hulls_least : (own : Range) (others : List Range) → IsKept lasts own → AreKept lasts others → IsLeast lasts (own ∷ others) (hulls own others)
-  hulls_least own others kept all = record {
+  pub hulls_least : (own_range : Range) (others : List Range) → IsKept lasts own_range → AreKept lasts others → IsLeast lasts (own_range ∷ others) (hulls own_range others)
+  hulls_least own_range others kept all = record {
     one_base = λ e.
-        let one = one_base own others kept all e in (
-          subst (λ (base : List Multiple). have_base base (own ∷ others) ≡ true) (sym one.0) (and_from (same_base own.base own.base) (have_base own.base others)
-              (same_refl own.base) e),
+        let one = one_base own_range others kept all e in (
+          subst (λ (base : List Multiple). have_base base (own_range ∷ others) ≡ true) (sym one.0) (and_from (same_base own_range.base own_range.base) (have_base own_range.base others)
+              (same_refl own_range.base) e),
           one.1,
         );
     more_bases = λ e.
-        let none = more_bases own others kept all e in (
+        let none = more_bases own_range others kept all e in (
           none,
-          subst (λ (ends : Ends). IsSpan ends (map (widened lasts) (own ∷ others))) (plain_widened (hulls own others) none) (widened_span own others kept
+          subst (λ (ends : Ends). IsSpan ends (map (widened lasts) (own_range ∷ others))) (plain_widened (hulls own_range others) none) (widened_span own_range others kept
               all),
         );
   }

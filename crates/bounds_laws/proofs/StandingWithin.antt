@@ -1,9 +1,9 @@
--- A reader of a Func that is computed at a loop stands at that loop.
+-- A reader of a Func that is computed at a loop is at that loop.
 use Rattle.std.proofs.Common.{◌≡◌, ℕ, zero, suc, ◌+◌, ◌<◌, true, List, [], ◌∷◌, Some, refl, sym, ap, subst, ◌∙◌, arith}
 use Rattle.std.specs.Prelude.{slice_get}
 use Rattle.halide_pipeline.specs.Pipelines.{Pipeline}
 use Rattle.schedule.specs.declared.schedules.Schedule.{Schedule}
-use Rattle.schedule.specs.declared.placements.LoopPlace.{LoopPlace}
+use Rattle.schedule.specs.declared.placements.LoopPosition.{LoopPosition}
 use Rattle.schedule.specs.declared.placements.ComputeLevel.{ComputeLevel}
 use Rattle.schedule.specs.declared.placements.ComputeLevel.TheVariants as places
 use Rattle.schedule.specs.declared.placements.FuncPlacement.{FuncPlacement}
@@ -19,14 +19,15 @@ use Rattle.bounds_laws.specs.Callers.{ReadsThrough, Calls, Through, StandsAt, Ha
 use Rattle.bounds_laws.specs.Laws.{IsComputed}
 
 -- a flag that is set is that of an inlined Func
-pub flag_is : (standings : List FuncPlacement) (place : ℕ) (own : FuncPlacement) → slice_get standings place ≡ Some own
-    → flagged (flags_of standings) place ≡ is_inlined own.place
-flag_is [] place own found = absurd cc
-flag_is (first ∷ others) zero own found = let first_is : first ≡ own = cc in ap (λ (s : FuncPlacement). is_inlined s.place) first_is
-flag_is (first ∷ others) (suc place) own found = flag_is others place own found
+pub flag_is : (standings : List FuncPlacement) (func_index : ℕ) (placement : FuncPlacement)
+    → slice_get standings func_index ≡ Some placement
+    → flagged (flags_of standings) func_index ≡ is_inlined placement.place
+flag_is [] func_index placement found = absurd cc
+flag_is (first ∷ others) zero placement found = let first_is : first ≡ placement = cc in ap (λ (s : FuncPlacement). is_inlined s.place) first_is
+flag_is (first ∷ others) (suc func_index) placement found = flag_is others func_index placement found
 
-pub one_standing : (standings : List FuncPlacement) (place : ℕ) (a b : FuncPlacement) → slice_get standings place ≡ Some a → slice_get standings place ≡ Some b → a ≡ b
-one_standing standings place a b e f = cc
+pub one_standing : (standings : List FuncPlacement) (func_index : ℕ) (a b : FuncPlacement) → slice_get standings func_index ≡ Some a → slice_get standings func_index ≡ Some b → a ≡ b
+one_standing standings func_index a b e f = cc
 
 module _ (pipeline : Pipeline) (schedule : Schedule) (accepted : IsAccepted pipeline schedule) where
   standings_are : schedule.standings ≡ standings_from pipeline schedule.funcs 0 schedule.funcs
@@ -51,19 +52,19 @@ module _ (pipeline : Pipeline) (schedule : Schedule) (accepted : IsAccepted pipe
       let r = read_reached between b.own b.there func through in
       record { reached = r.reached; before = omega (arith, r.before, before) }
 
-  module _ (func : ℕ) (own : FuncPlacement) (own_there : IsReached schedule.standings func own) (consumer : LoopPlace) (place_is : own.place ≡ places.At consumer)
+  module _ (func : ℕ) (placement : FuncPlacement) (own_there : IsReached schedule.standings func placement) (consumer : LoopPosition) (place_is : placement.place ≡ places.At consumer)
     where
       here : (n : ℕ) → 0 + n ≡ n
       here n = omega arith
 
-      uses : HasUsesWithin pipeline schedule.funcs schedule.standings func own
-      uses = subst (λ (n : ℕ). HasUsesWithin pipeline schedule.funcs schedule.standings n own) (here func) (numbered_at (HasUsesWithin pipeline schedule.funcs
-          schedule.standings) 0 schedule.standings accepted.uses func own own_there.standing)
+      uses : HasUsesWithin pipeline schedule.funcs schedule.standings func placement
+      uses = subst (λ (n : ℕ). HasUsesWithin pipeline schedule.funcs schedule.standings n placement) (here func) (numbered_at (HasUsesWithin pipeline schedule.funcs
+          schedule.standings) 0 schedule.standings accepted.uses func placement own_there.standing)
 
       rooted : IsRootReached schedule.standings consumer.func
       rooted =
-          let h : HasConsumerAtRoot schedule.standings func own = subst (λ (n : ℕ). HasConsumerAtRoot schedule.standings n own) (here func)
-          (numbered_at (HasConsumerAtRoot schedule.standings) 0 schedule.standings accepted.consumers_at_root func own own_there.standing) in
+          let h : HasConsumerAtRoot schedule.standings func placement = subst (λ (n : ℕ). HasConsumerAtRoot schedule.standings n placement) (here func)
+          (numbered_at (HasConsumerAtRoot schedule.standings) 0 schedule.standings accepted.consumers_at_root func placement own_there.standing) in
           h own_there.reached consumer place_is
 
       -- an inlined Func within the loop has its readers there

@@ -34,7 +34,7 @@ use Rattle.bounds_laws.specs.ConsumerLaws.{IsInPlace, OwnReadsStay}
 use Rattle.bounds_laws.specs.Laws.{seen_in, second_seen, update_points}
 use Rattle.bounds.specs.Boxes.{same_source}
 
--- a point of an input or of one of the first so many Funcs
+-- a point of an input or of one of the first this many Funcs
 abbrev pub IsBelow : ℕ → Source → Type 0
 IsBelow count (sources.Input place) = Unit {0}
 IsBelow count (sources.Func place) = place < count
@@ -67,52 +67,53 @@ module _ (P : Point → Type 0) where
   answers (Some made) answer other x y o p q = answer x y p q
 
 module _ (reads : Reads) (is_inlined : ℕ → Bool) (inputs : List Input) (funcs : List Func) (are : AreFuncs inputs funcs) where
-  -- what expressions read that call the first so many Funcs
+  -- what expressions read that call the first this many Funcs
   abbrev pub Within : ℕ → Type 0
   Within count = (has : Variable → Bool) (vars : Variable → Seen) → ((v : Variable) → AreBelow count (vars v).points)
       → (e : Expr) → keeps (is_read inputs funcs count) has e ≡ true → AreBelow count (inlined (seeing reads) is_inlined funcs count vars e).points
 
   module _ (P : Point → Type 0) (count : ℕ) (lower : (point : Point) → IsBelow count point.source → P point) where
     abbrev Made : ℕ → Option Func → Option (Seen → Option Seen → Seen)
-    Made place own = made_in (seeing reads) (inside (seeing reads) is_inlined funcs place) own
+    Made func_index own_func = made_in (seeing reads) (inside (seeing reads) is_inlined funcs func_index) own_func
 
-    made_by : (place : ℕ) → place ≤ count → Within place → (test : Bool) (own : Option Func) → slice_get funcs place ≡ own
-        → Answers P (Made place (cond test own None))
+    made_by : (func_index : ℕ) → func_index ≤ count → Within func_index → (test : Bool) (own_func : Option Func) → slice_get funcs func_index ≡ own_func
+        → Answers P (Made func_index (cond test own_func None))
     unfolding seeing
-    made_by place few inner false own is = tt
-    made_by place few inner true None is = tt
-    made_by place few inner true (Some func) is = λ x y p q.
+    made_by func_index few inner false own_func is = tt
+    made_by func_index few inner true None is = tt
+    made_by func_index few inner true (Some func) is = λ x y p q.
         let second = second_of (none (seeing reads)) y in
         let vars = arguments (none (seeing reads)) (unread x) (unread second) in
-        let below : AreBelow place (inlined (seeing reads) is_inlined funcs place vars func.pure).points = inner (is_argument (dimensions func)) vars
-        (by_variable x second) func.pure (are place func is).pure in
-        all_both P x.points (second_points y ++ (inlined (seeing reads) is_inlined funcs place vars func.pure).points) p
-        (all_both P (second_points y) (inlined (seeing reads) is_inlined funcs place vars func.pure).points q
-        (weakened (λ (point : Point). IsBelow place point.source) P (λ point b. lower point (still_below place count few point.source b))
-        (inlined (seeing reads) is_inlined funcs place vars func.pure).points below))
+        let below : AreBelow func_index (inlined (seeing reads) is_inlined funcs func_index vars func.pure).points = inner (is_argument (dimensions func)) vars
+        (by_variable x second) func.pure (are func_index func is).pure in
+        all_both P x.points (second_points y ++ (inlined (seeing reads) is_inlined funcs func_index vars
+        func.pure).points) p
+        (all_both P (second_points y) (inlined (seeing reads) is_inlined funcs func_index vars func.pure).points q
+        (weakened (λ (point : Point). IsBelow func_index point.source) P (λ point b. lower point (still_below func_index count few point.source b))
+        (inlined (seeing reads) is_inlined funcs func_index vars func.pure).points below))
       where
-        by_variable : (x second : Seen) (v : Variable) → AreBelow place (arguments (none (seeing reads)) (unread x) (unread second) v).points
+        by_variable : (x second : Seen) (v : Variable) → AreBelow func_index (arguments (none (seeing reads)) (unread x) (unread second) v).points
         by_variable x second variables.FirstArgument = tt
         by_variable x second variables.SecondArgument = tt
         by_variable x second variables.FirstReduction = tt
         by_variable x second variables.SecondReduction = tt
 
-    -- a call, by the first so many Funcs
-    call : (more : ℕ) → ((place : ℕ) → place < more → place ≤ count) → ((place : ℕ) → place < more → Within place) → (s : Source) → IsBelow more s
+    -- a call, by the first this many Funcs
+    call : (more : ℕ) → ((func_index : ℕ) → func_index < more → func_index ≤ count) → ((func_index : ℕ) → func_index < more → Within func_index) → (s : Source) → IsBelow more s
         → (other x : Seen) (y : Option Seen)
         → All P other.points → All P x.points → All P (second_points y)
         → All P (answered other x y (answer (inside (seeing reads) is_inlined funcs more) s)).points
-    call more few inner (sources.Input place) below other x y o p q = o
-    call more few inner (sources.Func place) below other x y o p q =
-        rw (inside_is (seeing reads) is_inlined funcs more place)
-        (answers P (Made place (func_in funcs is_inlined more place)) (made_by place (few place below) (inner place below) (nat_lt place more
-        && is_inlined place) (slice_get funcs place) refl) other x y o p q)
+    call more few inner (sources.Input func_index) below other x y o p q = o
+    call more few inner (sources.Func func_index) below other x y o p q =
+        rw (inside_is (seeing reads) is_inlined funcs more func_index)
+        (answers P (Made func_index (func_in funcs is_inlined more func_index)) (made_by func_index (few func_index below) (inner func_index below) (nat_lt func_index more
+        && is_inlined func_index) (slice_get funcs func_index) refl) other x y o p q)
 
   is_below : (count : ℕ) (s : Source) (n : ℕ) → is_read inputs funcs count s n ≡ true → IsBelow count s
-  is_below count (sources.Input place) n read = tt
-  is_below count (sources.Func place) n read = ltb-true place count (and_parts (nat_lt place count) (is_func_of (slice_get funcs place) n) read).0
+  is_below count (sources.Input func_index) n read = tt
+  is_below count (sources.Func func_index) n read = ltb-true func_index count (and_parts (nat_lt func_index count) (is_func_of (slice_get funcs func_index) n) read).0
 
-  module _ (count : ℕ) (inner : (place : ℕ) → place < count → Within place) (has : Variable → Bool) (vars : Variable → Seen) (are_vars : (v : Variable)
+  module _ (count : ℕ) (inner : (func_index : ℕ) → func_index < count → Within func_index) (has : Variable → Bool) (vars : Variable → Seen) (are_vars : (v : Variable)
       → AreBelow count (vars v).points) where
     abbrev ReadsBelow : Seen → Unit {0} → Type 0
     ReadsBelow s u = AreBelow count s.points
@@ -134,11 +135,11 @@ module _ (reads : Reads) (is_inlined : ℕ → Bool) (inputs : List Input) (func
     below_levels (layer.Select c a b) kept = both c.left.points (a.left.points ++ b.left.points) c.is (both a.left.points b.left.points a.is b.is)
     below_levels (layer.Call1 s a) kept =
         let l = is_below count s 1 kept in
-        call Below count (λ point b. b) count (λ place b. omega (arith, b)) inner s l ((seeing reads).level (layer.Call1 s a.left)) a.left None
+        call Below count (λ point b. b) count (λ func_index b. omega (arith, b)) inner s l ((seeing reads).level (layer.Call1 s a.left)) a.left None
         (both a.left.points (record { source = s; x = a.left.value; y = 0 } ∷ []) a.is (l, tt)) a.is tt
     below_levels (layer.Call2 s a b) kept =
         let l = is_below count s 2 kept in
-        call Below count (λ point b. b) count (λ place b. omega (arith, b)) inner s l ((seeing reads).level (layer.Call2 s a.left b.left)) a.left (Some b.left)
+        call Below count (λ point b. b) count (λ func_index b. omega (arith, b)) inner s l ((seeing reads).level (layer.Call2 s a.left b.left)) a.left (Some b.left)
         (both (a.left.points ++ b.left.points) (record { source = s; x = a.left.value; y = b.left.value } ∷ []) (both a.left.points b.left.points a.is b.is)
         (l, tt)) a.is b.is
 
@@ -149,8 +150,8 @@ module _ (reads : Reads) (is_inlined : ℕ → Bool) (inputs : List Input) (func
         (λ level. tt) below_levels e kept
 
   pub within : (bound count : ℕ) → count ≤ bound → Within count
-  within zero count few = below_in count (λ place l. absurd (omega (arith, few, l)))
-  within (suc bound) count few = below_in count (λ place l. within bound place (omega (arith, few, l)))
+  within zero count few = below_in count (λ func_index l. absurd (omega (arith, few, l)))
+  within (suc bound) count few = below_in count (λ func_index l. within bound func_index (omega (arith, few, l)))
 
   -- ---- a variable alone
 
@@ -163,9 +164,9 @@ module _ (reads : Reads) (is_inlined : ℕ → Bool) (inputs : List Input) (func
 
     by_layer : (y : Expr-F Expr) → (v : Variable) → is_variable_at v y ≡ true → of (roll-Expr y) ≡ vars v
     unfolding through
-    by_layer (layer.Variable own) v is =
-        fold-roll-Expr Seen (through_at (seeing reads) (inside (seeing reads) is_inlined funcs count) vars) (layer.Variable own)
-        ∙ ap vars (same_variable-true own v is)
+    by_layer (layer.Variable own_func) v is =
+        fold-roll-Expr Seen (through_at (seeing reads) (inside (seeing reads) is_inlined funcs count) vars) (layer.Variable own_func)
+        ∙ ap vars (same_variable-true own_func v is)
     by_layer (layer.Number n) v is = absurd cc
     by_layer (layer.Binary op a b) v is = absurd cc
     by_layer (layer.Divide a n) v is = absurd cc
@@ -214,15 +215,16 @@ module _ (pipeline : Pipeline) (schedule : Schedule) (rules : IsWellFormed pipel
   lower_stays own below = by_source own.source refl below
     where
       by_source : (s : Source) → own.source ≡ s → IsBelow reader s → Stays own
-      by_source (sources.Input place) is below = λ e. absurd (apart (ap (λ (t : Source). same_source t (sources.Func reader)) (sym is) ∙ e))
+      by_source (sources.Input func_index) is below = λ e. absurd (apart (ap (λ (t : Source). same_source t (sources.Func reader)) (sym is) ∙ e))
         where
           apart : false ≡ true → ⊥
           apart e = cc
-      by_source (sources.Func place) is below =
-          λ e. absurd (omega (arith, below, eqb-true place reader (ap (λ (t : Source). same_source t (sources.Func reader)) (sym is) ∙ e)))
+      by_source (sources.Func func_index) is below =
+          λ e. absurd (omega (arith, below, eqb-true func_index reader (ap (λ (t : Source). same_source t (sources.Func reader)) (sym is) ∙ e)))
 
-  abbrev deeper : (place : ℕ) → Within reads is_inlined pipeline.inputs pipeline.funcs rules.funcs place
-  deeper place = within reads is_inlined pipeline.inputs pipeline.funcs rules.funcs place place (omega arith)
+  abbrev deeper : (func_index : ℕ) → Within reads is_inlined pipeline.inputs pipeline.funcs rules.funcs func_index
+  deeper func_index = within reads is_inlined pipeline.inputs pipeline.funcs rules.funcs func_index func_index
+      (omega arith)
 
   -- what is known of a part: it is the variable alone that is said, and its own calls stay
   abbrev Knows : Placed → Seen → Type 0
@@ -233,8 +235,8 @@ module _ (pipeline : Pipeline) (schedule : Schedule) (rules : IsWellFormed pipel
   implied false held e own = absurd cc
 
   own_call : (s : Source) → same_source s (sources.Func reader) ≡ true → is_own_call reader s ≡ true
-  own_call (sources.Input place) e = absurd cc
-  own_call (sources.Func place) e = eq-eqb reader place (sym (eqb-true place reader e))
+  own_call (sources.Input func_index) e = absurd cc
+  own_call (sources.Func func_index) e = eq-eqb reader func_index (sym (eqb-true func_index reader e))
 
   one_dimension : (index : Option Expr) → keeps_index (is_read pipeline.inputs pipeline.funcs reader) (is_update_variable (dimensions func) update.second)
       (dimensions func) index ≡ true
@@ -247,10 +249,10 @@ module _ (pipeline : Pipeline) (schedule : Schedule) (rules : IsWellFormed pipel
 
   -- a call with one index is of a Func of one dimension
   called_one : (s : Source) → is_read pipeline.inputs pipeline.funcs (suc reader) s 1 ≡ true → same_source s (sources.Func reader) ≡ true → dimensions func ≡ 1
-  called_one (sources.Input place) read own = absurd cc
-  called_one (sources.Func place) read own =
-      let same : place ≡ reader = eqb-true place reader own in
-      let is : is_func_of (slice_get pipeline.funcs place) 1 ≡ true = (and_parts (nat_lt place (suc reader)) (is_func_of (slice_get pipeline.funcs place) 1)
+  called_one (sources.Input func_index) read own = absurd cc
+  called_one (sources.Func func_index) read own =
+      let same : func_index ≡ reader = eqb-true func_index reader own in
+      let is : is_func_of (slice_get pipeline.funcs func_index) 1 ≡ true = (and_parts (nat_lt func_index (suc reader)) (is_func_of (slice_get pipeline.funcs func_index) 1)
       read).1 in
       eqb-true (dimensions func) 1 (ap (λ (f : Option Func). is_func_of f 1) (sym (ap (λ (n : ℕ). slice_get pipeline.funcs n) same ∙ func_is)) ∙ is)
 
@@ -282,8 +284,8 @@ module _ (pipeline : Pipeline) (schedule : Schedule) (rules : IsWellFormed pipel
               || is_alone variables.FirstArgument a.left.alone) k.1 (own_call s own)) f);
           second = λ f. absurd (one_dimension update.left_y formed_so.left_y (called_one s kept own) f);
         } in
-        call reads is_inlined pipeline.inputs pipeline.funcs rules.funcs Stays reader lower_stays (suc reader) (λ place l. omega (arith, l))
-        (λ place l. deeper place) s
+        call reads is_inlined pipeline.inputs pipeline.funcs rules.funcs Stays reader lower_stays (suc reader) (λ func_index l. omega (arith, l))
+        (λ func_index l. deeper func_index) s
         (is_below reads is_inlined pipeline.inputs pipeline.funcs rules.funcs (suc reader) s 1 kept) ((seeing reads).level (layer.Call1 s a.right)) a.right None
         (both_stay a.right.points (record { source = s; x = a.right.value; y = 0 } ∷ []) (a.is.1 k.0) (one, tt)) (a.is.1 k.0) tt,
   )
@@ -301,8 +303,8 @@ module _ (pipeline : Pipeline) (schedule : Schedule) (rules : IsWellFormed pipel
           first = λ f. a.is.0 variables.FirstArgument (implied first (is_alone variables.FirstArgument a.left.alone) parts.0 f);
           second = λ f. b.is.0 variables.SecondArgument (implied second (is_alone variables.SecondArgument b.left.alone) parts.1 f);
         } in
-        call reads is_inlined pipeline.inputs pipeline.funcs rules.funcs Stays reader lower_stays (suc reader) (λ place l. omega (arith, l))
-        (λ place l. deeper place) s
+        call reads is_inlined pipeline.inputs pipeline.funcs rules.funcs Stays reader lower_stays (suc reader) (λ func_index l. omega (arith, l))
+        (λ func_index l. deeper func_index) s
         (is_below reads is_inlined pipeline.inputs pipeline.funcs rules.funcs (suc reader) s 2 kept) ((seeing reads).level (layer.Call2 s a.right b.right))
         a.right (Some b.right)
         (both_stay (a.right.points ++ b.right.points) (record { source = s; x = a.right.value; y = b.right.value } ∷ []) (both_stay a.right.points

@@ -54,19 +54,20 @@ spot_near m step is few = elim (or_cases (nat_le m 0x1000000) (nat_le 0xff000000
 ]
 
 module _ (lasts values : List ℕ) (below : Below values lasts) where
-  reduction_lies : (own : Reduction) (step : ℕ) → is_minimum own.minimum ≡ true → own.extent ≤ 65536 → step < own.extent
-      → Lies lasts values (reduction_range lasts own) (add own.minimum step)
+  reduction_lies : (reduction : Reduction) (step : ℕ) → is_minimum reduction.minimum ≡ true
+      → reduction.extent ≤ 65536 → step < reduction.extent
+      → Lies lasts values (reduction_range lasts reduction) (add reduction.minimum step)
   unfolding add
-  reduction_lies own step is few inside =
-      let s = spot_near own.minimum step is (omega (arith, few, inside)) in
-      plain_lies lasts values below (record { low = spot own.minimum; high = spot own.minimum + (own.extent - 1) }) ((own.minimum + step) % 2 ^ 32)
+  reduction_lies reduction step is few inside =
+      let s = spot_near reduction.minimum step is (omega (arith, few, inside)) in
+      plain_lies lasts values below (record { low = spot reduction.minimum; high = spot reduction.minimum + (reduction.extent - 1) }) ((reduction.minimum + step) % 2 ^ 32)
       (omega arith)
       (λ l h. (omega (arith, s), omega (arith, s, inside)))
 
   second_lies : (second : Option Reduction) (step : ℕ) → is_second_minimum second ≡ true → formed.second_extent second ≤ 65536 → step < second_extent second
       → Lies lasts values (second_range lasts second) (second_value second step)
   second_lies None step is few inside = literal_lies lasts values below 0 (omega arith)
-  second_lies (Some own) step is few inside = reduction_lies own step is few inside
+  second_lies (Some reduction) step is few inside = reduction_lies reduction step is few inside
 
   anywhere_lies : (x : ℕ) → x < 2 ^ 32 → IsNear x → Lies lasts values (ranges_where lasts (λ v. literal lasts 0) true variables.FirstArgument) x
   anywhere_lies x word near =

@@ -11,7 +11,7 @@ use Rattle.halide_pipeline.specs.WellFormed.{IsWellFormed}
 use Rattle.halide_pipeline.specs.Pixel.{Reads}
 use Rattle.halide_pipeline.specs.Points.{Point}
 use Rattle.schedule.specs.declared.schedules.Schedule.{Schedule}
-use Rattle.schedule.specs.declared.placements.LoopPlace.{LoopPlace}
+use Rattle.schedule.specs.declared.placements.LoopPosition.{LoopPosition}
 use Rattle.schedule.specs.declared.placements.ComputeLevel.TheVariants as places
 use Rattle.schedule.specs.declared.placements.FuncPlacement.{FuncPlacement}
 use Rattle.schedule.specs.Accepted.{IsAccepted}
@@ -27,8 +27,8 @@ pub data ReadsThrough (pipeline : Pipeline) (standings : List FuncPlacement) : �
   Through : (reader between func : ℕ) → between < reader → flagged (flags_of standings) between ≡ true → place_calls pipeline reader between ≡ true
       → ReadsThrough pipeline standings between func → ReadsThrough pipeline standings reader func
 
--- A point is of an input that is there, or of one of the first so many Funcs: of the reader itself, or of one that it reads, and not of an
--- inlined one.
+-- A point is of an input that is there, or of one of the first this many Funcs: of the reader itself, or of one that it
+-- reads, and not of an inlined one.
 abbrev pub IsReadThrough : Pipeline → List FuncPlacement → ℕ → ℕ → Source → Type 0
 IsReadThrough pipeline standings reader count (sources.Input place) = is_some (slice_get pipeline.inputs place) ≡ true
 IsReadThrough pipeline standings reader count (sources.Func func) =
@@ -51,17 +51,17 @@ UpdatePointsAreReadThrough = (pipeline : Pipeline) (schedule : Schedule) → IsW
     → AreReadThrough pipeline schedule.standings reader (suc reader) (update_points pipeline schedule reads reader update number x y)
 
 -- It is the Func that has the loop, or it is computed at that loop or at one inside it.
-pub data StandsAt (schedule : Schedule) (consumer : LoopPlace) (reader : ℕ) : Type 0 where
+pub data StandsAt (schedule : Schedule) (consumer : LoopPosition) (reader : ℕ) : Type 0 where
   HasLoop : reader ≡ consumer.func → StandsAt schedule consumer reader
-  IsWithin : (own : FuncPlacement) (at : LoopPlace) → IsReached schedule.standings reader own → own.place ≡ places.At at → is_within schedule.funcs consumer at
+  IsWithin : (placement : FuncPlacement) (at : LoopPosition) → IsReached schedule.standings reader placement → placement.place ≡ places.At at → is_within schedule.funcs consumer at
       ≡ true → StandsAt schedule consumer reader
 
--- What a Func that is computed reads of others is reached and computed; and where that is at a loop, the reader stands at it.
+-- What a Func that is computed reads of others is reached and computed; and where that is at a loop, the reader is at it.
 pub record IsReadWithin (schedule : Schedule) (reader func : ℕ) : Type 0 where
   pub own : FuncPlacement
   pub there : IsReached schedule.standings func own
   pub before : func < reader
-  pub within : (consumer : LoopPlace) → own.place ≡ places.At consumer → StandsAt schedule consumer reader
+  pub within : (consumer : LoopPosition) → own.place ≡ places.At consumer → StandsAt schedule consumer reader
 
 abbrev pub ReadersStandWithin : Type 0
 ReadersStandWithin = (pipeline : Pipeline) (schedule : Schedule) → IsAccepted pipeline schedule

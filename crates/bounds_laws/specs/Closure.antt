@@ -43,7 +43,8 @@ lies lasts values range x =
     && (nat_le (least + less_sum range.base lasts) range.low && nat_le (range.high + more_sum range.base lasts) greatest)))
 
 abbrev pub lies_in : SourceBox → ℕ → ℕ → List ℕ → Bool
-lies_in own x y values = lies own.lasts values own.x x && lies own.lasts values own.y y
+lies_in source_box x y values = lies source_box.lasts values source_box.x x && lies source_box.lasts values source_box.y
+    y
 
 -- under some values of the loops of the consumer, if there is a consumer
 abbrev pub is_boxed : Option (Option SourceBox) → ℕ → ℕ → Bool
@@ -79,9 +80,9 @@ flat = record { base = no_base; low = origin; high = origin }
 abbrev pub OneRowBoxes : Type 0
 OneRowBoxes = (pipeline : Pipeline) (schedule : Schedule) (boxes : Boxes) → IsWellFormed pipeline → IsAccepted pipeline schedule
     → inferred pipeline schedule ≡ Ok boxes
-    → (place : ℕ) (func : Func) (own : SourceBox) → slice_get pipeline.funcs place ≡ Some func → dimensions func ≡ 1 → slice_get boxes.funcs place
-    ≡ Some (Some own)
-    → own.y ≡ flat
+    → (func_index : ℕ) (func : Func) (source_box : SourceBox) → slice_get pipeline.funcs func_index ≡ Some func → dimensions func ≡ 1 → slice_get boxes.funcs func_index
+    ≡ Some (Some source_box)
+    → source_box.y ≡ flat
 
 -- ---- the whole
 

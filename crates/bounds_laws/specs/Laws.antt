@@ -32,9 +32,9 @@ use Rattle.bounds.specs.Verdict.{inferred}
 use Rattle.bounds.specs.Views.{view_of}
 
 -- While loops have these values, the point lies in the box.
-pub record LiesIn (values : List ℕ) (own : SourceBox) (x y : ℕ) : Type 0 where
-  pub first : Lies own.lasts values own.x x
-  pub second : Lies own.lasts values own.y y
+pub record LiesIn (values : List ℕ) (source_box : SourceBox) (x y : ℕ) : Type 0 where
+  pub first : Lies source_box.lasts values source_box.x x
+  pub second : Lies source_box.lasts values source_box.y y
 
 -- the values of the consumer's loops, where there is a consumer
 abbrev pub values_for : Option ConsumerLoop → List ℕ → List ℕ
@@ -59,10 +59,10 @@ pure_points pipeline schedule reads reader func x y =
 -- Wherever loops take a point of a Func's box, all that its pure definition reads there of inputs lies in their boxes.
 abbrev pub PureReadsOfInputsLie : Type 0
 PureReadsOfInputsLie = (pipeline : Pipeline) (schedule : Schedule) (boxes : Boxes) → IsWellFormed pipeline → inferred pipeline schedule ≡ Ok boxes
-    → (reader : ℕ) (func : Func) (own : SourceBox) → slice_get pipeline.funcs reader ≡ Some func → slice_get boxes.funcs reader ≡ Some (Some own)
+    → (reader : ℕ) (func : Func) (source_box : SourceBox) → slice_get pipeline.funcs reader ≡ Some func → slice_get boxes.funcs reader ≡ Some (Some source_box)
     → (reads : Reads) → AnswerWords pipeline.inputs reads
-    → (values : List ℕ) → Below values own.lasts → (x y : ℕ) → LiesIn values own x y
-    → (place : ℕ) → AreBoxed no_loops (sources.Input place) (slice_get boxes.inputs place) (pure_points pipeline schedule reads reader func x y)
+    → (values : List ℕ) → Below values source_box.lasts → (x y : ℕ) → LiesIn values source_box x y
+    → (func_index : ℕ) → AreBoxed no_loops (sources.Input func_index) (slice_get boxes.inputs func_index) (pure_points pipeline schedule reads reader func x y)
 
 -- ---- Funcs
 
@@ -82,14 +82,14 @@ IsComputed func places.Nowhere = ⊥
 -- that one, while the loops of the consumer have these values.
 abbrev pub PureReadsOfFuncsLie : Type 0
 PureReadsOfFuncsLie = (pipeline : Pipeline) (schedule : Schedule) (boxes : Boxes) → IsWellFormed pipeline → inferred pipeline schedule ≡ Ok boxes
-    → (reader : ℕ) (func : Func) (own : SourceBox) → slice_get pipeline.funcs reader ≡ Some func → slice_get boxes.funcs reader ≡ Some (Some own)
-    → (place : ℕ) (sought : FuncPlacement) → place < reader → slice_get schedule.standings place ≡ Some sought → sought.is_reached ≡ true
-    → IsComputed place sought.place
+    → (reader : ℕ) (func : Func) (source_box : SourceBox) → slice_get pipeline.funcs reader ≡ Some func → slice_get boxes.funcs reader ≡ Some (Some source_box)
+    → (func_index : ℕ) (sought : FuncPlacement) → func_index < reader → slice_get schedule.standings func_index ≡ Some sought → sought.is_reached ≡ true
+    → IsComputed func_index sought.place
     → (consumer : Option ConsumerLoop) → consumer_in schedule boxes.funcs sought.place ≡ consumer
-    → (view : SourceBox) → view_of (slice_get schedule.funcs reader) (slice_get schedule.standings reader) own consumer ≡ view
+    → (view : SourceBox) → view_of (slice_get schedule.funcs reader) (slice_get schedule.standings reader) source_box consumer ≡ view
     → (reads : Reads) → AnswerWords pipeline.inputs reads
     → (values : List ℕ) → Below values view.lasts → Below (values_for consumer values) (lasts_of consumer) → (x y : ℕ) → LiesIn values view x y
-    → AreBoxed (values_for consumer values) (sources.Func place) (slice_get boxes.funcs place) (pure_points pipeline schedule reads reader func x y)
+    → AreBoxed (values_for consumer values) (sources.Func func_index) (slice_get boxes.funcs func_index) (pure_points pipeline schedule reads reader func x y)
 
 -- ---- updates
 
@@ -124,26 +124,26 @@ pub record IsNear (x : ℕ) : Type 0 where
 -- Wherever loops take a point of a Func's box, all that its updates read there of inputs lies in their boxes.
 abbrev pub UpdateReadsOfInputsLie : Type 0
 UpdateReadsOfInputsLie = (pipeline : Pipeline) (schedule : Schedule) (boxes : Boxes) → IsWellFormed pipeline → inferred pipeline schedule ≡ Ok boxes
-    → (reader : ℕ) (func : Func) (own : SourceBox) → slice_get pipeline.funcs reader ≡ Some func → slice_get boxes.funcs reader ≡ Some (Some own)
+    → (reader : ℕ) (func : Func) (source_box : SourceBox) → slice_get pipeline.funcs reader ≡ Some func → slice_get boxes.funcs reader ≡ Some (Some source_box)
     → (at : ℕ) (update : Update) → slice_get func.updates at ≡ Some update
     → (reads : Reads) → AnswerWords pipeline.inputs reads
-    → (values : List ℕ) → Below values own.lasts → (x y : ℕ) → LiesIn values own x y → IsNear x → IsNear y → (number : ℕ) → number < points update
-    → (place : ℕ) → AreBoxed no_loops (sources.Input place) (slice_get boxes.inputs place) (update_points pipeline schedule reads reader update number x y)
+    → (values : List ℕ) → Below values source_box.lasts → (x y : ℕ) → LiesIn values source_box x y → IsNear x → IsNear y → (number : ℕ) → number < points update
+    → (func_index : ℕ) → AreBoxed no_loops (sources.Input func_index) (slice_get boxes.inputs func_index) (update_points pipeline schedule reads reader update number x y)
 
 -- And all that they read there of another Func that is computed lies in the box of that one.
 abbrev pub UpdateReadsOfFuncsLie : Type 0
 UpdateReadsOfFuncsLie = (pipeline : Pipeline) (schedule : Schedule) (boxes : Boxes) → IsWellFormed pipeline → inferred pipeline schedule ≡ Ok boxes
-    → (reader : ℕ) (func : Func) (own : SourceBox) → slice_get pipeline.funcs reader ≡ Some func → slice_get boxes.funcs reader ≡ Some (Some own)
+    → (reader : ℕ) (func : Func) (source_box : SourceBox) → slice_get pipeline.funcs reader ≡ Some func → slice_get boxes.funcs reader ≡ Some (Some source_box)
     → (at : ℕ) (update : Update) → slice_get func.updates at ≡ Some update
-    → (place : ℕ) (sought : FuncPlacement) → place < reader → slice_get schedule.standings place ≡ Some sought → sought.is_reached ≡ true
-    → IsComputed place sought.place
+    → (func_index : ℕ) (sought : FuncPlacement) → func_index < reader → slice_get schedule.standings func_index ≡ Some sought → sought.is_reached ≡ true
+    → IsComputed func_index sought.place
     → (consumer : Option ConsumerLoop) → consumer_in schedule boxes.funcs sought.place ≡ consumer
-    → (view : SourceBox) → view_of (slice_get schedule.funcs reader) (slice_get schedule.standings reader) own consumer ≡ view
+    → (view : SourceBox) → view_of (slice_get schedule.funcs reader) (slice_get schedule.standings reader) source_box consumer ≡ view
     → (reads : Reads) → AnswerWords pipeline.inputs reads
     → (values : List ℕ) → Below values view.lasts → Below (values_for consumer values) (lasts_of consumer)
     → (x y : ℕ) → LiesIn values view x y → IsNear x → IsNear y
     → (number : ℕ) → number < points update
-    → AreBoxed (values_for consumer values) (sources.Func place) (slice_get boxes.funcs place) (update_points pipeline schedule reads reader update number x y)
+    → AreBoxed (values_for consumer values) (sources.Func func_index) (slice_get boxes.funcs func_index) (update_points pipeline schedule reads reader update number x y)
 
 -- ---- a Func's own box
 
@@ -154,9 +154,10 @@ OutputLies = (pipeline : Pipeline) (schedule : Schedule) (boxes : Boxes) → IsW
     → (x y : ℕ) → x < pipeline.output.width → y < pipeline.output.height → IsBoxed no_loops (slice_get boxes.funcs pipeline.output.func) x y
 
 -- Where dimensions count, the point lies in the box in these.
-pub record LiesPartly (values : List ℕ) (own : SourceBox) (counts_first counts_second : Bool) (x y : ℕ) : Type 0 where
-  pub first : counts_first ≡ true → Lies own.lasts values own.x x
-  pub second : counts_second ≡ true → Lies own.lasts values own.y y
+pub record LiesPartly (values : List ℕ) (source_box : SourceBox) (counts_first counts_second : Bool) (x y : ℕ) : Type 0
+  where
+    pub first : counts_first ≡ true → Lies source_box.lasts values source_box.x x
+    pub second : counts_second ≡ true → Lies source_box.lasts values source_box.y y
 
 abbrev pub IsPartlyBoxed : List ℕ → Option (Option SourceBox) → Bool → Bool → ℕ → ℕ → Type 0
 IsPartlyBoxed values None first second x y = Unit {0}

@@ -32,11 +32,11 @@ use Rattle.bounds_laws.specs.Laws.{consumer_in}
 -- ---- the least range that holds all of a list
 
 -- from the least of the lows to the greatest of the highs
-pub record IsSpan (own : Ends) (all : List Ends) : Type 0 where
-  pub none_lower : list_all (λ (ends : Ends). nat_le own.low ends.low) all ≡ true
-  pub none_higher : list_all (λ (ends : Ends). nat_le ends.high own.high) all ≡ true
-  pub lowest : list_any (λ (ends : Ends). ends.low == own.low) all ≡ true
-  pub highest : list_any (λ (ends : Ends). ends.high == own.high) all ≡ true
+pub record IsSpan (own_ends : Ends) (all : List Ends) : Type 0 where
+  pub none_lower : list_all (λ (ends : Ends). nat_le own_ends.low ends.low) all ≡ true
+  pub none_higher : list_all (λ (ends : Ends). nat_le ends.high own_ends.high) all ≡ true
+  pub lowest : list_any (λ (ends : Ends). ends.low == own_ends.low) all ≡ true
+  pub highest : list_any (λ (ends : Ends). ends.high == own_ends.high) all ≡ true
 
 -- all of one base
 abbrev pub have_one_base : List Range → Bool
@@ -44,12 +44,12 @@ have_one_base [] = true
 have_one_base (first ∷ others) = list_all (λ (range : Range). same_base first.base range.base) others
 
 abbrev pub has_base_of : Range → List Range → Bool
-has_base_of own all = list_all (λ (range : Range). same_base own.base range.base) all
+has_base_of own_range all = list_all (λ (range : Range). same_base own_range.base range.base) all
 
 -- The range holds all of these, and nothing more: over their base; or, where they have more than one, over all values of the loops.
-pub record IsLeast (lasts : List ℕ) (all : List Range) (own : Range) : Type 0 where
-  pub one_base : have_one_base all ≡ true → (has_base_of own all ≡ true) × IsSpan (ends_of own) (map ends_of all)
-  pub more_bases : have_one_base all ≡ false → (own.base ≡ no_base) × IsSpan (ends_of own) (map (widened lasts) all)
+pub record IsLeast (lasts : List ℕ) (all : List Range) (range : Range) : Type 0 where
+  pub one_base : have_one_base all ≡ true → (has_base_of range all ≡ true) × IsSpan (ends_of range) (map ends_of all)
+  pub more_bases : have_one_base all ≡ false → (range.base ≡ no_base) × IsSpan (ends_of range) (map (widened lasts) all)
 
 -- ---- what is asked of a source in one dimension, the one that `side` has of a read
 
@@ -85,7 +85,7 @@ module _ (side : ReadRange → Range) where
     asked_from reader consumer source [] = []
     asked_from reader consumer source (first ∷ others) = asked_by reader consumer source first ++ asked_from (reader + 1) consumer source others
 
--- the output's picture, of so many pixels
+-- the output's picture, of this many pixels
 abbrev pub wanted_of : Output → ℕ → Option ConsumerLoop → ℕ → List Range
 wanted_of output at consumer count = if at == output.func then pixels_range (lasts_of consumer) count ∷ [] else []
 
@@ -105,29 +105,30 @@ rows_asked pipeline schedule boxes at consumer func =
 -- ---- the boxes
 
 -- It is the least in both dimensions, over the loops of its consumer.
-pub record IsLeastBox (consumer : Option ConsumerLoop) (columns rows : List Range) (own : SourceBox) : Type 0 where
-  pub lasts_are : own.lasts ≡ lasts_of consumer
-  pub columns_are : IsLeast (lasts_of consumer) columns own.x
-  pub rows_are : IsLeast (lasts_of consumer) rows own.y
+pub record IsLeastBox (consumer : Option ConsumerLoop) (columns rows : List Range) (source_box : SourceBox) : Type 0
+  where
+    pub lasts_are : source_box.lasts ≡ lasts_of consumer
+    pub columns_are : IsLeast (lasts_of consumer) columns source_box.x
+    pub rows_are : IsLeast (lasts_of consumer) rows source_box.y
 
 -- That of a Func is the least that holds what is asked of it.
 abbrev pub FuncBoxesAreLeast : Type 0
 FuncBoxesAreLeast = (pipeline : Pipeline) (schedule : Schedule) (boxes : Boxes) → IsWellFormed pipeline → IsAccepted pipeline schedule
     → inferred pipeline schedule ≡ Ok boxes
-    → (at : ℕ) (func : Func) (standing : FuncPlacement) (own : SourceBox)
-    → slice_get pipeline.funcs at ≡ Some func → slice_get schedule.standings at ≡ Some standing → slice_get boxes.funcs at ≡ Some (Some own)
-    → let consumer = consumer_in schedule boxes.funcs standing.place in
-    IsLeastBox consumer (columns_asked pipeline schedule boxes.funcs at consumer func) (rows_asked pipeline schedule boxes.funcs at consumer func) own
+    → (at : ℕ) (func : Func) (placement : FuncPlacement) (source_box : SourceBox)
+    → slice_get pipeline.funcs at ≡ Some func → slice_get schedule.standings at ≡ Some placement → slice_get boxes.funcs at ≡ Some (Some source_box)
+    → let consumer = consumer_in schedule boxes.funcs placement.place in
+    IsLeastBox consumer (columns_asked pipeline schedule boxes.funcs at consumer func) (rows_asked pipeline schedule boxes.funcs at consumer func) source_box
 
 -- So is that of an input.
 abbrev pub InputBoxesAreLeast : Type 0
 InputBoxesAreLeast = (pipeline : Pipeline) (schedule : Schedule) (boxes : Boxes) → IsWellFormed pipeline → inferred pipeline schedule ≡ Ok boxes
-    → (place : ℕ) (own : SourceBox) → slice_get boxes.inputs place ≡ Some (Some own)
-    → IsLeastBox None (asked_from (λ read. read.x) pipeline schedule 0 None (sources.Input place) boxes.funcs)
-    (asked_from (λ read. read.y) pipeline schedule 0 None (sources.Input place) boxes.funcs) own
+    → (func_index : ℕ) (source_box : SourceBox) → slice_get boxes.inputs func_index ≡ Some (Some source_box)
+    → IsLeastBox None (asked_from (λ read. read.x) pipeline schedule 0 None (sources.Input func_index) boxes.funcs)
+    (asked_from (λ read. read.y) pipeline schedule 0 None (sources.Input func_index) boxes.funcs) source_box
 
 -- One that has no box isn't asked for.
 abbrev pub InputsWithoutBoxes : Type 0
 InputsWithoutBoxes = (pipeline : Pipeline) (schedule : Schedule) (boxes : Boxes) → inferred pipeline schedule ≡ Ok boxes
-    → (place : ℕ) → slice_get boxes.inputs place ≡ Some None
-    → asked_from (λ read. read.x) pipeline schedule 0 None (sources.Input place) boxes.funcs ≡ []
+    → (func_index : ℕ) → slice_get boxes.inputs func_index ≡ Some None
+    → asked_from (λ read. read.x) pipeline schedule 0 None (sources.Input func_index) boxes.funcs ≡ []

@@ -22,7 +22,7 @@ is_computed_there (Some own) = is_computed own
 -- There is a box for a Func exactly where the output reaches it and it isn't inlined.
 abbrev pub BoxesAreOfReachedFuncs : Type 0
 BoxesAreOfReachedFuncs = (pipeline : Pipeline) (schedule : Schedule) (boxes : Boxes) → IsAccepted pipeline schedule → inferred pipeline schedule ≡ Ok boxes
-    → (place : ℕ) → is_some (box_in (slice_get boxes.funcs place)) ≡ is_computed_there (slice_get schedule.standings place)
+    → (func_index : ℕ) → is_some (box_in (slice_get boxes.funcs func_index)) ≡ is_computed_there (slice_get schedule.standings func_index)
 
 -- how many stages the Funcs at root have that the output reaches: of each its pure definition, and its updates
 abbrev pub reached_stages : List FuncPlacement → List Func → ℕ

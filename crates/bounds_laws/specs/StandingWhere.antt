@@ -8,20 +8,20 @@ use Rattle.schedule_lines.specs.declared.lines.Computed.TheVariants as computed
 use Rattle.schedule_lines.specs.declared.lines.LoopNames.{LoopNames}
 use Rattle.schedule.specs.declared.plans.ComputeLine.{ComputeLine}
 use Rattle.schedule.specs.declared.plans.FuncPlan.{FuncPlan}
-use Rattle.schedule.specs.declared.placements.LoopPlace.{LoopPlace}
+use Rattle.schedule.specs.declared.placements.LoopPosition.{LoopPosition}
 use Rattle.schedule.specs.declared.placements.ComputeLevel.TheVariants as places
 use Rattle.schedule.specs.declared.placements.FuncPlacement.{FuncPlacement}
 use Rattle.schedule.specs.Placements.{place_calls, consumer, standings}
 use Rattle.schedule.specs.Uses.{IsReached, StandsWithin}
 
 -- Each later Func that is reached and calls the one at a place makes its reads within the loop.
-abbrev pub HasReadersWithin : Pipeline → List FuncPlan → ℕ → LoopPlace → Type 0
+abbrev pub HasReadersWithin : Pipeline → List FuncPlan → ℕ → LoopPosition → Type 0
 HasReadersWithin pipeline plans at loop =
     (reader : ℕ) (its : FuncPlacement) → at < reader → IsReached (standings pipeline plans) reader its → place_calls pipeline reader at ≡ true
     → StandsWithin pipeline plans (standings pipeline plans) loop reader
 
 -- A line names this loop for a Func that isn't the output, or no loop that may have it.
-pub record IsSaidAt (pipeline : Pipeline) (plans : List FuncPlan) (at : ℕ) (loop : Option LoopPlace) : Type 0 where
+pub record IsSaidAt (pipeline : Pipeline) (plans : List FuncPlan) (at : ℕ) (loop : Option LoopPosition) : Type 0 where
   pub plan : FuncPlan
   pub line : ComputeLine
   pub names : LoopNames
@@ -32,15 +32,15 @@ pub record IsSaidAt (pipeline : Pipeline) (plans : List FuncPlan) (at : ℕ) (lo
   pub no_output : at ≡ pipeline.output.func → ⊥
 
 -- It is computed there, or nowhere.
-pub record StandsThere (pipeline : Pipeline) (plans : List FuncPlan) (at : ℕ) (loop : LoopPlace) (own : FuncPlacement) : Type 0 where
-  pub there_or_nowhere : (own.place ≡ places.At loop) ⊎ (own.place ≡ places.Nowhere)
-  pub only_if : own.place ≡ places.At loop → HasReadersWithin pipeline plans at loop
-  pub where_so : HasReadersWithin pipeline plans at loop → own.place ≡ places.At loop
+pub record StandsThere (pipeline : Pipeline) (plans : List FuncPlan) (at : ℕ) (loop : LoopPosition) (placement : FuncPlacement) : Type 0 where
+  pub there_or_nowhere : (placement.place ≡ places.At loop) ⊎ (placement.place ≡ places.Nowhere)
+  pub only_if : placement.place ≡ places.At loop → HasReadersWithin pipeline plans at loop
+  pub where_so : HasReadersWithin pipeline plans at loop → placement.place ≡ places.At loop
 
 abbrev pub StandsWhereReadersDo : Type 0
-StandsWhereReadersDo = (pipeline : Pipeline) (plans : List FuncPlan) (at : ℕ) (loop : LoopPlace) (own : FuncPlacement) → IsSaidAt pipeline plans at (Some loop)
-    → slice_get (standings pipeline plans) at ≡ Some own → StandsThere pipeline plans at loop own
+StandsWhereReadersDo = (pipeline : Pipeline) (plans : List FuncPlan) (at : ℕ) (loop : LoopPosition) (placement : FuncPlacement) → IsSaidAt pipeline plans at (Some loop)
+    → slice_get (standings pipeline plans) at ≡ Some placement → StandsThere pipeline plans at loop placement
 
 abbrev pub StandsNowhereElse : Type 0
-StandsNowhereElse = (pipeline : Pipeline) (plans : List FuncPlan) (at : ℕ) (own : FuncPlacement) → IsSaidAt pipeline plans at None
-    → slice_get (standings pipeline plans) at ≡ Some own → own.place ≡ places.Nowhere
+StandsNowhereElse = (pipeline : Pipeline) (plans : List FuncPlan) (at : ℕ) (placement : FuncPlacement) → IsSaidAt pipeline plans at None
+    → slice_get (standings pipeline plans) at ≡ Some placement → placement.place ≡ places.Nowhere

@@ -10,7 +10,7 @@ use Rattle.bounds_ranges.specs.Numbers.{least, greatest, spot}
 use Rattle.bounds_ranges.specs.Laws.{Below, Lies}
 use Rattle.bounds_ranges.proofs.Sums.{Small, more_below, less_below, no_more, no_less}
 
--- The word stands between two ends, which are those of words.
+-- The word is between two ends, which are those of words.
 pub record Stands (ends : Ends) (x : ℕ) : Type 0 where
   pub least_low : least ≤ ends.low
   pub low : ends.low ≤ spot x

@@ -200,15 +200,17 @@ module _ (lasts values : List ℕ) (below : Below values lasts) where
         (omega (arith, b)) (omega arith)
     byte_lies false x word byte = every_lies lasts values below x word
 
-    pixel_lies : (place x y : ℕ) (own : Option Input) → x < 2 ^ 32 → y < 2 ^ 32 → slice_get inputs place ≡ own
-        → Lies lasts values (pixels_of own) (reads (sources.Input place) x y)
-    pixel_lies place x y None wx wy is = every_lies lasts values below (reads (sources.Input place) x y) (words.words (sources.Input place) x y wx wy)
-    pixel_lies place x y (Some input) wx wy is =
-        byte_lies input.is_bytes (reads (sources.Input place) x y) (words.words (sources.Input place) x y wx wy) (λ held. words.bytes place input is held x y)
+    pixel_lies : (func_index x y : ℕ) (own_input : Option Input) → x < 2 ^ 32 → y < 2 ^ 32
+        → slice_get inputs func_index ≡ own_input
+        → Lies lasts values (pixels_of own_input) (reads (sources.Input func_index) x y)
+    pixel_lies func_index x y None wx wy is = every_lies lasts values below (reads (sources.Input func_index) x y) (words.words (sources.Input func_index) x y wx wy)
+    pixel_lies func_index x y (Some input) wx wy is =
+        byte_lies input.is_bytes (reads (sources.Input func_index) x y) (words.words (sources.Input func_index) x y wx wy) (λ held. words.bytes func_index input is held x y)
 
     called_lies : (s : Source) (x y : ℕ) → x < 2 ^ 32 → y < 2 ^ 32 → Lies lasts values (called inputs s) (reads s x y)
-    called_lies (sources.Input place) x y wx wy = pixel_lies place x y (slice_get inputs place) wx wy refl
-    called_lies (sources.Func place) x y wx wy = every_lies lasts values below (reads (sources.Func place) x y) (words.words (sources.Func place) x y wx wy)
+    called_lies (sources.Input func_index) x y wx wy = pixel_lies func_index x y (slice_get inputs func_index) wx wy
+        refl
+    called_lies (sources.Func func_index) x y wx wy = every_lies lasts values below (reads (sources.Func func_index) x y) (words.words (sources.Func func_index) x y wx wy)
 
     abbrev R : Ranged → Seen → Type 0
     R = Covers lasts values
@@ -290,7 +292,7 @@ ranges_cover lasts values below reads inputs words is_inlined funcs are count ha
 
 module _ (lasts values : List ℕ) (below : Below values lasts) (reads : Reads) (inputs : List Input) (words : AnswerWords inputs reads) (is_inlined : ℕ
     → Bool) (funcs : List Func)
-    (are : AreFuncs inputs funcs) (count : ℕ) (own : OwnCalls) (has : Variable → Bool) (ranges : Variable → Range) (environment : Environment)
+    (are : AreFuncs inputs funcs) (count : ℕ) (own_calls : OwnCalls) (has : Variable → Bool) (ranges : Variable → Range) (environment : Environment)
     (lie : (around : Bool) (v : Variable) → has v ≡ true → Lies lasts values (ranges_where lasts ranges around v) (variable environment v)) where
   -- both where arguments may be anywhere and where not
   abbrev BothWays : (Bool → Ranged) → Seen → Type 0
@@ -315,7 +317,7 @@ module _ (lasts values : List ℕ) (below : Below values lasts) (reads : Reads) 
       count has (unasked_variable (ranges_where lasts ranges around)) (seen_variable environment) (λ v held. record { value = lie around v held; points = tt })
 
   both_ways : KeptLevels BothWays (is_read inputs funcs count) has
-      (λ level around. through_at (ranging lasts inputs) within (unasked_variable (ranges_where lasts ranges around)) (chosen own around level))
+      (λ level around. through_at (ranging lasts inputs) within (unasked_variable (ranges_where lasts ranges around)) (chosen own_calls around level))
       (through_at (seeing reads) seen_within (seen_variable environment))
   both_ways (layer.Number n) kept around = one_way around (layer.Number n) kept
   both_ways (layer.Variable v) kept around = one_way around (layer.Variable v) kept
@@ -323,16 +325,16 @@ module _ (lasts values : List ℕ) (below : Below values lasts) (reads : Reads) 
   both_ways (layer.Divide a n) kept around = one_way around (layer.Divide (at around a) n) kept
   both_ways (layer.Remainder a n) kept around = one_way around (layer.Remainder (at around a) n) kept
   both_ways (layer.Select c a b) kept around = one_way around (layer.Select (at around c) (at around a) (at around b)) kept
-  both_ways (layer.Call1 s a) kept around = one_way around (layer.Call1 s (at (is_anywhere own around s own.first_in_place) a)) kept
+  both_ways (layer.Call1 s a) kept around = one_way around (layer.Call1 s (at (is_anywhere own_calls around s own_calls.first_in_place) a)) kept
   both_ways (layer.Call2 s a b) kept around =
-      one_way around (layer.Call2 s (at (is_anywhere own around s own.first_in_place) a) (at (is_anywhere own around s own.second_in_place) b)) kept
+      one_way around (layer.Call2 s (at (is_anywhere own_calls around s own_calls.first_in_place) a) (at (is_anywhere own_calls around s own_calls.second_in_place) b)) kept
 
   pub update_covers : (e : Expr) → keeps (is_read inputs funcs count) has e ≡ true
-      → BothWays (ranged_update lasts inputs is_inlined funcs count own ranges e) (inlined (seeing reads) is_inlined funcs count (seen_variable environment) e)
+      → BothWays (ranged_update lasts inputs is_inlined funcs count own_calls ranges e) (inlined (seeing reads) is_inlined funcs count (seen_variable environment) e)
   unfolding ranged_update through
   update_covers e kept =
       kept_folds_related BothWays (is_read inputs funcs count) has
-      (λ level around. through_at (ranging lasts inputs) within (unasked_variable (ranges_where lasts ranges around)) (chosen own around level))
+      (λ level around. through_at (ranging lasts inputs) within (unasked_variable (ranges_where lasts ranges around)) (chosen own_calls around level))
       (through_at (seeing reads) seen_within (seen_variable environment)) both_ways e kept
 
 pub update_ranges_cover : UpdateRangesCover

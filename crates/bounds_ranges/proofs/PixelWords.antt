@@ -25,7 +25,7 @@ use Rattle.bounds_ranges.proofs.Lying.{every_lies}
 use Rattle.bounds_ranges.proofs.Operations.{ranges_cover}
 
 abbrev no_inlined : ℕ → Bool
-no_inlined place = false
+no_inlined func_index = false
 
 module _ (inputs : List Input) (funcs : List Func) (are : AreFuncs inputs funcs) (planes : Planes) where
   -- the value of an expression whose reads and variables are words
@@ -49,7 +49,7 @@ module _ (inputs : List Input) (funcs : List Func) (are : AreFuncs inputs funcs)
   second_small : (second : Option Reduction) (step : ℕ) → second_value second step < 2 ^ 32
   unfolding add
   second_small None step = omega arith
-  second_small (Some own) step = mod-lt (own.minimum + step) (omega arith)
+  second_small (Some func_index) step = mod-lt (func_index.minimum + step) (omega arith)
 
   reduction_small : (update : Update) (number count x y : ℕ) → x < 2 ^ 32 → y < 2 ^ 32 → (v : Variable) → is_update_variable count update.second v ≡ true
       → variable (at_reduction update number x y) v < 2 ^ 32
@@ -66,52 +66,53 @@ module _ (inputs : List Input) (funcs : List Func) (are : AreFuncs inputs funcs)
   one_of true a b la lb = la
   one_of false a b la lb = lb
 
-  pub with_words : (own : ℕ) (plane : Plane) (earlier : Planes) → Words plane → AnswerWords inputs (reads_of planes earlier)
-      → AnswerWords inputs (reads_of planes (with_plane own plane earlier))
-  with_words own plane earlier are_words words = record { words = each; bytes = words.bytes }
+  pub with_words : (func_index : ℕ) (plane : Plane) (earlier : Planes) → Words plane → AnswerWords inputs (reads_of planes earlier)
+      → AnswerWords inputs (reads_of planes (with_plane func_index plane earlier))
+  with_words func_index plane earlier are_words words = record { words = each; bytes = words.bytes }
     where
-      each : (s : Source) (x y : ℕ) → x < 2 ^ 32 → y < 2 ^ 32 → reads_of planes (with_plane own plane earlier) s x y < 2 ^ 32
+      each : (s : Source) (x y : ℕ) → x < 2 ^ 32 → y < 2 ^ 32 → reads_of planes (with_plane func_index plane earlier) s x y < 2 ^ 32
       each (sources.Input place) x y wx wy = words.words (sources.Input place) x y wx wy
-      each (sources.Func place) x y wx wy = picked (place == own)
+      each (sources.Func place) x y wx wy = picked (place == func_index)
         where
           picked : (test : Bool) → cond test plane (earlier place) x y < 2 ^ 32
           picked true = are_words x y wx wy
           picked false = words.words (sources.Func place) x y wx wy
 
-  module _ (own : ℕ) (func : Func) (func_is : slice_get funcs own ≡ Some func) (words : AnswerWords inputs (reads_of planes (pixels funcs planes own))) where
+  module _ (func_index : ℕ) (func : Func) (func_is : slice_get funcs func_index ≡ Some func) (words : AnswerWords inputs (reads_of planes (pixels funcs planes func_index))) where
     abbrev earlier : Planes
-    earlier = pixels funcs planes own
+    earlier = pixels funcs planes func_index
 
     after_words : (at : ℕ) (update : Update) → slice_get func.updates at ≡ Some update → (before : Plane) → Words before → (number : ℕ)
-        → Words (after own update planes earlier before number)
+        → Words (after func_index update planes earlier before number)
     unfolding after
     after_words at update is before are_words zero x y wx wy = are_words x y wx wy
     after_words at update is before are_words (suc number) x y wx wy =
         one_of (is_hit (reads_of planes earlier) update (at_reduction update number x y))
-        (value (reads_of planes (with_plane own (after own update planes earlier before number) earlier)) (at_reduction update number x y) update.right)
-        (after own update planes earlier before number x y)
-        (value_word (reads_of planes (with_plane own (after own update planes earlier before number) earlier))
-        (with_words own (after own update planes earlier before number) earlier (after_words at update is before are_words number) words)
-        (suc own) (is_update_variable (dimensions func) update.second) (at_reduction update number x y) (reduction_small update number (dimensions func) x y wx
-        wy) update.right ((are own func func_is).updates at update is).right)
+        (value (reads_of planes (with_plane func_index (after func_index update planes earlier before number) earlier)) (at_reduction update number x y) update.right)
+        (after func_index update planes earlier before number x y)
+        (value_word (reads_of planes (with_plane func_index (after func_index update planes earlier before number)
+        earlier))
+        (with_words func_index (after func_index update planes earlier before number) earlier (after_words at update is before are_words number) words)
+        (suc func_index) (is_update_variable (dimensions func) update.second) (at_reduction update number x y) (reduction_small update number (dimensions func) x y wx
+        wy) update.right ((are func_index func func_is).updates at update is).right)
         (after_words at update is before are_words number x y wx wy)
 
-    step_words : (updates : ℕ) → Words (stage own func planes earlier updates) → (update : Option Update) → slice_get func.updates updates ≡ update
-        → Words (after_all own update planes earlier (stage own func planes earlier updates))
+    step_words : (updates : ℕ) → Words (stage func_index func planes earlier updates) → (update : Option Update) → slice_get func.updates updates ≡ update
+        → Words (after_all func_index update planes earlier (stage func_index func planes earlier updates))
     step_words updates are_words None is = are_words
-    step_words updates are_words (Some update) is = after_words updates update is (stage own func planes earlier updates) are_words (points update)
+    step_words updates are_words (Some update) is = after_words updates update is (stage func_index func planes earlier updates) are_words (points update)
 
-    pub stage_words : (updates : ℕ) → Words (stage own func planes earlier updates)
+    pub stage_words : (updates : ℕ) → Words (stage func_index func planes earlier updates)
     unfolding stage
     stage_words zero = λ x y wx wy.
-        value_word (reads_of planes earlier) words own (is_argument (dimensions func)) (at_point x y) (point_small (dimensions func) x y wx wy) func.pure
-        (are own func func_is).pure
+        value_word (reads_of planes earlier) words func_index (is_argument (dimensions func)) (at_point x y) (point_small (dimensions func) x y wx wy) func.pure
+        (are func_index func func_is).pure
     stage_words (suc updates) = step_words updates (stage_words updates) (slice_get func.updates updates) refl
 
-  func_words : (own : ℕ) (func : Option Func) → slice_get funcs own ≡ func → AnswerWords inputs (reads_of planes (pixels funcs planes own))
-      → Words (func_plane own func planes (pixels funcs planes own))
-  func_words own None is words = λ x y wx wy. omega arith
-  func_words own (Some func) is words = stage_words own func is words (length func.updates)
+  func_words : (func_index : ℕ) (func : Option Func) → slice_get funcs func_index ≡ func → AnswerWords inputs (reads_of planes (pixels funcs planes func_index))
+      → Words (func_plane func_index func planes (pixels funcs planes func_index))
+  func_words func_index None is words = λ x y wx wy. omega arith
+  func_words func_index (Some func) is words = stage_words func_index func is words (length func.updates)
 
   pub pixels_words : AnswerWords inputs (reads_of planes (pixels funcs planes 0)) → (count : ℕ)
       → AnswerWords inputs (reads_of planes (pixels funcs planes count))

@@ -117,7 +117,7 @@ both_large x u y w e f lu lw m =
 at_ends : (p q a b : ℕ) → p ≡ a → q ≡ b → p * q ≡ a * b
 at_ends p q a b e f = ap (λ n. n * q) e ∙ ap (λ n. a * n) f
 
--- where the product stands, if that is a signed word
+-- where the product is, if that is a signed word
 pub product_spot : (x y : ℕ) → x < 2 ^ 32 → y < 2 ^ 32 → least ≤ times_end (spot x) (spot y) → times_end (spot x) (spot y) ≤ greatest
     → spot (multiply x y) ≡ times_end (spot x) (spot y)
 unfolding multiply

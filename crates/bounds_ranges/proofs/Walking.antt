@@ -69,11 +69,11 @@ module _ (lasts : List ℕ) (inputs : List Input) (flags : List Bool) (funcs : L
 
   pub answered1 : (s : Source) (x : Ranged) → Behind1 s x (answer within s)
   unfolding ranging
-  answered1 (sources.Input place) x = refl
-  answered1 (sources.Func place) x =
-      subst (λ (found : Option (Ranged → Option Ranged → Ranged)). Behind1 (sources.Func place) x found) (sym (inside_is (ranging lasts inputs) (flagged flags)
-      funcs count place))
-      (made1 (sources.Func place) x (inside (ranging lasts inputs) (flagged flags) funcs place) (func_in funcs (flagged flags) count place))
+  answered1 (sources.Input func_index) x = refl
+  answered1 (sources.Func func_index) x =
+      subst (λ (found : Option (Ranged → Option Ranged → Ranged)). Behind1 (sources.Func func_index) x found) (sym (inside_is (ranging lasts inputs) (flagged flags)
+      funcs count func_index))
+      (made1 (sources.Func func_index) x (inside (ranging lasts inputs) (flagged flags) funcs func_index) (func_in funcs (flagged flags) count func_index))
 
   abbrev pub Behind2 : Source → Ranged → Ranged → Option (Ranged → Option Ranged → Ranged) → Type 0
   Behind2 s x y found =
@@ -92,37 +92,37 @@ module _ (lasts : List ℕ) (inputs : List Input) (flags : List Bool) (funcs : L
 
   pub answered2 : (s : Source) (x y : Ranged) → Behind2 s x y (answer within s)
   unfolding ranging
-  answered2 (sources.Input place) x y =
-      ap (λ (l : List ReadRange). record { range = called inputs (sources.Input place); asked = l }) (append_assoc x.asked y.asked
-      (record { source = sources.Input place; x = x.range; y = y.range } ∷ []))
-  answered2 (sources.Func place) x y =
-      subst (λ (found : Option (Ranged → Option Ranged → Ranged)). Behind2 (sources.Func place) x y found)
-      (sym (inside_is (ranging lasts inputs) (flagged flags) funcs count place))
-      (made2 (sources.Func place) x y (inside (ranging lasts inputs) (flagged flags) funcs place) (func_in funcs (flagged flags) count place))
+  answered2 (sources.Input func_index) x y =
+      ap (λ (l : List ReadRange). record { range = called inputs (sources.Input func_index); asked = l }) (append_assoc x.asked y.asked
+      (record { source = sources.Input func_index; x = x.range; y = y.range } ∷ []))
+  answered2 (sources.Func func_index) x y =
+      subst (λ (found : Option (Ranged → Option Ranged → Ranged)). Behind2 (sources.Func func_index) x y found)
+      (sym (inside_is (ranging lasts inputs) (flagged flags) funcs count func_index))
+      (made2 (sources.Func func_index) x y (inside (ranging lasts inputs) (flagged flags) funcs func_index) (func_in funcs (flagged flags) count func_index))
 
   -- a call that isn't inlined
-  pub answer_alone : (place : ℕ) (s : Source) (x y : Range) → s ≡ sources.Func place → func_in funcs (flagged flags) count place ≡ None
+  pub answer_alone : (func_index : ℕ) (s : Source) (x y : Range) → s ≡ sources.Func func_index → func_in funcs (flagged flags) count func_index ≡ None
       → answer_of lasts inputs flags funcs count s x y ≡ alone s x y
-  answer_alone place s x y is found =
+  answer_alone func_index s x y is found =
       ap (λ (t : Source). answered (alone s x y) (unasked x) (Some (unasked y)) (answer within t)) is
       ∙ ap (λ (i : Option (Ranged → Option Ranged → Ranged)). answered (alone s x y) (unasked x) (Some (unasked y)) i) (inside_is (ranging lasts inputs)
-      (flagged flags) funcs count place)
+      (flagged flags) funcs count func_index)
       ∙ ap (λ (f : Option Func). answered (alone s x y) (unasked x) (Some (unasked y)) (made_in (ranging lasts inputs) (inside (ranging lasts inputs)
-      (flagged flags) funcs place) f)) found
+      (flagged flags) funcs func_index) f)) found
 
   -- one that is
-  pub answer_inlined : (place : ℕ) (func : Func) (s : Source) (x y zero : Range) → s ≡ sources.Func place → func_in funcs (flagged flags) count place
+  pub answer_inlined : (func_index : ℕ) (func : Func) (s : Source) (x y zero : Range) → s ≡ sources.Func func_index → func_in funcs (flagged flags) count func_index
       ≡ Some func → zero ≡ literal lasts 0
       → answer_of lasts inputs flags funcs count s x y
-      ≡ walked lasts inputs flags funcs place (record { first_argument = x; second_argument = y; first_reduction = zero; second_reduction = zero }) func.pure
+      ≡ walked lasts inputs flags funcs func_index (record { first_argument = x; second_argument = y; first_reduction = zero; second_reduction = zero }) func.pure
   unfolding ranging
-  answer_inlined place func s x y zero is found z =
+  answer_inlined func_index func s x y zero is found z =
       ap (λ (t : Source). answered (alone s x y) (unasked x) (Some (unasked y)) (answer within t)) is
       ∙ ap (λ (i : Option (Ranged → Option Ranged → Ranged)). answered (alone s x y) (unasked x) (Some (unasked y)) i) (inside_is (ranging lasts inputs)
-      (flagged flags) funcs count place)
+      (flagged flags) funcs count func_index)
       ∙ ap (λ (f : Option Func). answered (alone s x y) (unasked x) (Some (unasked y)) (made_in (ranging lasts inputs) (inside (ranging lasts inputs)
-      (flagged flags) funcs place) f)) found
-      ∙ ap (λ (vars : Variable → Ranged). through (ranging lasts inputs) (inside (ranging lasts inputs) (flagged flags) funcs place) vars func.pure)
+      (flagged flags) funcs func_index) f)) found
+      ∙ ap (λ (vars : Variable → Ranged). through (ranging lasts inputs) (inside (ranging lasts inputs) (flagged flags) funcs func_index) vars func.pure)
       (sym (variables_are lasts inputs x y zero z))
 
 pub are_fit : (lasts : List ℕ) (x y zero : Range) → IsFit lasts x → IsFit lasts y → IsFit lasts zero
@@ -148,22 +148,22 @@ joined3 old first second third a b c d g h whole e f i j k l m =
 
 -- ---- an update's calls
 
-module _ (lasts : List ℕ) (inputs : List Input) (flags : List Bool) (funcs : List Func) (count : ℕ) (own : OwnCalls) (given : Variables) (expr : Expr) where
+module _ (lasts : List ℕ) (inputs : List Input) (flags : List Bool) (funcs : List Func) (count : ℕ) (own_calls : OwnCalls) (given : Variables) (expr : Expr) where
   abbrev of_update : Bool → Expr → Ranged
-  of_update around part = walked_update lasts inputs flags funcs count own around given part
+  of_update around part = walked_update lasts inputs flags funcs count own_calls around given part
 
   abbrev within_update : Inside Ranged
   within_update = inside (ranging lasts inputs) (flagged flags) funcs count
 
   abbrev level_update : Expr-F (Bool → Ranged) → Bool → Ranged
   level_update level around = through_at (ranging lasts inputs) within_update (unasked_variable (ranges_where lasts (range_of given) around))
-      (chosen own around level)
+      (chosen own_calls around level)
 
   abbrev first_at : Bool → Source → Bool
-  first_at around s = is_anywhere own around s own.first_in_place
+  first_at around s = is_anywhere own_calls around s own_calls.first_in_place
 
   abbrev second_at : Bool → Source → Bool
-  second_at around s = is_anywhere own around s own.second_in_place
+  second_at around s = is_anywhere own_calls around s own_calls.second_in_place
 
   pub update_call1 : (around : Bool) (s : Source) (a : Expr) → expr ≡ e.Call1 s a
       → of_update around expr

@@ -97,27 +97,28 @@ ranges_where lasts ranges true v = ranges v
 -- In an index of this call arguments may be anywhere: so it is around the call, or the call is of the own Func and the
 -- index doesn't stand in place.
 abbrev pub is_anywhere : OwnCalls → Bool → Source → Bool → Bool
-is_anywhere own around source in_place = around || (is_own_call own.func source && not in_place)
+is_anywhere own_calls around source in_place = around || (is_own_call own_calls.func source && not in_place)
 
 -- a level, each of whose parts is ranged both ways, as it is ranged where arguments may be anywhere or not
 abbrev pub chosen : OwnCalls → Bool → Expr-F (Bool → Ranged) → Expr-F Ranged
-chosen own around (layer.Number n) = layer.Number n
-chosen own around (layer.Variable v) = layer.Variable v
-chosen own around (layer.Binary operation a b) = layer.Binary operation (a around) (b around)
-chosen own around (layer.Divide a c) = layer.Divide (a around) c
-chosen own around (layer.Remainder a c) = layer.Remainder (a around) c
-chosen own around (layer.Select c a b) = layer.Select (c around) (a around) (b around)
-chosen own around (layer.Call1 source x) = layer.Call1 source (x (is_anywhere own around source own.first_in_place))
-chosen own around (layer.Call2 source x y) =
-    layer.Call2 source (x (is_anywhere own around source own.first_in_place)) (y (is_anywhere own around source own.second_in_place))
+chosen own_calls around (layer.Number n) = layer.Number n
+chosen own_calls around (layer.Variable v) = layer.Variable v
+chosen own_calls around (layer.Binary operation a b) = layer.Binary operation (a around) (b around)
+chosen own_calls around (layer.Divide a c) = layer.Divide (a around) c
+chosen own_calls around (layer.Remainder a c) = layer.Remainder (a around) c
+chosen own_calls around (layer.Select c a b) = layer.Select (c around) (a around) (b around)
+chosen own_calls around (layer.Call1 source x) = layer.Call1 source
+    (x (is_anywhere own_calls around source own_calls.first_in_place))
+chosen own_calls around (layer.Call2 source x y) =
+    layer.Call2 source (x (is_anywhere own_calls around source own_calls.first_in_place)) (y (is_anywhere own_calls around source own_calls.second_in_place))
 
 -- of an expression of an update, where arguments may be anywhere and where not
 unfoldable pub ranged_update : List ℕ → List Input → (ℕ → Bool) → List Func → ℕ → OwnCalls → (Variable → Range) → Expr → Bool → Ranged
-ranged_update lasts inputs is_inlined funcs count own ranges e =
+ranged_update lasts inputs is_inlined funcs count own_calls ranges e =
     fold-Expr (Bool → Ranged)
     (λ level around.
     through_at (ranging lasts inputs) (inside (ranging lasts inputs) is_inlined funcs count) (unasked_variable (ranges_where lasts ranges around))
-    (chosen own around level))
+    (chosen own_calls around level))
     e
 
 -- ---- as code has them
@@ -144,4 +145,4 @@ abbrev pub walked : List ℕ → List Input → List Bool → List Func → ℕ 
 walked lasts inputs flags funcs count given e = ranged lasts inputs (flagged flags) funcs count (range_of given) e
 
 abbrev pub walked_update : List ℕ → List Input → List Bool → List Func → ℕ → OwnCalls → Bool → Variables → Expr → Ranged
-walked_update lasts inputs flags funcs count own around given e = ranged_update lasts inputs (flagged flags) funcs count own (range_of given) e around
+walked_update lasts inputs flags funcs count own_calls around given e = ranged_update lasts inputs (flagged flags) funcs count own_calls (range_of given) e around

@@ -59,7 +59,7 @@ pub record Covers (lasts values : List ℕ) (r : Ranged) (s : Seen) : Type 0 whe
 -- The pixel at each point, whose coordinates are words, is a word, and each of an input of bytes is a byte.
 pub record AnswerWords (inputs : List Input) (reads : Reads) : Type 0 where
   pub words : (s : Source) (x y : ℕ) → x < 2 ^ 32 → y < 2 ^ 32 → reads s x y < 2 ^ 32
-  pub bytes : (place : ℕ) (input : Input) → slice_get inputs place ≡ Some input → input.is_bytes ≡ true → (x y : ℕ) → reads (sources.Input place) x y < 256
+  pub bytes : (func_index : ℕ) (input : Input) → slice_get inputs func_index ≡ Some input → input.is_bytes ≡ true → (x y : ℕ) → reads (sources.Input func_index) x y < 256
 
 -- Through inlined Funcs the value of an expression of a pipeline lies in its range, and each point that it reads lies
 -- in ranges that are asked.
@@ -76,10 +76,10 @@ RangesCover = (lasts values : List ℕ) → Below values lasts → (reads : Read
 abbrev pub UpdateRangesCover : Type 0
 UpdateRangesCover = (lasts values : List ℕ) → Below values lasts → (reads : Reads) (inputs : List Input) → AnswerWords inputs reads
     → (is_inlined : ℕ → Bool) (funcs : List Func) → AreFuncs inputs funcs
-    → (count : ℕ) (own : OwnCalls) (has : Variable → Bool) (ranges : Variable → Range) (environment : Environment)
+    → (count : ℕ) (own_calls : OwnCalls) (has : Variable → Bool) (ranges : Variable → Range) (environment : Environment)
     → ((around : Bool) (v : Variable) → has v ≡ true → Lies lasts values (ranges_where lasts ranges around v) (variable environment v))
     → (e : Expr) → keeps (is_read inputs funcs count) has e ≡ true → (around : Bool)
-    → Covers lasts values (ranged_update lasts inputs is_inlined funcs count own ranges e around) (inlined (seeing reads) is_inlined funcs count
+    → Covers lasts values (ranged_update lasts inputs is_inlined funcs count own_calls ranges e around) (inlined (seeing reads) is_inlined funcs count
     (seen_variable environment) e)
 
 -- ---- pixels
@@ -90,9 +90,9 @@ PixelsAreWords = (inputs : List Input) (funcs : List Func) (planes : Planes) →
     → AnswerWords inputs (reads_of planes (pixels funcs planes 0))
     → (count : ℕ) → AnswerWords inputs (reads_of planes (pixels funcs planes count))
 
--- And what stands after some points of an update are words.
+-- And what is after some points of an update are words.
 abbrev pub StagesAreWords : Type 0
 StagesAreWords = (inputs : List Input) (funcs : List Func) (planes : Planes) → AreFuncs inputs funcs
-    → (own : ℕ) (func : Func) → slice_get funcs own ≡ Some func → AnswerWords inputs (reads_of planes (pixels funcs planes own))
+    → (func_index : ℕ) (func : Func) → slice_get funcs func_index ≡ Some func → AnswerWords inputs (reads_of planes (pixels funcs planes func_index))
     → (at : ℕ) (update : Update) → slice_get func.updates at ≡ Some update → (number x y : ℕ) → x < 2 ^ 32 → y < 2 ^ 32
-    → after own update planes (pixels funcs planes own) (stage own func planes (pixels funcs planes own) at) number x y < 2 ^ 32
+    → after func_index update planes (pixels funcs planes func_index) (stage func_index func planes (pixels funcs planes func_index) at) number x y < 2 ^ 32

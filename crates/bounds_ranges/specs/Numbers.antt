@@ -13,6 +13,6 @@ least = 2 ^ 62 - 2 ^ 31
 abbrev pub greatest : ℕ
 greatest = 2 ^ 62 + 2 ^ 31 - 1
 
--- where a word stands among the ends
+-- where a word is among the ends
 abbrev pub spot : ℕ → ℕ
 spot x = (x + 2 ^ 31) % 2 ^ 32 + least

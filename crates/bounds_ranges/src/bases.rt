@@ -91,7 +91,7 @@ pub fn negated(a: Base) -> Base
     ]
 }
 
-/// The base so many times.
+/// The base this many times.
 pub fn times_base(n: u64, a: Base) -> Base
     ensures { result ≡ spec.times_base n a }
 {

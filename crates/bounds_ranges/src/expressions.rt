@@ -219,15 +219,20 @@ fn answered(
 }
 
 /// The range of a variable of an update, where arguments may be anywhere or not.
-fn update_variable(lasts: &Lasts, variables: &Variables, anywhere: bool, own: Variable) -> Range
+fn update_variable(
+    lasts: &Lasts,
+    variables: &Variables,
+    anywhere: bool,
+    own_variable: Variable,
+) -> Range
     requires { spec.AreFit lasts.now variables.now }
-    ensures value { result ≡ spec.ranges_where lasts.now (spec.range_of variables.now) anywhere own }
+    ensures value { result ≡ spec.ranges_where lasts.now (spec.range_of variables.now) anywhere own_variable }
     ensures fits { IsFit lasts.now result }
 {
     if !anywhere {
-        return variable(variables, own);
+        return variable(variables, own_variable);
     }
-    match own {
+    match own_variable {
         Variable::FirstArgument | Variable::SecondArgument => {
             let ends = Ends {
                 low: ORIGIN - (1 << 24),
@@ -235,18 +240,18 @@ fn update_variable(lasts: &Lasts, variables: &Variables, anywhere: bool, own: Va
             };
             fit(lasts, no_base(), ends)
         }
-        Variable::FirstReduction | Variable::SecondReduction => variable(variables, own),
+        Variable::FirstReduction | Variable::SecondReduction => variable(variables, own_variable),
     }
 }
 
 /// Whether arguments may be anywhere in an index of a call.
-fn is_anywhere(own: &OwnCalls, anywhere: bool, source: Source, in_place: bool) -> bool
-    ensures { result ≡ spec.is_anywhere own.now anywhere source in_place }
+fn is_anywhere(own_calls: &OwnCalls, anywhere: bool, source: Source, in_place: bool) -> bool
+    ensures { result ≡ spec.is_anywhere own_calls.now anywhere source in_place }
 {
     anywhere
         || match source {
             Source::Input(_) => false,
-            Source::Func(place) => own.func == place && !in_place,
+            Source::Func(place) => own_calls.func == place && !in_place,
         }
 }
 
@@ -256,7 +261,7 @@ fn is_anywhere(own: &OwnCalls, anywhere: bool, source: Source, in_place: bool) -
 #[tactic(auto, unfolding(crate::specs::Expressions::ranged_update, crate::specs::Expressions::ranging))]
 pub fn ranged_update(
     scope: &RangeScope<'_>,
-    own: &OwnCalls,
+    own_calls: &OwnCalls,
     anywhere: bool,
     expr: &Expr,
     asked: &mut Vec<ReadRange>,
@@ -265,10 +270,10 @@ pub fn ranged_update(
     requires reads { spec.AreFitReads scope.now.lasts.now asked.old.items }
     ensures range { IfOk result (λ r. r
         ≡ (spec.walked_update scope.now.lasts.now scope.now.inputs.now scope.now.flags.now scope.now.funcs.now
-        scope.now.count own.now anywhere scope.now.variables.now expr.now).range) }
+        scope.now.count own_calls.now anywhere scope.now.variables.now expr.now).range) }
     ensures asked { OnOk result (asked.new.items ≡ asked.old.items
         ++ (spec.walked_update scope.now.lasts.now scope.now.inputs.now scope.now.flags.now scope.now.funcs.now
-        scope.now.count own.now anywhere scope.now.variables.now expr.now).asked) }
+        scope.now.count own_calls.now anywhere scope.now.variables.now expr.now).asked) }
     ensures fits { IfOk result (λ r. IsFit scope.now.lasts.now r) }
     ensures reads { OnOk result (spec.AreFitReads scope.now.lasts.now asked.new.items) }
 {
@@ -276,36 +281,36 @@ pub fn ranged_update(
         Expr::Number(number) => Ok(literal(scope.lasts, *number)),
         Expr::Variable(v) => Ok(update_variable(scope.lasts, scope.variables, anywhere, *v)),
         Expr::Binary(operation, a, b) => {
-            let a = ranged_update(scope, own, anywhere, a.get(), asked)?;
-            let b = ranged_update(scope, own, anywhere, b.get(), asked)?;
+            let a = ranged_update(scope, own_calls, anywhere, a.get(), asked)?;
+            let b = ranged_update(scope, own_calls, anywhere, b.get(), asked)?;
             Ok(operated(scope.lasts, *operation, &a, &b))
         }
         Expr::Divide(a, divisor) => {
-            let a = ranged_update(scope, own, anywhere, a.get(), asked)?;
+            let a = ranged_update(scope, own_calls, anywhere, a.get(), asked)?;
             Ok(divided(scope.lasts, &a, *divisor))
         }
         Expr::Remainder(a, divisor) => {
-            ranged_update(scope, own, anywhere, a.get(), asked)?;
+            ranged_update(scope, own_calls, anywhere, a.get(), asked)?;
             Ok(remainders(scope.lasts, *divisor))
         }
         Expr::Select(c, a, b) => {
-            ranged_update(scope, own, anywhere, c.get(), asked)?;
-            let a = ranged_update(scope, own, anywhere, a.get(), asked)?;
-            let b = ranged_update(scope, own, anywhere, b.get(), asked)?;
+            ranged_update(scope, own_calls, anywhere, c.get(), asked)?;
+            let a = ranged_update(scope, own_calls, anywhere, a.get(), asked)?;
+            let b = ranged_update(scope, own_calls, anywhere, b.get(), asked)?;
             Ok(hull(scope.lasts, &a, &b))
         }
         Expr::Call1(source, x) => {
-            let first = is_anywhere(own, anywhere, *source, own.first_in_place);
-            let x = ranged_update(scope, own, first, x.get(), asked)?;
+            let first = is_anywhere(own_calls, anywhere, *source, own_calls.first_in_place);
+            let x = ranged_update(scope, own_calls, first, x.get(), asked)?;
             let y = literal(scope.lasts, 0);
             let range = answered(scope, *source, x, y, asked)?;
             Ok(range)
         }
         Expr::Call2(source, x, y) => {
-            let first = is_anywhere(own, anywhere, *source, own.first_in_place);
-            let second = is_anywhere(own, anywhere, *source, own.second_in_place);
-            let x = ranged_update(scope, own, first, x.get(), asked)?;
-            let y = ranged_update(scope, own, second, y.get(), asked)?;
+            let first = is_anywhere(own_calls, anywhere, *source, own_calls.first_in_place);
+            let second = is_anywhere(own_calls, anywhere, *source, own_calls.second_in_place);
+            let x = ranged_update(scope, own_calls, first, x.get(), asked)?;
+            let y = ranged_update(scope, own_calls, second, y.get(), asked)?;
             let range = answered(scope, *source, x, y, asked)?;
             Ok(range)
         }

@@ -18,7 +18,7 @@ pub fn pixels_are_words()
     ensures { PixelsAreWords }
 {}
 
-/// So is what stands after some points of an update.
+/// So is what is after some points of an update.
 pub fn stages_are_words()
     ensures { StagesAreWords }
 {}

@@ -34,7 +34,7 @@ factor_of (Some factor) = factor
 
 -- An unrolled loop is the inner one of a split: a copy for each of its iterations.
 abbrev pub copies : Loop → ℕ
-copies own = if is_marked marks.Unrolled own then factor_of own.inner_of else 1
+copies stage_loop = if is_marked marks.Unrolled stage_loop then factor_of stage_loop.inner_of else 1
 
 abbrev pub all_copies : List Loop → ℕ
 all_copies [] = 1
@@ -65,7 +65,7 @@ flags_of (own ∷ others) = is_inlined own.place ∷ flags_of others
 
 -- A Func is computed that the output reaches and that isn't inlined.
 abbrev pub is_computed : FuncPlacement → Bool
-is_computed own = own.is_reached && not (is_inlined own.place)
+is_computed placement = placement.is_reached && not (is_inlined placement.place)
 
 -- ---- nodes
 
@@ -81,7 +81,7 @@ update_nodes flags funcs update = nodes_in flags funcs update.right + (nodes_in 
 
 -- ---- stages
 
--- a stage whose expressions have so many nodes
+-- a stage whose expressions have this many nodes
 abbrev pub stage_weight : ℕ → Stage → ℕ
 stage_weight nodes stage = (nodes + length stage.loops) * all_copies stage.loops
 
@@ -93,11 +93,11 @@ updates_weight flags funcs (update ∷ updates) (stage ∷ stages) =
 
 -- all stages of a Func, in each copy of the code around them
 abbrev pub func_weight : List Bool → List Func → List FuncPlan → Func → FuncPlan → FuncPlacement → ℕ
-func_weight flags funcs plans func plan own =
-    (stage_weight (nodes_in flags funcs func.pure) plan.pure + updates_weight flags funcs func.updates plan.updates) * consumer_copies plans own.place
+func_weight flags funcs plans func plan placement =
+    (stage_weight (nodes_in flags funcs func.pure) plan.pure + updates_weight flags funcs func.updates plan.updates) * consumer_copies plans placement.place
 
 abbrev pub computed_weight : List Bool → List Func → List FuncPlan → Func → FuncPlan → FuncPlacement → ℕ
-computed_weight flags funcs plans func plan own = if is_computed own then func_weight flags funcs plans func plan own else 0
+computed_weight flags funcs plans func plan placement = if is_computed placement then func_weight flags funcs plans func plan placement else 0
 
 -- all Funcs that are computed, each with its plan and what becomes of it
 abbrev pub funcs_weight : List Bool → List Func → List FuncPlan → List Func → List FuncPlan → List FuncPlacement → ℕ
@@ -176,7 +176,8 @@ abbrev pub func_needs : List Bool → List Func → Func → FuncPlan → StageN
 func_needs flags funcs func plan = both (needs_of (need_in flags funcs func.pure) plan.pure) (updates_needs flags funcs func.updates plan.updates)
 
 abbrev pub computed_needs : List Bool → List Func → Func → FuncPlan → FuncPlacement → StageNeeds
-computed_needs flags funcs func plan own = if is_computed own then func_needs flags funcs func plan else no_needs
+computed_needs flags funcs func plan placement = if is_computed placement then func_needs flags funcs func plan else
+    no_needs
 
 abbrev pub funcs_needs : List Bool → List Func → List Func → List FuncPlan → List FuncPlacement → StageNeeds
 funcs_needs flags funcs [] plans standings = no_needs
@@ -193,9 +194,9 @@ needs pipeline schedule = funcs_needs (flags_of schedule.standings) pipeline.fun
 
 -- No code is made for a need above 64.
 abbrev pub is_too_deep : StageNeeds → Bool
-is_too_deep own = nat_lt 64 own.greatest
+is_too_deep own_stage_needs = nat_lt 64 own_stage_needs.greatest
 
--- What doesn't fit the registers stands in frames, one for each hart: a need above 12, or above 6 where each register
+-- What doesn't fit the registers is in frames, one for each hart: a need above 12, or above 6 where each register
 -- of a stage is four.
 abbrev pub has_frames : StageNeeds → Bool
-has_frames own = nat_lt 12 own.greatest || nat_lt 6 own.greatest_by_16
+has_frames own_stage_needs = nat_lt 12 own_stage_needs.greatest || nat_lt 6 own_stage_needs.greatest_by_16

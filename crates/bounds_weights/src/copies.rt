@@ -1,4 +1,4 @@
-//! How often a stage's code stands, for loops that are unrolled.
+//! How often a stage's code is, for loops that are unrolled.
 
 ghost use Rattle.std.specs.Prelude.{◌≡◌};
 ghost use Rattle.bounds_weights.specs.Weight as spec;
@@ -9,11 +9,11 @@ use schedule_lines::stages::{Loop, LoopId, Mark, is_marked, same_id};
 use sqlite_items::at;
 
 /// How many copies there are of the code in a loop.
-fn copies(own: &Loop) -> u32
-    ensures { result ≡ spec.copies own.now }
+fn copies(stage_loop: &Loop) -> u32
+    ensures { result ≡ spec.copies stage_loop.now }
 {
-    if is_marked(own, Mark::Unrolled) {
-        match own.inner_of {
+    if is_marked(stage_loop, Mark::Unrolled) {
+        match stage_loop.inner_of {
             None => 1,
             Some(factor) => factor,
         }
@@ -52,10 +52,10 @@ fn copies_from(id: LoopId, loops: &[Loop]) -> u32
 
 /// How many there are of the code of a Func that is computed here, for the loop at which it is and those outside of
 /// it; or the greatest `u32` if there are more.
-pub fn consumer_copies(plans: &[FuncPlan], place: ComputeLevel) -> u32
-    ensures { result ≡ capped (spec.consumer_copies plans.now place) }
+pub fn consumer_copies(plans: &[FuncPlan], level: ComputeLevel) -> u32
+    ensures { result ≡ capped (spec.consumer_copies plans.now level) }
 {
-    match place {
+    match level {
         ComputeLevel::Inlined | ComputeLevel::Root | ComputeLevel::Nowhere => 1,
         ComputeLevel::At(consumer) => match at(plans, consumer.func) {
             None => 1,

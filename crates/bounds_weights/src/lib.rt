@@ -1,6 +1,6 @@
 //! How heavy a schedule is, and how many registers its stages need.
 //!
-//! - [`copies`]: how often a stage's code stands, for loops that are unrolled (`specs/Weight.antt`).
+//! - [`copies`]: how often a stage's code is, for loops that are unrolled (`specs/Weight.antt`).
 //! - [`weighing`]: what all stages together weigh (`specs/Weight.antt`), and [`weigh`], which refuses what is too
 //!   heavy.
 //! - [`stage_needs`]: how many registers expressions need at once (`specs/Weight.antt`): of a stage, [`stage_need`]; of

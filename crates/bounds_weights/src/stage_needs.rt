@@ -137,12 +137,12 @@ fn computed_needs(
     calls: &[Option<Need>],
     func: &Func,
     plan: &FuncPlan,
-    own: &FuncPlacement,
+    placement: &FuncPlacement,
 ) -> StageNeeds
     ensures { inner.AllNeedsAs calls.now result (λ flags funcs. spec.computed_needs flags funcs func.now plan.now
-        own.now) }
+        placement.now) }
 {
-    if !is_computed(own) {
+    if !is_computed(placement) {
         return no_needs();
     }
     let pure = needs_of(all_registers(calls, &func.pure), &plan.pure);
@@ -205,16 +205,18 @@ pub fn needs(
     schedule: &Schedule,
     alloc: Global,
 ) -> Result<StageNeeds, AllocError>
-    ensures value { IfOk result (λ own. own ≡ inner.capped_needs (spec.needs pipeline.now schedule.now)) }
-    ensures deep { IfOk result (λ own. spec.is_too_deep own ≡ spec.is_too_deep (spec.needs pipeline.now schedule.now)) }
-    ensures frames { IfOk result (λ own. spec.has_frames own ≡ spec.has_frames (spec.needs pipeline.now schedule.now)) }
+    ensures value { IfOk result (λ stage_needs. stage_needs ≡ inner.capped_needs (spec.needs pipeline.now schedule.now)) }
+    ensures deep { IfOk result (λ stage_needs. spec.is_too_deep stage_needs ≡ spec.is_too_deep
+        (spec.needs pipeline.now schedule.now)) }
+    ensures frames { IfOk result (λ stage_needs. spec.has_frames stage_needs ≡ spec.has_frames
+        (spec.needs pipeline.now schedule.now)) }
 {
     let plans = schedule.funcs.as_slice();
-    let own = total_needs(
+    let stage_needs = total_needs(
         alloc,
         pipeline.funcs(),
         plans,
         schedule.standings.as_slice(),
     )?;
-    Ok(own)
+    Ok(stage_needs)
 }

@@ -17,17 +17,17 @@ use std::alloc::{AllocError, Global};
 const MOST_WEIGHT: u32 = 4096;
 
 /// Whether a Func is inlined that is computed here.
-fn is_inlined(place: ComputeLevel) -> bool
-    ensures { result ≡ legal.is_inlined place }
+fn is_inlined(level: ComputeLevel) -> bool
+    ensures { result ≡ legal.is_inlined level }
 {
-    matches!(place, ComputeLevel::Inlined)
+    matches!(level, ComputeLevel::Inlined)
 }
 
 /// Whether a Func is computed: the output reaches it, and it isn't inlined.
-pub fn is_computed(own: &FuncPlacement) -> bool
-    ensures { result ≡ spec.is_computed own.now }
+pub fn is_computed(placement: &FuncPlacement) -> bool
+    ensures { result ≡ spec.is_computed placement.now }
 {
-    own.is_reached && !is_inlined(own.place)
+    placement.is_reached && !is_inlined(placement.place)
 }
 
 /// Which Funcs are inlined.
@@ -75,7 +75,7 @@ fn loop_count(stage: &Stage) -> u32
     u32::try_from(stage.loops.len()).unwrap_or(u32::MAX)
 }
 
-/// What a stage weighs whose expressions have so many nodes.
+/// What a stage weighs whose expressions have this many nodes.
 fn stage_weight(nodes: u32, stage: &Stage) -> u32
     ensures { (n : ℕ) → nodes ≡ inner.capped n → result ≡ inner.capped (spec.stage_weight n stage.now) }
 {
@@ -104,15 +104,15 @@ fn func_weight(
     plans: &[FuncPlan],
     func: &Func,
     plan: &FuncPlan,
-    own: &FuncPlacement,
+    placement: &FuncPlacement,
 ) -> u32
     ensures { inner.CountsAs calls.now result (λ flags funcs. spec.func_weight flags funcs plans.now func.now plan.now
-        own.now) }
+        placement.now) }
 {
     let pure = stage_weight(all_nodes(calls, &func.pure), &plan.pure);
     let updates = updates_weight(calls, func.updates.as_slice(), plan.updates.as_slice());
     pure.saturating_add(updates)
-        .saturating_mul(consumer_copies(plans, own.place))
+        .saturating_mul(consumer_copies(plans, placement.place))
 }
 
 /// What a Func weighs, if it is computed.
@@ -121,13 +121,13 @@ fn computed_weight(
     plans: &[FuncPlan],
     func: &Func,
     plan: &FuncPlan,
-    own: &FuncPlacement,
+    placement: &FuncPlacement,
 ) -> u32
     ensures { inner.CountsAs calls.now result (λ flags funcs. spec.computed_weight flags funcs plans.now func.now
-        plan.now own.now) }
+        plan.now placement.now) }
 {
-    if is_computed(own) {
-        func_weight(calls, plans, func, plan, own)
+    if is_computed(placement) {
+        func_weight(calls, plans, func, plan, placement)
     } else {
         0
     }

@@ -50,7 +50,7 @@ pub flags-held : (session : SessionState) (place : ℕ) (machine : State) (kept 
     → length kept.written.items ≡ pages_of (length machine.memory)
 flags-held session place machine kept e fits = fits.flags ∙ ap pages_of (as-many-bytes session place machine e)
 
--- the same session at another place, with a machine that stands there
+-- the same session at another place, with a machine that is there
 pub held-there : (session : SessionState) (machine machine' : State) (first : List HartState) (stores : List (Option Insn)) (kept kept' : KeptPlaces) (place : ℕ)
     → Held session machine first stores kept → machine' ≡ state_at session place → place ≤ length session.log.turns
     → KeptFits session.image session.log kept' machine'.memory

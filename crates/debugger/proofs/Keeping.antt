@@ -240,7 +240,7 @@ fits-start image log kept new memory fits same places flags below behind = recor
   };
 }
 
--- what is asked of a machine that stands at a place
+-- what is asked of a machine that is at a place
 pub can-put-back : (image : ImageContents) (log : LogState) (kept : KeptPlaces) (memory : List ℕ) (machine : State) → KeptFits image log kept memory
     → KeepsShape (machine_of image log.harts) machine → CanPutBack (length machine.memory) (length machine.harts) kept
 can-put-back image log kept memory machine fits shape = record {
@@ -281,7 +281,7 @@ fits-marked image log kept new memory memory' same places fits marks = record {
   };
 }
 
--- ---- what is kept of a machine that stands at a place
+-- ---- what is kept of a machine that is at a place
 
 pub copy-kept : (image : ImageContents) (log : LogState) (kept : KeptPlaces) (place : ℕ) (machine : State) (copy : KeptPlace) → KeptFits image log kept machine.memory
     → machine ≡ there image log place → place ≤ length log.turns
@@ -363,7 +363,7 @@ get-there [] at below = absurd (omega (arith, below))
 get-there (first ∷ copies) zero below = (first, refl)
 get-there (first ∷ copies) (suc at) below = get-there copies at (omega (arith, below))
 
--- data of the image under the pages that were let go, and those of so many places over them
+-- data of the image under the pages that were let go, and those of this many places over them
 pub put-held : (image : ImageContents) (kept : KeptPlaces) (count : ℕ) (bytes : List ℕ) (below : List (Option PageCopy)) (places : List KeptPlace)
     (old one two three : State)
     → bytes ≡ image.bytes → one ≡ with_data old bytes → below ≡ kept.below.items → places ≡ kept.places.items

@@ -136,7 +136,7 @@ until-behind session place hart count turns changed on_break until =
     ap (λ b. b || list_any (watch_stops session (place + turns)) session.watches) (sym until.on_break_is)
     ∙ ap (λ b. on_break || b) (watches-at session place hart count turns until.stand until.some until.most ∙ sym until.changed_is)
 
--- where a machine stands after turns that were made from the place on
+-- where a machine is after turns that were made from the place on
 pub stands-behind : (session : SessionState) (log : LogState) (breaks watches : List ℕ) (machine now : State) (place hart count turns : ℕ)
     → Fits session log breaks watches machine place → IsLog log
     → run_at log.turns place ≡ Some (hart, count) → turns ≤ count → now ≡ run machine (replicate turns hart) → now ≡ state_at session (place + turns)
@@ -192,7 +192,7 @@ at-once session log machine place hart count turns same is e state harts some mo
       rests = λ two. subst (λ (s : State). (hart_at s hart).status ≢ Running) state (rests two);
     }
 
--- marks stop where they do, wherever the session stands
+-- marks stop where they do, wherever the session is
 pub passed-from : (session here : SessionState) (place : ℕ) (passed : Passed) → here ≡ moved session place → IsPassed here here.place passed
     → IsPassed session place passed
 passed-from session here place passed e is =

@@ -60,7 +60,7 @@ pub or-false : (b : Bool) → (b || false) ≡ b
 or-false true = refl
 or-false false = refl
 
--- a place between turns that change nothing stops exactly where the hart stands on a break
+-- a place between turns that change nothing stops exactly where the hart is on a break
 pub stops-between : (session : SessionState) (place turns hart : ℕ) → 1 ≤ turns → state_at session (place + turns) ≡ state_at session place
     → state_at session (place + (turns - 1)) ≡ state_at session place → slice_get session.log.turns (place + turns) ≡ Some hart
     → stops session (place + turns) ≡ list_any (λ mark. mark == (hart_at (state_at session place) hart).pc) session.breaks

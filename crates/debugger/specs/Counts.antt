@@ -15,7 +15,7 @@ abbrev pub counts_next : State → Option ℕ → ℕ
 counts_next state None = 0
 counts_next state (Some hart) = one_if_running (hart_at state hart).status
 
--- of so many turns of the log from a place on, those in which the hart runs
+-- of this many turns of the log from a place on, those in which the hart runs
 abbrev pub steps_from : SessionState → ℕ → ℕ → ℕ
 steps_from session place zero = 0
 steps_from session place (suc n) =

@@ -21,7 +21,7 @@ pub record CountedSession : Type 0 where
   pub state : SessionState
   pub steps : ℕ
 
--- the state after so many turns of the log, from the image's machine on
+-- the state after this many turns of the log, from the image's machine on
 abbrev pub state_at : SessionState → ℕ → State
 state_at session place = run (machine_of session.image session.log.harts) (take place session.log.turns)
 

@@ -20,7 +20,7 @@ UnlessMemory TooManyMarks fact = fact
 UnlessMemory NoStop fact = fact
 UnlessMemory OutOfMemory fact = Unit {0}
 
--- what is read, or the refusal of an address at which nothing stands
+-- what is read, or the refusal of an address at which nothing is
 abbrev pub or_address : Option ℕ → Result ℕ SessionRefusal
 or_address (Some word) = Ok word
 or_address None = Err Address

@@ -5,12 +5,12 @@ use Rattle.std.specs.Option.{option_eq}
 use Rattle.multi_hart.specs.Run.{State, hart_at, word_in}
 use Rattle.debugger.specs.Places.{SessionState, state_at}
 
--- the hart of the next turn, if there is one, stands on the address: its pc alone decides, running or not
+-- the hart of the next turn, if there is one, is on the address: its pc alone decides, running or not
 abbrev pub stands_on : State → Option ℕ → ℕ → Bool
 stands_on state None address = false
 stands_on state (Some hart) address = address == (hart_at state hart).pc
 
--- a break stops at a place from which the log goes on with a hart that stands on it
+-- a break stops at a place from which the log goes on with a hart that is on it
 abbrev pub break_stops : SessionState → ℕ → ℕ → Bool
 break_stops session place address = stands_on (state_at session place) (slice_get session.log.turns place) address
 

@@ -49,7 +49,6 @@ pub(crate) struct KeptPlaces {
     pub written: Vec<bool>,
 }
 
-/// Written out, so that a check sees a call wherever one is dropped, and not the drops of its parts.
 impl Drop for KeptPlaces {
     fn drop(self) {
         let KeptPlaces {
@@ -63,7 +62,7 @@ impl Drop for KeptPlaces {
     }
 }
 
-/// No place is kept, over so many bytes of data.
+/// No place is kept, over this many bytes of data.
 pub(crate) fn keep_none(alloc: Global, size: usize) -> Result<KeptPlaces, AllocError>
     requires { size < 2 ^ 63 }
     ensures none { IfOk result (λ kept. AreFree (pages_of size) kept) }
@@ -180,7 +179,7 @@ fn let_go(kept: &mut KeptPlaces)
     settle(&mut kept.below, first.pages);
 }
 
-/// Puts a machine back to the state at the one of the kept places that stands there. Takes no memory.
+/// Puts a machine back to the state at the one of the kept places that is there. Takes no memory.
 pub(crate) fn put_back(kept: &mut KeptPlaces, image: &Image, at: usize, machine: &mut Machine)
     requires there { at < length kept.old.places.items }
     requires can { CanPutBack (length machine.old.memory) (length machine.old.harts) kept.old }
@@ -220,7 +219,7 @@ pub(crate) fn put_at_start(
     mark_behind(&mut kept.written, &kept.places, 0);
 }
 
-/// Puts the pages of so many places back, one place after the other.
+/// Puts the pages of this many places back, one place after the other.
 fn put_places(machine: &mut Machine, places: &[KeptPlace], count: usize)
     requires few { length machine.old.memory ≤ most_bytes }
     requires pages { All (ArePages (length machine.old.memory)) places.now }
@@ -248,7 +247,7 @@ fn put_harts(machine: &mut Machine, places: &[KeptPlace], at: usize)
     machine.set_harts(&places[at].harts);
 }
 
-/// Marks the pages of all places after so many.
+/// Marks the pages of all places after this many.
 fn mark_behind(written: &mut [bool], places: &[KeptPlace], count: usize)
     ensures marked { Marked written.old written.new }
     ensures others { (f : ℕ → ℕ) (i : ℕ) → is_written written.new (i / 4096) ≡ false → last_of f places.now i

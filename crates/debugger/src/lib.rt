@@ -1,6 +1,6 @@
 //! The debugger: an image and a log of turns, looked at from any place of the log.
 //!
-//! A [`Session`] stands at a place, which is how many of the log's turns were made, and answers from
+//! A [`Session`] is at a place, which is how many of the log's turns were made, and answers from
 //! the state there (`specs/Places.antt`). It goes forwards and backwards, by turns, to a place, or to the next
 //! or previous place at which a mark stops (`specs/Stops.antt`): a break at an address of text, or a watch of
 //! a word of data (`specs/Marks.antt`). A refused call leaves the session where it was, with its

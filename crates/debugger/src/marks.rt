@@ -62,7 +62,7 @@ impl Session {
     }
 }
 
-/// Whether a word begins at the address, where text has so many words.
+/// Whether a word begins at the address, where text has this many words.
 fn is_text_word(words: usize, address: u32) -> bool
     requires { words ≤ most_words }
     ensures { result ≡ is_text_word words address }
@@ -72,7 +72,7 @@ fn is_text_word(words: usize, address: u32) -> bool
         && (address as usize) < TEXT_START as usize + 4 * words
 }
 
-/// Whether an aligned word at the address is all data, where data has so many bytes.
+/// Whether an aligned word at the address is all data, where data has this many bytes.
 fn is_data_word(bytes: usize, address: u32) -> bool
     requires { bytes ≤ most_bytes }
     ensures { result ≡ is_data_word bytes address }

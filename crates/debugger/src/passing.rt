@@ -75,7 +75,7 @@ impl Passed {
     }
 }
 
-/// Passes at least one turn and at most those up to the limit, on a machine that stands at the place: those of a hart
+/// Passes at least one turn and at most those up to the limit, on a machine that is at the place: those of a hart
 /// that runs up to one after which a mark may stop or the state may have to be kept, or all of one that doesn't run,
 /// which change nothing.
 pub(crate) fn pass(
@@ -134,7 +134,7 @@ fn either(a: bool, b: bool) -> bool
     a || b
 }
 
-/// Passes so many turns of a hart that doesn't run, all at once.
+/// Passes this many turns of a hart that doesn't run, all at once.
 fn pass_rest(
     log: &TurnLog,
     breaks: &[u32],
@@ -162,7 +162,7 @@ fn pass_rest(
     }
 }
 
-/// Whether a break stops at the place, where the machine stands.
+/// Whether a break stops at the place, where the machine is.
 pub(crate) fn is_on_break(log: &TurnLog, breaks: &[u32], machine: &Machine, place: u64) -> bool
     requires harts { length machine.now.harts ≡ log.now.harts }
     ensures { (session : SessionState) → log.now ≡ session.log → breaks.now ≡ session.breaks

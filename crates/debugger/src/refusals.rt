@@ -18,7 +18,7 @@ pub enum SessionRefusal {
     #[error("the place is before the start of the log")]
     BeforeStart,
 
-    /// No word that may be marked or read stands at the address.
+    /// No word that may be marked or read is at the address.
     #[error("no such word stands at the address")]
     Address,
 

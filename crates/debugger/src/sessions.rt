@@ -62,7 +62,6 @@ impl Model for Session {
     }) s.machine s.opening.items s.insns.items s.kept };
 }
 
-/// Written out, so that a check sees a call wherever one is dropped, and not the drops of its parts.
 impl Drop for Session {
     fn drop(self) {
         let Session {

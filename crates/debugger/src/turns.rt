@@ -43,7 +43,7 @@ impl PassedTurns {
     }
 }
 
-/// Makes so many turns of a hart, and says how many it made one by one: once it isn't running the rest are passed,
+/// Makes this many turns of a hart, and says how many it made one by one: once it isn't running the rest are passed,
 /// since they change nothing. It takes no memory.
 pub(crate) fn make_counted(
     machine: &mut Machine,
@@ -141,8 +141,8 @@ pub(crate) struct SetMarks<'a> {
     pub watches: &'a [u32],
 }
 
-/// Makes turns of a hart that runs, at least one and at most so many, in each of which it runs: up to the first after
-/// which it stands on a break, which changes a word at one of the watched addresses, or which doesn't step. It takes no
+/// Makes turns of a hart that runs, at least one and at most this many, in each of which it runs: up to the first after
+/// which it is on a break, which changes a word at one of the watched addresses, or which doesn't step. It takes no
 /// memory.
 pub(crate) fn make_until(
     machine: &mut Machine,
@@ -178,7 +178,7 @@ pub(crate) fn make_until(
     }
 }
 
-/// Whether no mark stops after a turn that stepped, where the hart now stands at this address and its turn is the next
+/// Whether no mark stops after a turn that stepped, where the hart now is at this address and its turn is the next
 /// one.
 fn goes_on(told: Watched, pc: u32, breaks: &[u32]) -> bool
     ensures stepped { result ≡ true → told.outcome ≡ Outcome.Stepped }

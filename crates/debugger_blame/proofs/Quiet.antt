@@ -108,7 +108,7 @@ few_words insns text is few =
     let same = ap (λ (l : List (Option Insn)). length l) is ∙ length-map text store_in in
     omega (arith, same, few)
 
--- ---- where a hart stands after a turn
+-- ---- where a hart is after a turn
 
 scalar_pc : (hart : HartState) (scalar : Option (ℕ × ℕ)) → (with_scalar hart scalar).pc ≡ hart.pc
 scalar_pc hart None = refl

@@ -5,8 +5,8 @@ use Rattle.multi_hart.specs.Run.{State, hart_at, run, turn, word_in, is_in}
 use Rattle.work_sharing.specs.Turns.{is_word_in, last_writer, written_next}
 use Rattle.debugger_blame.specs.declared.writes.Write.{Write}
 
--- the number of the last of the turns whose places pass the test, where so many turns came before the first; where none do, what was
--- known before
+-- the number of the last of the turns whose places pass the test, where this many turns came before the first; where
+-- none do, what was known before
 abbrev pub last_turn : (List ℕ → Bool) → ℕ → Option ℕ → State → List ℕ → Option ℕ
 last_turn test count known state [] = known
 last_turn test count known state (hart ∷ turns) =
@@ -37,7 +37,7 @@ left_by begin turns word (Some number) = held (turn (run begin (take number turn
 abbrev pub LastWritesStay : Type 0
 LastWritesStay = (begin : State) (turns : List ℕ) (word : ℕ) → held (run begin turns) word ≡ left_by begin turns word (last_turn_of_word word begin turns)
 
--- The turn is the last of the turns that writes a byte of the word; its hart, where that stood, and what the word held before it and
+-- The turn is the last of the turns that writes a byte of the word; its hart, where that was, and what the word held before it and
 -- after it.
 pub record IsLastWrite (begin : State) (turns : List ℕ) (word : ℕ) (w : Write) : Type 0 where
   pub is_last : last_turn_of_word word begin turns ≡ Some w.turn

@@ -1,5 +1,5 @@
 //! Who wrote a word of data: the last turn of a log that wrote one of its bytes, also where it wrote the value that
-//! stood there.
+//! was there.
 //!
 //! - [`writes`]: the turn with what it found and left ([`Write`]).
 //! - [`passes`]: one pass over a log, up to the last such turn ([`last_write`]), over `specs/LastWrites.antt`.
@@ -8,7 +8,7 @@
 //! - `stores`: what an instruction stores.
 //! - `quiets`: words of text that store nothing.
 //! - [`laws`]: the hart of that turn is the last writer of a byte that the theorem on assignments names; what the turn
-//!   left in the word stands there after all turns.
+//!   left in the word is there after all turns.
 #![tactic(auto)]
 
 pub mod laws;

@@ -38,7 +38,7 @@ fn count_all(words: &[u32], counts: &mut [u32])
     }
 }
 
-/// How many there are from a word on, where so many are from the next one on.
+/// How many there are from a word on, where this many are from the next one on.
 fn count_from(word: u32, next: u32) -> u32
     ensures { (words : List ℕ) (place : ℕ) → slice_get words place ≡ Some word → AreQuiet words (place + 1) next
         → AreQuiet words place result }

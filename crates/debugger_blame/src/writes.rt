@@ -7,7 +7,7 @@ pub struct Write {
     pub turn: u64,
     /// The hart whose turn it was.
     pub hart: usize,
-    /// Where the hart stood.
+    /// Where the hart was.
     pub pc: u32,
     /// What the word held before the turn, and after it.
     pub before: u32,

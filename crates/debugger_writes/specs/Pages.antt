@@ -1,9 +1,9 @@
--- Copies of pages of data, laid over what stood there. What data hold is told by a number for each offset. This project's own.
+-- Copies of pages of data, laid over what was there. What data hold is told by a number for each offset. This project's own.
 use Rattle.std.specs.Prelude.{◌≡◌, ℕ, ◌+◌, ◌*◌, ◌/◌, ◌%◌, ◌<◌, ◌≤◌, ◌==◌, Bool, true, false, if◌then◌else◌, List, [], ◌∷◌, length, slice_index, slice_index_or}
 use Rattle.std.specs.Prelude.{Option, Some, None}
 use Rattle.debugger_writes.specs.declared.pages.PageCopy.{PageCopy}
 
--- how many pages so many bytes take
+-- how many pages this many bytes take
 abbrev pub pages_of : ℕ → ℕ
 pages_of size = (size + 4095) / 4096
 

@@ -13,7 +13,7 @@ use rv_insn::{Insn, Outcome};
 
 /// What a turn was.
 #[derive(Clone, Copy, Debug, PartialEq, Eq)]
-pub struct Told {
+pub struct MarkedTurn {
     /// What it came to.
     pub outcome: Outcome,
     /// Its instruction is one that stores.
@@ -28,7 +28,7 @@ pub fn turn_marking(
     insns: &[Option<Insn>],
     hart: usize,
     written: &mut [bool],
-) -> Told
+) -> MarkedTurn
     requires there { hart < length machine.old.harts }
     requires meant { insns.now ≡ map store_in machine.old.text }
     requires few { length insns.now ≤ most_words }
@@ -40,14 +40,14 @@ pub fn turn_marking(
     match store_at(insns, machine.pc(hart)) {
         Some(insn) => {
             let outcome = turn_storing(machine, insn, hart, written);
-            Told {
+            MarkedTurn {
                 outcome,
                 stores: true,
             }
         }
         None => {
             let outcome = machine.turn(hart);
-            Told {
+            MarkedTurn {
                 outcome,
                 stores: false,
             }

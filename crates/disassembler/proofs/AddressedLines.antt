@@ -4,7 +4,7 @@ use Rattle.std.proofs.Common.{append-nil, append_assoc, subst}
 use Rattle.std.proofs.Math.Seq.{take-length}
 use Rattle.disassembler.specs.Listing.{addressed_line, addressed_listing}
 
--- the lines of some first words were appended, and the others are left, of which the first stands at the address
+-- the lines of some first words were appended, and the others are left, of which the first is at the address
 pub record IsListed (start : ℕ) (words rest : List ℕ) (address : ℕ) (old new : List ℕ) : Type 0 where
   pub done : List ℕ
   pub split : words ≡ done ++ rest

@@ -51,7 +51,7 @@ all_listed words rest old new is few =
     let none = none_left rest few in
     is.lines ∙ ap (λ ws. old ++ listing ws) (sym (append-nil is.done) ∙ sym (ap (λ r. is.done ++ r) none) ∙ sym is.split)
 
--- a call that failed left what stands there
+-- a call that failed left what is there
 pub front_listed : {X E : Type 0} (r : Result X E) (words rest old now new : List ℕ) → IsListed words rest old now → new ≡ now
     → OnErr r ((count : ℕ) × (new ≡ old ++ listing (take count words)))
 front_listed (Ok x) words rest old now new is same = tt

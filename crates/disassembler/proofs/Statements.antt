@@ -63,7 +63,7 @@ operands_back (operand ∷ operands) =
     ∙ ap all_operands (piece_and operand (pieces operands) (later_tokens operands) (later_pieces operands))
     ∙ all_back (operand ∷ operands)
 
--- no colon stands after the mnemonic
+-- no colon is after the mnemonic
 no_label : (mnemonic : List ℕ) (operands : List Operand) → statement_of (t.Word mnemonic ∷ operands_tokens operands)
     ≡ commanded None mnemonic (operands_of (operands_tokens operands))
 unfolding statement_of operands_tokens

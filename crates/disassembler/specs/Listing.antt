@@ -21,12 +21,12 @@ use Rattle.assembler_mnemonics.specs.declared.slots.Slot.TheVariants.{Integer, V
 abbrev pub hexadecimal_digit : ℕ → ℕ
 hexadecimal_digit d = if nat_lt d 10 then 48 + d else 87 + d
 
--- the last so many hexadecimal digits of a number
+-- the last this many hexadecimal digits of a number
 unfoldable pub last_digits : ℕ → ℕ → List ℕ
 last_digits zero number = []
 last_digits (suc count) number = last_digits count (number / 16) ++ hexadecimal_digit (number % 16) ∷ []
 
--- `0x` and so many digits
+-- `0x` and this many digits
 unfoldable pub hexadecimal_text : ℕ → ℕ → List ℕ
 hexadecimal_text count number = codes "0x" ++ last_digits count number
 
@@ -73,7 +73,7 @@ unfoldable pub later_text : List Slot → List ℤ → List ℕ
 later_text [] fields = []
 later_text (slot ∷ slots) fields = (if is_written slot fields then 44 ∷ operand_text slot fields else []) ++ later_text slots fields
 
--- what stands after a mnemonic: nothing, or a space, the first operand and the later ones
+-- what is after a mnemonic: nothing, or a space, the first operand and the later ones
 unfoldable pub operands_text : List Slot → List ℤ → List ℕ
 operands_text [] fields = []
 operands_text (slot ∷ slots) fields = 32 ∷ operand_text slot fields ++ later_text slots fields
@@ -107,7 +107,7 @@ listing (word ∷ words) = listed word ++ listing words
 abbrev pub addressed_line : ℕ → ℕ → List ℕ
 addressed_line address word = line_of word ++ codes " # " ++ hexadecimal_text 8 address
 
--- the lines of words, the first of which stands at an address
+-- the lines of words, the first of which is at an address
 unfoldable pub addressed_listing : ℕ → List ℕ → List ℕ
 addressed_listing address [] = []
 addressed_listing address (word ∷ words) = (addressed_line address word ++ 10 ∷ []) ++ addressed_listing (address + 4) words

@@ -1,4 +1,4 @@
--- Slots whose fields are among so many, and whose numbers are small: targets lie within a mebibyte, a vtype has
+-- Slots whose fields are among this many, and whose numbers are small: targets lie within a mebibyte, a vtype has
 -- at most 12 bits, and a number as well. It is a premise of private functions, which every form's slots meet.
 -- This project's own.
 use Rattle.std.specs.Prelude.{ℕ, ◌<◌, pos, negsuc, ◌≤ℤ◌, List, [], ◌∷◌}

@@ -2,7 +2,7 @@
 //!
 //! [`write_line`] appends the line of a word, whatever the word is: a mnemonic and operands where it
 //! means an instruction, else `.word` and the number (`specs/Listing.antt`); [`write_lines`] appends those of
-//! several words, and [`write_addressed_lines`] says in a comment of each where its word stands. [`laws`] say that such
+//! several words, and [`write_addressed_lines`] says in a comment of each where its word is. [`laws`] say that such
 //! a line, read as assembly text, gives back what it shows (`specs/Reading.antt`).
 #![tactic(auto)]
 

@@ -18,7 +18,7 @@ use std::alloc::AllocError;
 const USUAL_LINE: usize = 64;
 
 /// Appends the line of a word and a line feed. An `Err` says that there was no memory, and leaves what
-/// stands in `out` as it was.
+/// is in `out` as it was.
 pub fn write_line(word: u32, out: &mut Vec<u8>) -> Result<(), AllocError>
     ensures appended { OnOk result (out.new.items ≡ out.old.items ++ listed word) }
     ensures unchanged { OnErr result (out.new.items ≡ out.old.items) }
@@ -30,8 +30,8 @@ pub fn write_line(word: u32, out: &mut Vec<u8>) -> Result<(), AllocError>
     Ok(())
 }
 
-/// Appends the line of a word, after it a comment with the address at which the word stands, and a line feed. An `Err`
-/// says that there was no memory, and leaves what stands in `out` as it was.
+/// Appends the line of a word, after it a comment with the address at which the word is, and a line feed. An `Err`
+/// says that there was no memory, and leaves what is in `out` as it was.
 pub(crate) fn write_addressed_line(
     word: u32,
     address: u32,

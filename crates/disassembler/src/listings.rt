@@ -6,7 +6,7 @@ ghost use Rattle.disassembler.specs.Listing.{addressed_listing, listing};
 use crate::lines::{write_addressed_line, write_line};
 use std::alloc::AllocError;
 
-/// Appends the lines of words, one after the other. An `Err` says that there was no memory, and leaves what stands in
+/// Appends the lines of words, one after the other. An `Err` says that there was no memory, and leaves what is in
 /// `out` as it was.
 pub fn write_lines(words: &[u32], out: &mut Vec<u8>) -> Result<(), AllocError>
     ensures appended { OnOk result (out.new.items ≡ out.old.items ++ listing words.now) }
@@ -20,7 +20,7 @@ pub fn write_lines(words: &[u32], out: &mut Vec<u8>) -> Result<(), AllocError>
     pushed
 }
 
-/// The same, but that after an `Err` the lines of so many first words stand in `out`.
+/// The same, but that after an `Err` the lines of this many first words stand in `out`.
 fn push_lines(words: &[u32], out: &mut Vec<u8>) -> Result<(), AllocError>
     ensures appended { OnOk result (out.new.items ≡ out.old.items ++ listing words.now) }
     ensures begun { OnErr result ((count : ℕ) × (out.new.items ≡ out.old.items ++ listing (take count words.now))) }
@@ -33,7 +33,7 @@ fn push_lines(words: &[u32], out: &mut Vec<u8>) -> Result<(), AllocError>
     Ok(())
 }
 
-/// Appends the lines of words, each with a comment that says its address: the first word stands at `start`. After an
+/// Appends the lines of words, each with a comment that says its address: the first word is at `start`. After an
 /// `Err`, for want of memory, the lines of some first words stand in `out`.
 pub fn write_addressed_lines(words: &[u32], start: u32, out: &mut Vec<u8>) -> Result<(), AllocError>
     requires { start + 4 * length words.now < 2 ^ 32 }

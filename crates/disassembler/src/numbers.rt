@@ -6,7 +6,7 @@ ghost use Rattle.disassembler.specs.Listing.{hexadecimal_digit, last_digits, hex
 
 use std::alloc::AllocError;
 
-/// `0x` and the last so many hexadecimal digits of a number.
+/// `0x` and the last this many hexadecimal digits of a number.
 #[tactic(auto, unfolding(crate::specs::Listing::hexadecimal_text))]
 pub fn push_hexadecimal(text: &mut String, count: u32, number: u64) -> Result<(), AllocError>
     ensures { OnOk result (string_bytes text.new ≡ string_bytes text.old ++ hexadecimal_text count number) }

@@ -13,7 +13,7 @@ use crate::numbers::push_hexadecimal;
 use assembler_mnemonics::{Fields, Slot};
 use std::alloc::AllocError;
 
-/// What stands after a mnemonic: nothing where there are no slots, else a space and the operands with
+/// What is after a mnemonic: nothing where there are no slots, else a space and the operands with
 /// commas between them.
 #[tactic(auto, unfolding(crate::specs::Listing::operands_text))]
 pub fn push_operands(text: &mut String, slots: &[Slot], fields: &Fields) -> Result<(), AllocError>

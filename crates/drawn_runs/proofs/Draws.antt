@@ -63,7 +63,7 @@ steps HasEnded e = absurd (true≢false (sym e))
 steps (HasTrapped trap) e = absurd (true≢false (sym e))
 steps Idle e = absurd (true≢false (sym e))
 
--- what the turn after so many of the hart comes to
+-- what the turn after this many of the hart comes to
 abbrev came-after : State → ℕ → ℕ → Outcome
 came-after machine hart made = outcome (run machine (replicate made hart)) hart
 

@@ -31,7 +31,7 @@ bound_of limit before hart = min (count_of before hart + limit) most_turns
 abbrev pub is_ready : (ℕ → ℕ) → State → List ℕ → ℕ → Bool
 is_ready bound machine turns hart = is_running (hart_at machine hart).status && nat_lt (count_of turns hart) (bound hart)
 
--- those numbered below so many that are ready, in order of their numbers
+-- those numbered below this many that are ready, in order of their numbers
 abbrev pub ready_below : (ℕ → ℕ) → State → List ℕ → ℕ → List ℕ
 ready_below bound machine turns zero = []
 ready_below bound machine turns (suc hart) =
@@ -46,18 +46,18 @@ chosen harts generator = slice_index harts ((mix_u64 generator).0 % length harts
 
 -- ---- how many turns it makes
 
--- as many as it makes in a row while it is running, so many at most
+-- as many as it makes in a row while it is running, this many at most
 abbrev pub stretch : State → ℕ → ℕ → ℕ
 stretch machine hart zero = 0
 stretch machine hart (suc most) = if is_running (hart_at machine hart).status then suc (stretch (turn machine hart) hart most) else 0
 
--- up to so many, and up to its bound
+-- up to this many, and up to its bound
 abbrev pub due : ℕ → (ℕ → ℕ) → Drawing → ℕ → ℕ
 due every bound drawing hart = stretch drawing.machine hart (min every (bound hart - count_of drawing.turns hart))
 
 -- ---- draws, one after the other
 
--- so many turns of a hart, for which one number was drawn
+-- this many turns of a hart, for which one number was drawn
 abbrev pub with_stretch : Drawing → ℕ → ℕ → Drawing
 with_stretch drawing hart made = record {
   machine = run drawing.machine (replicate made hart);
@@ -74,7 +74,7 @@ on_among onward every bound drawing [] = drawing
 on_among onward every bound drawing (first ∷ others) =
     onward (with_draw_of every bound drawing (chosen (first ∷ others) drawing.generator))
 
--- what so many draws come to
+-- what this many draws come to
 unfoldable pub drawn : ℕ → (ℕ → ℕ) → ℕ → Drawing → Drawing
 drawn every bound zero drawing = drawing
 drawn every bound (suc draws) drawing = on_among (drawn every bound draws) every bound drawing (ready bound drawing)

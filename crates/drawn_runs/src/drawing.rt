@@ -67,7 +67,7 @@ fn choose(generator: &mut SplitMix64, harts: &[usize]) -> usize
     harts[number as usize]
 }
 
-/// How many turns a hart has at most in the end that makes so many more.
+/// How many turns a hart has at most in the end that makes this many more.
 fn bound_of(log: &TurnLog, limit: u64, hart: usize) -> u64
     ensures { result ≡ bound_of limit log.now.turns hart }
 {

@@ -51,7 +51,7 @@ abbrev pub in_fronts : List ℕ → Option (List ℕ) → Option (List ℕ)
 in_fronts front None = None
 in_fronts front (Some payload) = Some (front ++ payload)
 
--- the payload that a body spells, behind a `}` or not; none where the body ends behind one
+-- the payload that a body spells, after a `}` or not; none where the body ends after one
 unfoldable pub unescaped_from : Bool → List ℕ → Option (List ℕ)
 unescaped_from true [] = None
 unescaped_from false [] = Some []
@@ -61,19 +61,19 @@ unescaped_from false (byte ∷ body) = if byte == 125 then unescaped_from true b
 abbrev pub unescaped : List ℕ → Option (List ℕ)
 unescaped body = unescaped_from false body
 
--- The body of an answer may have runs: behind a byte, `*` and a count stand for so many more of it, 29 less than the count. These are the
--- bytes behind one that was the last.
+-- The body of an answer may have runs: after a byte, `*` and a count stand for this many more of it, 29 less than the
+-- count. These are the bytes after one that was the last.
 unfoldable pub expanded_behind : ℕ → List ℕ → List ℕ
 expanded_behind last [] = []
 expanded_behind last (byte ∷ []) = byte ∷ []
 expanded_behind last (byte ∷ next ∷ body) =
     if byte == 42 then replicate (next - 29) last ++ expanded_behind last body else byte ∷ expanded_behind byte (next ∷ body)
 
--- What gdb takes from an answer's body: runs are expanded, and then escapes undone. Nothing stands before the first byte.
+-- What gdb takes from an answer's body: runs are expanded, and then escapes undone. Nothing is before the first byte.
 abbrev pub answer_in : List ℕ → Option (List ℕ)
 answer_in body = unescaped (expanded_behind 0 body)
 
--- ---- what a frame says that has come, where a body may have so many bytes
+-- ---- what a frame says that has come, where a body may have this many bytes
 
 -- a packet, a bad one, one that is too long, an interrupt (byte 3), or that the last answer is wanted again (`-`)
 pub data Reading : Type 0 where
@@ -91,7 +91,7 @@ abbrev pub spelled : Option (List ℕ) → Reading
 spelled None = Bad
 spelled (Some payload) = Packet payload
 
--- of a body with this sum and these two digits behind it; of its bytes at least the first are known, one more than it may have
+-- of a body with this sum and these two digits after it; of its bytes at least the first are known, one more than it may have
 abbrev pub said : ℕ → List ℕ → ℕ → ℕ → ℕ → Reading
 said limit body number first second =
     if not (is_sum number first second) then Bad
@@ -100,7 +100,7 @@ said limit body number first second =
 
 -- ---- reading bytes one after the other
 
--- where a reader stands: in which part of a frame, and with which body so far, of which it keeps at most one byte more than there may be, and with its sum
+-- where a reader is: in which part of a frame, and with which body so far, of which it keeps at most one byte more than there may be, and with its sum
 pub record Place : Type 0 where
   pub stage : Stage
   pub body : List ℕ
@@ -124,7 +124,7 @@ led limit byte InData body number =
 led limit byte BehindData body number = at (BehindDigit byte) body number
 led limit byte (BehindDigit first) body number = outside
 
--- A `$` begins a frame wherever it comes, since it stands nowhere else: gdb gave the earlier one up.
+-- A `$` begins a frame wherever it comes, since it occurs nowhere else: gdb gave the earlier one up.
 unfoldable pub after : ℕ → Place → ℕ → Place
 after limit place byte = if byte == 36 then at InData [] 0 else led limit byte place.stage place.body place.number
 
@@ -175,7 +175,7 @@ place_of reader = at reader.stage reader.body.items reader.sum
 abbrev pub IsBody : List ℕ → Type 0
 IsBody body = AllByRecursion (λ byte. (byte ≢ 35) × (byte ≢ 36)) body
 
--- what a body says with two digits behind it
+-- what a body says with two digits after it
 abbrev pub meaning : ℕ → List ℕ → ℕ → ℕ → Reading
 meaning limit body first second =
     if not (is_sum (check_sum body) first second) then Bad

@@ -78,7 +78,7 @@ pair_in bytes = pair_at bytes >>= λ pair. at_end pair.0 pair.1
 
 -- ---- requests of one letter
 
--- the name of these has nothing behind it
+-- the name of these has nothing after it
 abbrev pub if_alone : Request → List ℕ → Request
 if_alone request [] = request
 if_alone request (byte ∷ bytes) = requests.Refused
@@ -138,7 +138,7 @@ threads_or_all (Some rest) bytes = thread_at rest
 unfoldable pub threads_at : List ℕ → Option (Thread × List ℕ)
 threads_at bytes = threads_or_all (mark_at 58 bytes) bytes
 
--- another action may follow behind `;` (59)
+-- another action may follow after `;` (59)
 abbrev pub before_others : Action → List ℕ → Option Action
 before_others action [] = Some action
 before_others action (byte ∷ bytes) = if byte == 59 then Some action else None
@@ -149,7 +149,7 @@ steps bytes = threads_at bytes >>= λ found. before_others (actions.Step found.0
 abbrev pub continues : List ℕ → Option Action
 continues bytes = threads_at bytes >>= λ found. before_others (actions.Continue found.0) found.1
 
--- The leftmost action is what a run in a log does next; what other threads do stands in the log. It is `s` (115), `c` (99), or with a
+-- The leftmost action is what a run in a log does next; what other threads do is in the log. It is `s` (115), `c` (99), or with a
 -- signal, which no run has a use for, `S` (83) or `C` (67).
 unfoldable pub action_by : ℕ → List ℕ → Option Action
 action_by letter bytes =
@@ -178,7 +178,7 @@ thread_info_in bytes = thread_in bytes >>= λ thread. Some (requests.ThreadInfo 
 unfoldable pub behind : List ℕ → List ℕ → Option (List ℕ)
 behind name bytes = if starts_with nat_eq bytes name then Some (drop (length name) bytes) else None
 
--- what is meant behind a name, or else another request
+-- what is meant after a name, or else another request
 abbrev pub meant : Option (List ℕ) → (List ℕ → Request) → Request → Request
 meant None means other = other
 meant (Some bytes) means other = means bytes

@@ -8,16 +8,16 @@ use line_text::numbers::saturating_hexadecimal;
 use line_text::spans::is_hexadecimal;
 use std::alloc::{AllocError, Global};
 
-/// In which part of a frame a reader stands.
+/// In which part of a frame a reader is.
 #[derive(Clone, Copy, Debug, PartialEq, Eq)]
 pub enum Stage {
     /// In none.
     Outside,
-    /// Behind `$`.
+    /// After `$`.
     InData,
-    /// Behind `#`.
+    /// After `#`.
     BehindData,
-    /// Behind `#` and this digit.
+    /// After `#` and this digit.
     BehindDigit(u8),
 }
 
@@ -32,7 +32,7 @@ pub struct PacketReader {
 }
 
 impl PacketReader {
-    /// A reader of which nothing is read yet, for frames whose bodies have at most so many bytes.
+    /// A reader of which nothing is read yet, for frames whose bodies have at most this many bytes.
     pub fn new(alloc: Global, limit: usize) -> PacketReader
         requires { limit + 1 < 2 ^ 63 }
         ensures place { spec.place_of result ≡ spec.outside }
@@ -46,7 +46,7 @@ impl PacketReader {
         }
     }
 
-    /// Takes one byte, and answers what is read with it. Behind an error the reader may be anything.
+    /// Takes one byte, and answers what is read with it. After an error the reader may be anything.
     #[tactic(auto, unfolding(crate::specs::Packets::after, crate::specs::Packets::reading))]
     pub fn take(&mut self, alloc: Global, byte: u8) -> Result<Option<Reading>, AllocError>
         ensures reading { IfOk result (λ found. option_map spec.view found
@@ -76,7 +76,7 @@ impl PacketReader {
         }
     }
 
-    /// Takes bytes, and appends what is read with them. Behind an error the reader may be anything.
+    /// Takes bytes, and appends what is read with them. After an error the reader may be anything.
     pub fn read(
         &mut self,
         alloc: Global,
@@ -106,7 +106,7 @@ impl PacketReader {
         self.sum = 0;
     }
 
-    /// Takes a byte behind `$`.
+    /// Takes a byte after `$`.
     fn take_data(&mut self, byte: u8) -> Result<(), AllocError>
         ensures place { OnOk result (spec.place_of self.new
             ≡ spec.led self.old.limit byte Stage.InData self.old.body.items self.old.sum) }
@@ -185,7 +185,7 @@ fn unescape(alloc: Global, body: &[u8]) -> Result<Reading, AllocError>
     Ok(Reading::Packet(payload))
 }
 
-/// Appends what a byte of a body spells, behind `}` or not, and says whether the byte is a `}` that escapes the next.
+/// Appends what a byte of a body spells, after `}` or not, and says whether the byte is a `}` that escapes the next.
 #[tactic(auto, unfolding(crate::specs::Packets::unescaped_from), using(crate::proofs::Unescaping::one_more))]
 fn unescape_byte(payload: &mut Vec<u8>, is_escaped: bool, byte: u8) -> Result<bool, AllocError>
     ensures { IfOk result (λ escapes. (rest : List ℕ)

@@ -6,7 +6,7 @@ ghost use Rattle.gdb_packets.specs.Requests as spec;
 use crate::request_parts::{mark_at, number_at, thread_at};
 use crate::requests::{Action, Request, Thread};
 
-/// The leftmost action behind `vCont;`.
+/// The leftmost action after `vCont;`.
 #[tactic(auto, unfolding(crate::specs::Requests::action_in))]
 pub fn action_in(bytes: &[u8]) -> Option<Request>
     ensures { result ≡ spec.action_in bytes.now }
@@ -52,7 +52,7 @@ fn continues(bytes: &[u8]) -> Option<Action>
     before_others(Action::Continue(thread), rest)
 }
 
-/// The thread behind a colon, or all threads where there is none.
+/// The thread after a colon, or all threads where there is none.
 #[tactic(auto, unfolding(crate::specs::Requests::threads_at))]
 fn threads_at(bytes: &[u8]) -> Option<(Thread, &[u8])>
     ensures { option_map (λ found. (found.0, found.1.now)) result ≡ spec.threads_at bytes.now }

@@ -24,7 +24,7 @@ pub fn number_at(bytes: &[u8]) -> Option<(u32, &[u8])>
     Some((number as u32, rest))
 }
 
-/// What follows this byte, where it stands at the front.
+/// What follows this byte, where it is at the front.
 #[tactic(auto, unfolding(crate::specs::Requests::mark_at))]
 pub fn mark_at(mark: u8, bytes: &[u8]) -> Option<&[u8]>
     ensures { option_map (λ rest. rest.now) result ≡ spec.mark_at mark bytes.now }

@@ -32,7 +32,7 @@ pub fn monitor_digits(payload: &[u8]) -> &[u8]
     }
 }
 
-/// What a payload asks for that begins with this letter, behind which these bytes stand.
+/// What a payload asks for that begins with this letter, after which these bytes stand.
 #[tactic(auto, unfolding(crate::specs::Requests::by_letter))]
 fn by_letter(letter: u8, bytes: &[u8], payload: &[u8]) -> Request
     requires { payload.now ≡ letter ∷ bytes.now }
@@ -55,7 +55,7 @@ fn by_letter(letter: u8, bytes: &[u8], payload: &[u8]) -> Request
     }
 }
 
-/// A request whose name has nothing behind it.
+/// A request whose name has nothing after it.
 fn if_alone(request: Request, bytes: &[u8]) -> Request
     ensures { result ≡ spec.if_alone request bytes.now }
 {

@@ -41,7 +41,7 @@ type_of number =
     else if number == 2 || number == 3 || number == 4 then codes "data_ptr"
     else codes "int"
 
--- of so many bits, and with this number
+-- of this many bits, and with this number
 unfoldable pub kind_of : List ℕ → List ℕ → ℕ → List ℕ
 kind_of bits type number =
     attribute (codes "bitsize") bits ++ attribute (codes "type") type ++ attribute (codes "regnum") (decimal number) ++ end
@@ -52,7 +52,7 @@ register name bits type number = codes "<reg" ++ attribute (codes "name") name +
 unfoldable pub integer_line : ℕ → List ℕ
 integer_line number = register (name_of number) (codes "32") (type_of number) number
 
--- the lines of the registers numbered below so many
+-- the lines of the registers numbered below this many
 unfoldable pub integer_lines : ℕ → List ℕ
 integer_lines zero = []
 integer_lines (suc number) = integer_lines number ++ integer_line number
@@ -136,7 +136,7 @@ description = opening ++ machine ++ cpu ++ vectors ++ settings ++ tag (codes "/t
 
 -- ---- the memory map
 
--- a region of so many bytes; none is said of one without bytes
+-- a region of this many bytes; none is said of one without bytes
 unfoldable pub region : List ℕ → ℕ → ℕ → List ℕ
 region kind start bytes =
     if bytes == 0 then []
@@ -152,6 +152,6 @@ memory_map text_bytes data_bytes =
 
 -- ---- pieces
 
--- At most so many bytes from an offset on, behind `m` (109) where more follow, and else behind `l` (108).
+-- At most this many bytes from an offset on, after `m` (109) where more follow, and else after `l` (108).
 abbrev pub piece_of : List ℕ → ℕ → ℕ → List ℕ
 piece_of text offset count = (if nat_lt (offset + count) (length text) then 109 else 108) ∷ take count (drop offset text)

@@ -8,7 +8,7 @@ use crate::elements::{push_attribute, push_end, push_number, push_tag};
 use memory::{DATA_START, TEXT_START};
 use std::alloc::AllocError;
 
-/// Appends the memory map of a machine with so many bytes of text and of data.
+/// Appends the memory map of a machine with this many bytes of text and of data.
 #[tactic(auto, unfolding(crate::specs::Texts::memory_map))]
 pub fn push_memory_map(
     text: &mut String,

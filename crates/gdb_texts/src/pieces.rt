@@ -5,7 +5,7 @@ ghost use Rattle.gdb_texts.specs.Texts as spec;
 
 use std::alloc::AllocError;
 
-/// Appends a piece of a text: at most so many bytes from an offset on, and in front whether more follow.
+/// Appends a piece of a text: at most this many bytes from an offset on, and in front whether more follow.
 pub fn push_piece(out: &mut Vec<u8>, text: &[u8], offset: u32, count: u32) -> Result<(), AllocError>
     ensures { OnOk result (out.new.items ≡ out.old.items ++ spec.piece_of text.now offset count) }
 {

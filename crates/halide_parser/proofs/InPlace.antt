@@ -33,7 +33,7 @@ use Rattle.halide_parser.specs.inner.JudgedLines.{tree_or_zero}
 use Rattle.halide_parser.specs.Expressions as asked
 use Rattle.halide_parser.specs.Expressions.{source, variable}
 
--- Where an argument stands in place it is not moved, and where it doesn't it is not used.
+-- Where an argument is in place it is not moved, and where it doesn't it is not used.
 pub record Calm (first second : Bool) (marks : Marks) : Type 0 where
   pub uses_first : (not first && marks.uses_first) ≡ false
   pub uses_second : (not second && marks.uses_second) ≡ false

@@ -41,7 +41,7 @@ pub length-last : {A : Type 0} (xs : List A) (x : A) → length (xs ++ x ∷ [])
 length-last [] x = refl
 length-last (y ∷ xs) x = ap suc (length-last xs x)
 
--- one more of fewer than so many
+-- one more of fewer than this many
 pub one_more : {A : Type 0} (xs : List A) (x : A) (most : ℕ) → nat_le most (length xs) ≡ false → nat_le (length (xs ++ x ∷ [])) most ≡ true
 one_more xs x most e = le-leb (length (xs ++ x ∷ [])) most (omega (arith, length-last xs x, leb-false most (length xs) e))
 
@@ -80,7 +80,7 @@ input_keeps reader tokens e is_bytes short kept right =
       output = kept.output;
     }
 
--- ---- no line but blanks stands after the output
+-- ---- no line but blanks is after the output
 
 pub no_output : (output : Option Output) (o : Output) → (is_some output && true) ≡ false → output ≡ Some o → ⊥
 no_output None o e is = cc

@@ -27,7 +27,7 @@ short_name name e = le-leb (length name) 32 (ltb-false 32 (length name) e)
 name_first : (name : List ℕ) (rest : List Token) → AreShort (t.Name name ∷ rest) → (is_name name ≡ true) × AreShort rest
 name_first name rest e = let parts = or_parts (nat_lt 32 (length name)) (list_any is_long rest) e in (short_name name parts.0, parts.1)
 
--- what stands after an expression
+-- what is after an expression
 behind : (w : Written) (rest : List Token) → AreShort (spell w rest) → AreShort rest
 behind (Literal n) rest e = e
 behind (Bare name) rest e = (name_first name rest e).1

@@ -226,7 +226,7 @@ comparison_operation comparisons.Equal = op.Equal
 comparison_operation comparisons.NotEqual = op.NotEqual
 
 -- The tree. Brackets leave no trace, `-a` is `0 - a`, and `clamp(v,l,h)` is `min(max(v,l),h)`. Where a name or a divisor is faulty, 0 or the
--- first input stands in its place.
+-- first input is in its place.
 abbrev pub tree : AlgorithmReader → NameScope → Written → Expr
 tree reader scope (Literal n) = e.Number n
 tree reader scope (Bare name) = variable_tree (variable scope name)

@@ -38,7 +38,7 @@ taken_by read reader line = tokens_of line >>= λ tokens. settled_if reader toke
 
 -- ---- a text
 
--- a text has at most so many bytes
+-- a text has at most this many bytes
 abbrev pub most_text : ℕ
 most_text = 65536
 

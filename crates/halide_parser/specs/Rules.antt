@@ -130,7 +130,7 @@ abbrev pub is_second_alone : NameScope → Option Written → Bool
 is_second_alone scope None = false
 is_second_alone scope (Some index) = is_alone variables.SecondArgument (alone scope index)
 
--- An argument that stands alone in its place on the left stands so in each call of the Func; any other isn't used at all. The Func
+-- An argument that is alone in its place on the left is so in each call of the Func; any other isn't used at all. The Func
 -- isn't called on the left.
 abbrev pub is_moved : AlgorithmReader → NameScope → Change Written → Bool
 is_moved reader scope change =
@@ -145,7 +145,7 @@ same_place None None = true
 same_place (Some a) (Some b) = a == b
 same_place _ _ = false
 
--- an update stands below its Func's own lines
+-- an update is below its Func's own lines
 abbrev pub is_misshapen : AlgorithmReader → AlgorithmLine Written → Bool
 is_misshapen reader (line.Update change) = not (same_place reader.last_func (func_place reader change.name))
     || is_moved reader (scope_of reader (line.Update change)) change

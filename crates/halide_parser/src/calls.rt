@@ -26,7 +26,7 @@ fn own_marks(is_own: bool, first: Option<Variable>, second: Option<Variable>) ->
     }
 }
 
-/// What a call of a name with so many arguments breaks.
+/// What a call of a name with this many arguments breaks.
 fn callee_marks(callee: Option<(Source, usize)>, count: usize, own: Marks) -> Marks
     ensures { result ≡ spec.callee_marks callee count own }
 {

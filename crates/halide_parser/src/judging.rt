@@ -48,7 +48,6 @@ pub struct Judged {
     pub tree: Option<Expr>,
 }
 
-/// Written out, so that a check sees a call wherever one is dropped, and not the drops of its parts.
 impl Drop for Judged {
     fn drop(self) {
         let Judged {

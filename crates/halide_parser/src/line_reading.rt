@@ -34,7 +34,7 @@ fn index<'a>(
     }
 }
 
-/// What stands after `func`, the name and its bracket.
+/// What is after `func`, the name and its bracket.
 #[tactic(auto, unfolding(halide_parser_syntax::specs::inner::LineReading::definition))]
 fn definition(
     reader: &AlgorithmReader,
@@ -57,7 +57,7 @@ fn definition(
     }))
 }
 
-/// What stands after `update`, the name and its bracket.
+/// What is after `update`, the name and its bracket.
 #[tactic(auto, unfolding(halide_parser_syntax::specs::inner::LineReading::change))]
 fn change(
     reader: &AlgorithmReader,

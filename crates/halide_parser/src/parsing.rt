@@ -52,7 +52,7 @@ impl LineReader for AlgorithmReader {
     }
 }
 
-/// An algorithm text has at most so many bytes.
+/// An algorithm text has at most this many bytes.
 const MOST_TEXT: usize = 65_536;
 
 /// A reader before the first line.
@@ -70,7 +70,7 @@ fn start(alloc: Global, text: &[u8]) -> AlgorithmReader
     }
 }
 
-/// What so many lines named.
+/// What this many lines named.
 fn finished(reader: AlgorithmReader, count: u64) -> Result<Pipeline, LocatedError<ParseFault>>
     requires few { count + 1 < 2 ^ 64 }
     requires kept { lines.IsFinishable reader }

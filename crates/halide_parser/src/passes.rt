@@ -1,5 +1,5 @@
 //! One pass over the tokens of an expression, which judges it on the way. Nothing is called in itself, so
-//! a line may have any number of brackets. Where the pass stands is changed in place, since moving it costs more than
+//! a line may have any number of brackets. Where the pass is is changed in place, since moving it costs more than
 //! a token does.
 
 ghost use Rattle.std.specs.Prelude.{◌≡◌, ◌<◌, ◌≤◌, ◌+◌, ◌^◌, length, IfOk, IfSome, OnOk, None, Some, if◌then◌else◌};
@@ -34,7 +34,7 @@ fn nothing() -> Pending<Judged>
     }
 }
 
-/// So many signs before an operand.
+/// This many signs before an operand.
 fn negated(
     reader: &AlgorithmReader,
     scope: &NameScope,
@@ -416,7 +416,7 @@ fn step<'a>(
     }
 }
 
-/// Whether an operator stands at the front.
+/// Whether an operator is at the front.
 fn is_operator(tokens: &[Token]) -> bool
     ensures { result ≡ machine.is_operator tokens.now }
 {

@@ -22,7 +22,7 @@ fn is_blank(line: &AlgorithmLine<Judged>) -> bool
     }
 }
 
-/// Whether something stands after the output line.
+/// Whether something is after the output line.
 fn is_behind_output(output: Option<Output>, line: &AlgorithmLine<Judged>) -> bool
     ensures { result ≡ spec.is_behind_output output line.now }
 {
@@ -236,7 +236,7 @@ fn is_moved(change: &Change<Judged>) -> bool
     left_marks(change).calls_own || moves_first || moves_second
 }
 
-/// Whether an update does not stand below its Func, or moves what stands in place.
+/// Whether an update does not stand below its Func, or moves what is in place.
 fn is_misshapen(reader: &AlgorithmReader, line: &AlgorithmLine<Judged>) -> bool
     ensures { result ≡ lines.is_misshapen reader.now line.now }
 {

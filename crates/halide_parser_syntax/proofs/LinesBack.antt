@@ -215,7 +215,7 @@ line_written (x ∷ ts) l h = cc
 
 -- ---- what is written is read
 
--- after extents there stands no number
+-- after extents there is no number
 extents_read : (name : List ℕ) (width : ℕ) (height : Option ℕ) (is_bytes : Bool)
     → r.extents (t.Name name ∷ t.Number width ∷ spell_height height (spell_kind is_bytes)) ≡ Ok (
       record { name = name; width = width; height = height },

@@ -48,7 +48,7 @@ opening (b.ThreeFirst f) rest = t.Three f ∷ t.Open ∷ rest
 opening (b.ThreeSecond f a) rest = t.Three f ∷ t.Open ∷ spell a (t.Comma ∷ rest)
 opening (b.ThreeThird f a c) rest = t.Three f ∷ t.Open ∷ spell a (t.Comma ∷ spell c (t.Comma ∷ rest))
 
--- the innermost bracket stands last
+-- the innermost bracket is last
 abbrev frames : List (Frame Written) → List Token → List Token
 frames [] rest = rest
 frames (f ∷ fs) rest = frames fs (lead f.outer (opening f.bracket rest))

@@ -12,7 +12,7 @@ use Rattle.halide_parser_syntax.specs.Tokens.{front_token, tokens_from, tokens_o
 abbrev pub behind : List Token → Result (List Token) ParseFault → Result (List Token) ParseFault
 behind front given = given >>= λ tokens. Ok (front ++ tokens)
 
--- So many tokens were taken, and with fuel to spare what is left gives the others.
+-- This many tokens were taken, and with fuel to spare what is left gives the others.
 pub record Taken (line : List ℕ) (front : List Token) (rest : List ℕ) : Type 0 where
   pub fuel : ℕ
   pub room : length rest < fuel

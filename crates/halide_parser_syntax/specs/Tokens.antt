@@ -1,4 +1,4 @@
--- The tokens of a line, each the longest that stands there, up to the comment.
+-- The tokens of a line, each the longest that is there, up to the comment.
 -- This project's own.
 use Rattle.std.specs.Prelude.{ℕ, zero, suc, ◌+◌, min, ◌==◌, if◌then◌else◌, List, [], ◌∷◌, length, take, drop, codes, Result, Ok, Err}
 use Rattle.std.specs.List.{prefix_len}

@@ -6,7 +6,7 @@ ghost use Rattle.halide_parser_syntax.specs.Faults as spec;
 /// What is wrong with a line, the least first.
 #[derive(Clone, Copy, Debug, PartialEq, Eq)]
 pub enum ParseFault {
-    /// The line is not of the grammar, or stands after the output.
+    /// The line is not of the grammar, or is after the output.
     Syntax,
     /// A name stands for nothing that can stand there.
     UnknownName,

@@ -22,7 +22,7 @@ pub fn expressions_are_written()
         → IsRight w × (tokens ≡ spell w rest) }
 {}
 
-/// An expression of the grammar is read whole, where neither an operator nor a bracket stands after it.
+/// An expression of the grammar is read whole, where neither an operator nor a bracket is after it.
 pub fn expressions_are_read()
     ensures { (w : Written) (rest : List Token) → IsRight w → is_open rest ≡ false → is_operator rest ≡ false
         → expression writing (spell w rest) ≡ Some (w, rest) }

@@ -2,7 +2,7 @@
 //!
 //! - [`faults`]: what can be wrong with a text.
 //! - [`tokens`]: the tokens of a line (`specs/Tokens.antt`).
-//! - [`states`]: where a pass over the tokens of an expression stands: the brackets that are open, and
+//! - [`states`]: where a pass over the tokens of an expression is: the brackets that are open, and
 //!   what is pending in each. The pass itself is `specs/inner/Machine.antt`, over any values that an algebra
 //!   makes of the parts; `specs/Grammar.antt` says what is written by the grammar.
 //! - [`line_parts`]: the parts of a line that are no expressions.

@@ -14,7 +14,7 @@ pub struct NamedExtents {
 #[derive(Drop)]
 pub struct ReductionBounds {
     pub name: Items<u8>,
-    /// Whether a minus stands before the minimum.
+    /// Whether a minus is before the minimum.
     pub is_negative: bool,
     pub minimum: u32,
     pub extent: u32,

@@ -1,4 +1,4 @@
-//! Where a pass over the tokens of an expression stands. `V` is what the pass makes of a part that it has
+//! Where a pass over the tokens of an expression is. `V` is what the pass makes of a part that it has
 //! read.
 
 ghost use Rattle.std.specs.Prelude.{◌≡◌, [], ◌∷◌, OnOk, MatchOption};
@@ -92,7 +92,7 @@ impl<V: Drop> Stack<V> {
     }
 }
 
-/// Where the pass stands: the open brackets, and in the innermost what is pending, and the product so
+/// Where the pass is: the open brackets, and in the innermost what is pending, and the product so
 /// far where an operand was read last.
 #[derive(Drop)]
 pub struct TermState<V> {

@@ -1,7 +1,7 @@
 -- What the pixels of a pipeline are.
 --
 -- Coordinates and pixels are words. A Func has a pixel at each point of an unbounded plane. A source of
--- one dimension lies in the first row of its plane: reads of it look there alone, and what stands in its other
+-- one dimension lies in the first row of its plane: reads of it look there alone, and what is in its other
 -- rows is never read.
 -- This project's own.
 use Rattle.std.specs.Prelude.{ℕ, zero, suc, ◌*◌, ◌/◌, ◌%◌, ◌==◌, ◌&&◌, Bool, nat_lt, if◌then◌else◌, List, length, Option, Some, None, slice_get}
@@ -73,7 +73,7 @@ input_planes pictures place = input_plane (slice_get pictures place)
 
 -- the Func at this place answers by this plane, all others as before
 abbrev pub with_plane : ℕ → Plane → Planes → Planes
-with_plane own plane funcs place = if place == own then plane else funcs place
+with_plane func_index plane funcs place = if place == func_index then plane else funcs place
 
 -- a point, with no reduction
 abbrev pub at_point : ℕ → ℕ → Environment
@@ -116,32 +116,32 @@ abbrev pub is_hit : Reads → Update → Environment → Bool
 is_hit reads update point =
     value reads point update.left_x == point.first_argument && index_value reads point update.left_y == point.second_argument
 
--- what stands after so many points of an update, over what stood before it: where the last point is no
--- hit, what stood after the points before it; else the right side, whose reads of the own Func find what
--- stood then
+-- what is after this many points of an update, over what was before it: where the last point is no
+-- hit, what was after the points before it; else the right side, whose reads of the own Func find what
+-- was then
 unfoldable pub after : ℕ → Update → Planes → Planes → Plane → ℕ → Plane
-after own update inputs earlier before zero x y = before x y
-after own update inputs earlier before (suc number) x y =
+after func_index update inputs earlier before zero x y = before x y
+after func_index update inputs earlier before (suc number) x y =
     if is_hit (reads_of inputs earlier) update (at_reduction update number x y)
-    then value (reads_of inputs (with_plane own (after own update inputs earlier before number) earlier)) (at_reduction update number x y) update.right
-    else after own update inputs earlier before number x y
+    then value (reads_of inputs (with_plane func_index (after func_index update inputs earlier before number) earlier)) (at_reduction update number x y) update.right
+    else after func_index update inputs earlier before number x y
 
 -- the same of an update that may be missing, after all its points
 abbrev pub after_all : ℕ → Option Update → Planes → Planes → Plane → Plane
-after_all own None inputs earlier before = before
-after_all own (Some update) inputs earlier before = after own update inputs earlier before (points update)
+after_all func_index None inputs earlier before = before
+after_all func_index (Some update) inputs earlier before = after func_index update inputs earlier before (points update)
 
--- what stands after so many whole updates
+-- what is after this many whole updates
 unfoldable pub stage : ℕ → Func → Planes → Planes → ℕ → Plane
-stage own func inputs earlier zero = pure_plane func.pure inputs earlier
-stage own func inputs earlier (suc updates) = after_all own (slice_get func.updates updates) inputs earlier (stage own func inputs earlier updates)
+stage func_index func inputs earlier zero = pure_plane func.pure inputs earlier
+stage func_index func inputs earlier (suc updates) = after_all func_index (slice_get func.updates updates) inputs earlier (stage func_index func inputs earlier updates)
 
--- what stands after all updates; 0 where there is no Func
+-- what is after all updates; 0 where there is no Func
 abbrev pub func_plane : ℕ → Option Func → Planes → Planes → Plane
-func_plane own None inputs earlier x y = 0
-func_plane own (Some func) inputs earlier x y = stage own func inputs earlier (length func.updates) x y
+func_plane func_index None inputs earlier x y = 0
+func_plane func_index (Some func) inputs earlier x y = stage func_index func inputs earlier (length func.updates) x y
 
--- the first so many Funcs; 0 for all others
+-- the first this many Funcs; 0 for all others
 unfoldable pub pixels : List Func → Planes → ℕ → Planes
 pixels funcs inputs zero = λ place x y. 0
 pixels funcs inputs (suc count) =

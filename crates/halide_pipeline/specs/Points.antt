@@ -71,7 +71,7 @@ untraced place x y = []
 
 -- the Func at this place reads so, all others as before
 abbrev pub with_trace : ℕ → (ℕ → ℕ → List Point) → Trace → Trace
-with_trace own trace traces place = if place == own then trace else traces place
+with_trace func_index trace traces place = if place == func_index then trace else traces place
 
 -- inputs read nothing
 abbrev pub trace_of : Trace → Source → ℕ → ℕ → List Point
@@ -83,51 +83,51 @@ abbrev pub traced : Trace → List Point → List Point
 traced traces [] = []
 traced traces (point ∷ others) = point ∷ (trace_of traces point.source point.x point.y ++ traced traces others)
 
--- what the left sides of an update read at its first so many points, the arguments in place as in the point
+-- what the left sides of an update read at its first this many points, the arguments in place as in the point
 unfoldable pub left_trace : Update → Planes → Planes → Trace → ℕ → ℕ → ℕ → List Point
 left_trace update inputs earlier traces zero x y = []
 left_trace update inputs earlier traces (suc number) x y =
     traced traces (left_points (reads_of inputs earlier) (at_reduction update number x y) update)
     ++ left_trace update inputs earlier traces number x y
 
--- What the pixels read that stand after so many points of an update: the left sides at these points; and where the
--- last point is a hit, the right side, whose reads of the own Func find what stood then, else what the pixel reads
--- that stood before.
+-- What the pixels read that stand after this many points of an update: the left sides at these points; and where the
+-- last point is a hit, the right side, whose reads of the own Func find what was then, else what the pixel reads
+-- that was before.
 unfoldable pub after_trace : ℕ → Update → Planes → Planes → Trace → Plane → (ℕ → ℕ → List Point) → ℕ → ℕ → ℕ → List Point
-after_trace own update inputs earlier traces before trace zero x y = trace x y
-after_trace own update inputs earlier traces before trace (suc number) x y =
+after_trace func_index update inputs earlier traces before trace zero x y = trace x y
+after_trace func_index update inputs earlier traces before trace (suc number) x y =
     traced traces (left_points (reads_of inputs earlier) (at_reduction update number x y) update)
     ++ (if is_hit (reads_of inputs earlier) update (at_reduction update number x y)
     then left_trace update inputs earlier traces number x y
-    ++ traced (with_trace own (after_trace own update inputs earlier traces before trace number) traces)
-    (points_read (reads_of inputs (with_plane own (after own update inputs earlier before number) earlier)) (at_reduction update number x y) update.right)
-    else after_trace own update inputs earlier traces before trace number x y)
+    ++ traced (with_trace func_index (after_trace func_index update inputs earlier traces before trace number) traces)
+    (points_read (reads_of inputs (with_plane func_index (after func_index update inputs earlier before number) earlier)) (at_reduction update number x y) update.right)
+    else after_trace func_index update inputs earlier traces before trace number x y)
 
 -- the same of an update that may be missing, after all its points
 abbrev pub after_all_trace : ℕ → Option Update → Planes → Planes → Trace → Plane → (ℕ → ℕ → List Point) → ℕ → ℕ → List Point
-after_all_trace own None inputs earlier traces before trace = trace
-after_all_trace own (Some update) inputs earlier traces before trace = after_trace own update inputs earlier traces before trace (points update)
+after_all_trace func_index None inputs earlier traces before trace = trace
+after_all_trace func_index (Some update) inputs earlier traces before trace = after_trace func_index update inputs earlier traces before trace (points update)
 
--- what the pixels read that stand after so many whole updates
+-- what the pixels read that stand after this many whole updates
 unfoldable pub stage_trace : ℕ → Func → Planes → Planes → Trace → ℕ → ℕ → ℕ → List Point
-stage_trace own func inputs earlier traces zero x y = traced traces (points_read (reads_of inputs earlier) (at_point x y) func.pure)
-stage_trace own func inputs earlier traces (suc updates) x y =
-    after_all_trace own (slice_get func.updates updates) inputs earlier traces (stage own func inputs earlier updates) (stage_trace own func inputs earlier
+stage_trace func_index func inputs earlier traces zero x y = traced traces (points_read (reads_of inputs earlier) (at_point x y) func.pure)
+stage_trace func_index func inputs earlier traces (suc updates) x y =
+    after_all_trace func_index (slice_get func.updates updates) inputs earlier traces (stage func_index func inputs earlier updates) (stage_trace func_index func inputs earlier
     traces updates) x y
 
 -- what the pixels read that stand after all updates; nothing where there is no Func
 abbrev pub func_trace : ℕ → Option Func → Planes → Planes → Trace → ℕ → ℕ → List Point
-func_trace own None inputs earlier traces x y = []
-func_trace own (Some func) inputs earlier traces x y = stage_trace own func inputs earlier traces (length func.updates) x y
+func_trace func_index None inputs earlier traces x y = []
+func_trace func_index (Some func) inputs earlier traces x y = stage_trace func_index func inputs earlier traces (length func.updates) x y
 
--- what the pixels of the first so many Funcs read, with all that these read in turn
+-- what the pixels of the first this many Funcs read, with all that these read in turn
 unfoldable pub pixel_trace : List Func → Planes → ℕ → Trace
 pixel_trace funcs inputs zero = untraced
 pixel_trace funcs inputs (suc count) =
     with_trace count (func_trace count (slice_get funcs count) inputs (pixels funcs inputs count) (pixel_trace funcs inputs count)) (pixel_trace funcs inputs
     count)
 
--- what a pixel of the Func at a place reads itself, also where it stood after fewer updates
+-- what a pixel of the Func at a place reads itself, also where it was after fewer updates
 abbrev pub direct_trace : List Func → Planes → Trace
 direct_trace funcs inputs place = func_trace place (slice_get funcs place) inputs (pixels funcs inputs place) untraced
 
@@ -157,45 +157,48 @@ abbrev pub ValuesDependOnReads : Type 0
 ValuesDependOnReads = (reads other : Reads) (environment : Environment) (e : Expr)
     → Agree reads other (points_read reads environment e) → value other environment e ≡ value reads environment e
 
--- so does what stands after so many updates, wherever the pixels of earlier Funcs come from
+-- so does what is after this many updates, wherever the pixels of earlier Funcs come from
 abbrev pub StagesDependOnReads : Type 0
-StagesDependOnReads = (own : ℕ) (func : Func) (inputs earlier others found : Planes) (traces : Trace) (updates x y : ℕ)
-    → Agree (reads_of inputs earlier) (reads_of others found) (stage_trace own func inputs earlier traces updates x y)
-    → stage own func others found updates x y ≡ stage own func inputs earlier updates x y
+StagesDependOnReads = (func_index : ℕ) (func : Func) (inputs earlier others planes : Planes) (traces : Trace)
+    (updates x y : ℕ)
+    → Agree (reads_of inputs earlier) (reads_of others planes)
+    (stage_trace func_index func inputs earlier traces updates x y)
+    → stage func_index func others planes updates x y ≡ stage func_index func inputs earlier updates x y
 
 -- and a pixel depends on what is read of inputs alone
 abbrev pub PixelsDependOnInputs : Type 0
-PixelsDependOnInputs = (funcs : List Func) (inputs others : Planes) (count place x y : ℕ)
-    → InputsAgree inputs others (pixel_trace funcs inputs count place x y) → pixels funcs others count place x y ≡ pixels funcs inputs count place x y
+PixelsDependOnInputs = (funcs : List Func) (inputs others : Planes) (count func_index x y : ℕ)
+    → InputsAgree inputs others (pixel_trace funcs inputs count func_index x y) → pixels funcs others count func_index x y ≡ pixels funcs inputs count func_index x y
 
 -- Points among which are those that each pixel of them reads itself have all that is read in turn.
 abbrev pub Hold : (Point → Bool) → List Point → Type 0
 Hold test points = AllByRecursion (λ point. test point ≡ true) points
 
 abbrev pub IsClosed : List Func → Planes → (Point → Bool) → Type 0
-IsClosed funcs inputs test = (place x y : ℕ) → test (record { source = sources.Func place; x = x; y = y }) ≡ true
-    → Hold test (direct_trace funcs inputs place x y)
+IsClosed funcs inputs test = (func_index x y : ℕ) → test (record { source = sources.Func func_index; x = x; y = y }) ≡
+    true
+    → Hold test (direct_trace funcs inputs func_index x y)
 
 abbrev pub ClosedPointsHoldReads : Type 0
-ClosedPointsHoldReads = (funcs : List Func) (inputs : Planes) (test : Point → Bool) → IsClosed funcs inputs test → (count place x y : ℕ)
-    → test (record { source = sources.Func place; x = x; y = y }) ≡ true → Hold test (pixel_trace funcs inputs count place x y)
+ClosedPointsHoldReads = (funcs : List Func) (inputs : Planes) (test : Point → Bool) → IsClosed funcs inputs test → (count func_index x y : ℕ)
+    → test (record { source = sources.Func func_index; x = x; y = y }) ≡ true → Hold test (pixel_trace funcs inputs count func_index x y)
 
 -- Each definition of the Func at this place reads points that pass, where the point passes that it is made for: the pure
 -- definition, the left sides of updates at each point of their reduction boxes, and their right sides where the left
 -- side is the point.
-pub record ReadsHold (test : Point → Bool) (place : ℕ) (func : Func) (inputs earlier : Planes) : Type 0 where
-  pub pure : (x y : ℕ) → test (record { source = sources.Func place; x = x; y = y }) ≡ true
+pub record ReadsHold (test : Point → Bool) (func_index : ℕ) (func : Func) (inputs earlier : Planes) : Type 0 where
+  pub pure : (x y : ℕ) → test (record { source = sources.Func func_index; x = x; y = y }) ≡ true
       → Hold test (points_read (reads_of inputs earlier) (at_point x y) func.pure)
   pub left : (at : ℕ) (update : Update) → slice_get func.updates at ≡ Some update → (number x y : ℕ) → number < points update
-      → test (record { source = sources.Func place; x = x; y = y }) ≡ true
+      → test (record { source = sources.Func func_index; x = x; y = y }) ≡ true
       → Hold test (left_points (reads_of inputs earlier) (at_reduction update number x y) update)
   pub right : (at : ℕ) (update : Update) → slice_get func.updates at ≡ Some update → (number x y : ℕ) → number < points update
-      → test (record { source = sources.Func place; x = x; y = y }) ≡ true → is_hit (reads_of inputs earlier) update (at_reduction update number x y) ≡ true
-      → Hold test (points_read (reads_of inputs (with_plane place (after place update inputs earlier (stage place func inputs earlier at) number) earlier))
+      → test (record { source = sources.Func func_index; x = x; y = y }) ≡ true → is_hit (reads_of inputs earlier) update (at_reduction update number x y) ≡ true
+      → Hold test (points_read (reads_of inputs (with_plane func_index (after func_index update inputs earlier (stage func_index func inputs earlier at) number) earlier))
       (at_reduction update number x y) update.right)
 
 -- Then all that its pixels read themselves passes.
 abbrev pub DefinitionsHoldReads : Type 0
-DefinitionsHoldReads = (test : Point → Bool) (funcs : List Func) (inputs : Planes) (place : ℕ) (func : Func) → slice_get funcs place ≡ Some func
-    → ReadsHold test place func inputs (pixels funcs inputs place) → (x y : ℕ) → test (record { source = sources.Func place; x = x; y = y }) ≡ true
-    → Hold test (direct_trace funcs inputs place x y)
+DefinitionsHoldReads = (test : Point → Bool) (funcs : List Func) (inputs : Planes) (func_index : ℕ) (func : Func) → slice_get funcs func_index ≡ Some func
+    → ReadsHold test func_index func inputs (pixels funcs inputs func_index) → (x y : ℕ) → test (record { source = sources.Func func_index; x = x; y = y }) ≡ true
+    → Hold test (direct_trace funcs inputs func_index x y)

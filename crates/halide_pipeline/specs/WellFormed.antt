@@ -43,7 +43,7 @@ dimensions f = count_arguments f.second_argument
 abbrev pub most_extent : ℕ
 most_extent = 65536
 
--- and has at most so many points
+-- and has at most this many points
 abbrev pub most_points : ℕ
 most_points = 1048576
 
@@ -67,7 +67,7 @@ is_output output = is_width output.width && is_height output.width output.height
 
 -- ---- names
 
--- a name has at most so many bytes
+-- a name has at most this many bytes
 abbrev pub most_name : ℕ
 most_name = 32
 
@@ -109,7 +109,7 @@ abbrev pub is_func_of : Option Func → ℕ → Bool
 is_func_of None count = false
 is_func_of (Some func) count = dimensions func == count
 
--- The source has so many dimensions, and is an input or one of the first so many Funcs.
+-- The source has this many dimensions, and is an input or one of the first this many Funcs.
 abbrev pub is_read : List Input → List Func → ℕ → Source → ℕ → Bool
 is_read inputs funcs below (sources.Input place) count = is_input_of (slice_get inputs place) count
 is_read inputs funcs below (sources.Func place) count = nat_lt place below && is_func_of (slice_get funcs place) count
@@ -123,11 +123,11 @@ is_source inputs funcs (sources.Func place) = is_some (slice_get funcs place)
 abbrev pub most_number : ℕ
 most_number = 0x7fffffff
 
--- an expression has at most so many nodes
+-- an expression has at most this many nodes
 abbrev pub most_nodes : ℕ
 most_nodes = 512
 
--- and at most so many brackets and signs around one place
+-- and at most this many brackets and signs around one place
 abbrev pub most_brackets : ℕ
 most_brackets = 64
 
@@ -160,7 +160,7 @@ keeps_at reads has (layer.Call2 s a b) = (a && b) && reads s 2
 unfoldable pub keeps : (Source → ℕ → Bool) → (Variable → Bool) → Expr → Bool
 keeps reads has e = fold-Expr Bool (keeps_at reads has) e
 
--- the variables of a pure definition of so many dimensions
+-- the variables of a pure definition of this many dimensions
 abbrev pub is_argument : ℕ → Variable → Bool
 is_argument count variables.FirstArgument = true
 is_argument count variables.SecondArgument = count == 2
@@ -182,8 +182,8 @@ is_alone v None = false
 is_alone v (Some own) = same_variable own v
 
 abbrev pub is_own_call : ℕ → Source → Bool
-is_own_call place (sources.Input other) = false
-is_own_call place (sources.Func other) = place == other
+is_own_call func_index (sources.Input other) = false
+is_own_call func_index (sources.Func other) = func_index == other
 
 -- what is known of a part of an expression: whether its calls of the Func at this place keep the arguments in their positions, and the
 -- variable that it is alone
@@ -198,21 +198,21 @@ placed stays = record { stays = stays; alone = None }
 -- One level of an expression. In a call of the own Func the first index is the first argument alone, where that is to stay, and so the
 -- second.
 abbrev pub placed_at : ℕ → Bool → Bool → Expr-F Placed → Placed
-placed_at place first second (layer.Number n) = placed true
-placed_at place first second (layer.Variable v) = record { stays = true; alone = Some v }
-placed_at place first second (layer.Binary op a b) = placed (a.stays && b.stays)
-placed_at place first second (layer.Divide a c) = placed a.stays
-placed_at place first second (layer.Remainder a c) = placed a.stays
-placed_at place first second (layer.Select c a b) = placed (c.stays && (a.stays && b.stays))
-placed_at place first second (layer.Call1 s a) =
-    placed (a.stays && (not (is_own_call place s) || (not first || is_alone variables.FirstArgument a.alone)))
-placed_at place first second (layer.Call2 s a b) =
-    placed ((a.stays && b.stays) && (not (is_own_call place s) || ((not first || is_alone variables.FirstArgument a.alone)
+placed_at func_index first second (layer.Number n) = placed true
+placed_at func_index first second (layer.Variable v) = record { stays = true; alone = Some v }
+placed_at func_index first second (layer.Binary op a b) = placed (a.stays && b.stays)
+placed_at func_index first second (layer.Divide a c) = placed a.stays
+placed_at func_index first second (layer.Remainder a c) = placed a.stays
+placed_at func_index first second (layer.Select c a b) = placed (c.stays && (a.stays && b.stays))
+placed_at func_index first second (layer.Call1 s a) =
+    placed (a.stays && (not (is_own_call func_index s) || (not first || is_alone variables.FirstArgument a.alone)))
+placed_at func_index first second (layer.Call2 s a b) =
+    placed ((a.stays && b.stays) && (not (is_own_call func_index s) || ((not first || is_alone variables.FirstArgument a.alone)
     && (not second || is_alone variables.SecondArgument b.alone))))
 
 -- all levels
 unfoldable pub calls_in_place : ℕ → Bool → Bool → Expr → Placed
-calls_in_place place first second e = fold-Expr Placed (placed_at place first second) e
+calls_in_place func_index first second e = fold-Expr Placed (placed_at func_index first second) e
 
 abbrev pub is_used_in : Variable → Option Expr → Bool
 is_used_in v None = false
@@ -244,15 +244,16 @@ abbrev pub keeps_index : (Source → ℕ → Bool) → (Variable → Bool) → �
 keeps_index reads has count None = count == 1
 keeps_index reads has count (Some index) = count == 2 && keeps reads has index
 
--- An update of the Func at this place, of so many dimensions. Only its right side may call its own Func.
-pub record IsUpdate (inputs : List Input) (funcs : List Func) (place count : ℕ) (update : Update) : Type 0 where
-  pub left_x : IsTrue (keeps (is_read inputs funcs place) (is_update_variable count update.second) update.left_x)
-  pub left_y : IsTrue (keeps_index (is_read inputs funcs place) (is_update_variable count update.second) count update.left_y)
-  pub right : IsTrue (keeps (is_read inputs funcs (suc place)) (is_update_variable count update.second) update.right)
-  -- an argument that doesn't stand in place on the left isn't used at all, and one that does stands so in each call of the own Func
+-- An update of the Func at this place, of this many dimensions. Only its right side may call its own Func.
+pub record IsUpdate (inputs : List Input) (funcs : List Func) (func_index count : ℕ) (update : Update) : Type 0 where
+  pub left_x : IsTrue (keeps (is_read inputs funcs func_index) (is_update_variable count update.second) update.left_x)
+  pub left_y : IsTrue (keeps_index (is_read inputs funcs func_index) (is_update_variable count update.second) count update.left_y)
+  pub right : IsTrue (keeps (is_read inputs funcs (suc func_index)) (is_update_variable count update.second)
+      update.right)
+  -- an argument that doesn't stand in place on the left isn't used at all, and one that does is so in each call of the own Func
   pub first_argument : IsTrue (is_first_in_place update || not (is_used variables.FirstArgument update))
   pub second_argument : IsTrue (is_second_in_place update || not (is_used variables.SecondArgument update))
-  pub own_calls : IsTrue (calls_in_place place (is_first_in_place update) (is_second_in_place update) update.right).stays
+  pub own_calls : IsTrue (calls_in_place func_index (is_first_in_place update) (is_second_in_place update) update.right).stays
   pub left_x_sized : IsTrue (is_sized update.left_x)
   pub left_y_sized : IsTrue (is_second_sized update.left_y)
   pub right_sized : IsTrue (is_sized update.right)
@@ -261,12 +262,12 @@ pub record IsUpdate (inputs : List Input) (funcs : List Func) (place count : ℕ
   pub box : IsTrue (is_box update)
 
 -- The Func at this place. It calls inputs and the Funcs before it.
-pub record IsFunc (inputs : List Input) (funcs : List Func) (place : ℕ) (func : Func) : Type 0 where
-  pub pure : IsTrue (keeps (is_read inputs funcs place) (is_argument (dimensions func)) func.pure)
+pub record IsFunc (inputs : List Input) (funcs : List Func) (func_index : ℕ) (func : Func) : Type 0 where
+  pub pure : IsTrue (keeps (is_read inputs funcs func_index) (is_argument (dimensions func)) func.pure)
   pub pure_sized : IsTrue (is_sized func.pure)
   pub arguments : IsTrue (are_arguments func.first_argument func.second_argument)
   pub few_updates : IsTrue (nat_le (length func.updates) 4)
-  pub updates : (at : ℕ) (update : Update) → slice_get func.updates at ≡ Some update → IsUpdate inputs funcs place (dimensions func) update
+  pub updates : (at : ℕ) (update : Update) → slice_get func.updates at ≡ Some update → IsUpdate inputs funcs func_index (dimensions func) update
   pub reductions : (at : ℕ) (update : Update) → slice_get func.updates at ≡ Some update
       → IsTrue (are_reductions func.first_argument func.second_argument update)
 
@@ -275,8 +276,9 @@ pub record IsFunc (inputs : List Input) (funcs : List Func) (place : ℕ) (func 
 pub record IsWellFormed (pipeline : Pipeline) : Type 0 where
   pub few_inputs : IsTrue (nat_le (length pipeline.inputs) 4)
   pub few_funcs : IsTrue (nat_le (length pipeline.funcs) 12)
-  pub inputs : (place : ℕ) (input : Input) → slice_get pipeline.inputs place ≡ Some input → IsTrue (is_input input)
-  pub funcs : (place : ℕ) (func : Func) → slice_get pipeline.funcs place ≡ Some func → IsFunc pipeline.inputs pipeline.funcs place func
+  pub inputs : (func_index : ℕ) (input : Input) → slice_get pipeline.inputs func_index ≡ Some input
+      → IsTrue (is_input input)
+  pub funcs : (func_index : ℕ) (func : Func) → slice_get pipeline.funcs func_index ≡ Some func → IsFunc pipeline.inputs pipeline.funcs func_index func
   -- names are short, and each stands for an input or a Func that is there
   pub short_names : IsTrue (are_names pipeline.names)
   pub names : (name : List ℕ) (source : Source) → lookup name pipeline.names ≡ Some source → IsTrue (is_source pipeline.inputs pipeline.funcs source)

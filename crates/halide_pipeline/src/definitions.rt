@@ -9,7 +9,7 @@ use sqlite_items::Items;
 /// A picture, and the box of a reduction, are at most so wide and so high.
 pub const MOST_EXTENT: u32 = 65_536;
 
-/// And they have at most so many points.
+/// And they have at most this many points.
 pub const MOST_POINTS: u64 = 1_048_576;
 
 /// A reduction variable and its values: `extent` of them, one after the other from `minimum`.
@@ -23,7 +23,6 @@ pub struct Reduction {
     pub extent: u32,
 }
 
-/// Written out, so that a check sees a call wherever one is dropped, and not the drops of its parts.
 impl Drop for Reduction {
     fn drop(self) {
         let Reduction {
@@ -48,7 +47,6 @@ pub struct Update {
     pub second: Option<Reduction>,
 }
 
-/// Written out, so that a check sees a call wherever one is dropped, and not the drops of its parts.
 impl Drop for Update {
     fn drop(self) {
         let Update {
@@ -67,7 +65,7 @@ impl Drop for Update {
 }
 
 impl Update {
-    /// Whether the first argument stands alone in its own position on the left, so that the update is
+    /// Whether the first argument is alone in its own position on the left, so that the update is
     /// made for all its values.
     pub fn is_first_in_place(&self) -> bool
         ensures { result ≡ spec.is_first_in_place self.now }
@@ -98,7 +96,6 @@ pub struct Func {
     pub updates: Items<Update>,
 }
 
-/// Written out, so that a check sees a call wherever one is dropped, and not the drops of its parts.
 impl Drop for Func {
     fn drop(self) {
         let Func {

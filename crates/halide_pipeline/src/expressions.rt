@@ -84,7 +84,6 @@ pub enum Expr {
     Call2(Source, Boxed<Expr>, Boxed<Expr>),
 }
 
-/// Written out, so that a check sees a call wherever one is dropped, and not the drops of its parts.
 impl Drop for Expr {
     fn drop(self) {
         match self {
@@ -122,7 +121,7 @@ impl Expr {
         }
     }
 
-    /// Whether the variable stands anywhere in the expression.
+    /// Whether the variable occurs anywhere in the expression.
     #[tactic(auto, unfolding(crate::specs::Expressions::uses))]
     pub fn uses(&self, variable: Variable) -> bool
         ensures { result ≡ uses variable self.now }

@@ -23,7 +23,6 @@ impl Model for Names {
     ghost view = { λ n. pairs_of n.sources.entries };
 }
 
-/// Written out, so that a check sees a call wherever one is dropped, and not the drops of its parts.
 impl Drop for Names {
     fn drop(self) {
         let Names { sources } = self;

@@ -41,7 +41,6 @@ impl Model for Pipeline {
     }) };
 }
 
-/// Written out, so that a check sees a call wherever one is dropped, and not the drops of its parts.
 impl Drop for Pipeline {
     fn drop(self) {
         let Pipeline {
@@ -96,17 +95,17 @@ impl Pipeline {
     }
 
     /// The input at a place.
-    pub fn input(&self, place: usize) -> Option<&Input>
-        ensures { option_copied result ≡ slice_get self.now.inputs place }
+    pub fn input(&self, index: usize) -> Option<&Input>
+        ensures { option_copied result ≡ slice_get self.now.inputs index }
     {
-        self.inputs.get(place)
+        self.inputs.get(index)
     }
 
     /// The Func at a place.
-    pub fn func(&self, place: usize) -> Option<&Func>
-        ensures { option_copied result ≡ slice_get self.now.funcs place }
+    pub fn func(&self, func_index: usize) -> Option<&Func>
+        ensures { option_copied result ≡ slice_get self.now.funcs func_index }
     {
-        self.funcs.get(place)
+        self.funcs.get(func_index)
     }
 
     /// The input or Func with this name.

@@ -107,7 +107,7 @@ length-put memory (place ∷ places) (byte ∷ bytes) = length-put (put_byte mem
 pub length-stored : (memory memory' : List ℕ) (size : Size) (a n : ℕ) → memory' ≡ put_number memory size a n → length memory' ≡ length memory
 length-stored memory memory' size a n e = ap length e ∙ length-put memory (places_of (access_at size a)) (bytes_of size n)
 
--- so many elements that are stored from an element and an address on
+-- this many elements that are stored from an element and an address on
 abbrev pub others-put : ElementWidth → (ℕ → ℕ) → List ℕ → ℕ → ℕ → ℕ → List ℕ
 others-put w f memory i a n = put memory (touched (accesses_at w (addresses_from w a n))) (spread (accesses_at w (addresses_from w a n))
     (map f (range_with_len i n)))

@@ -199,7 +199,7 @@ held_all state whole vs2 low placed index l =
 pub part_inside : (state : Vectors) → IsWhole state → (v part : ℕ) → v < 32 → v % group state ≡ 0 → part < group state → v + part < 32
 part_inside state whole v part low placed few = place_inside state whole.configured v part low placed few
 
--- a loop has written so many registers, and one more
+-- a loop has written this many registers, and one more
 pub words-written : (v : ℕ) (h0 h1 h2 : HartState) (part : ℕ) (words : List ℕ) → length words ≡ 16 → part < 4
     → h1 ≡ with_vectors h0 (filled_from 0 (vectors_of h0) 32 v (replicate (4 * part) true) words)
     → h2 ≡ with_vectors h1 (with_element_from (with_element_from (with_element_from (with_element_from (vectors_of h1) 32 v (4 * part) (slice_index words (4 * part)))

@@ -89,7 +89,7 @@ applied memory e = record { hart = e.hart; memory = put memory e.places e.bytes;
 abbrev pub step : List ℕ → List ℕ → HartState → Step
 step text memory hart = applied memory (effect text memory hart)
 
--- one turn of a hart that stands in text, at a word of this meaning
+-- one turn of a hart that is in text, at a word of this meaning
 abbrev pub step_with : List ℕ → List ℕ → HartState → Option Insn → Step
 step_with text memory hart insn =
     applied memory (made text memory hart (if_running hart.status (meant (length text) (length memory) hart insn)))

@@ -17,7 +17,7 @@ use rv_encoding::decode;
 use rv_insn::{Imm12, Insn, LoadOp, Outcome, Reg, StoreOp, Trap, VectorInsn};
 
 impl Hart {
-    /// One turn of the hart: the instruction that stands at the program counter, or nothing where the
+    /// One turn of the hart: the instruction that is at the program counter, or nothing where the
     /// hart has finished or trapped. A trap changes nothing but the hart's status.
     #[inline(never)]
     pub fn step<M: Bytes>(&mut self, memory: &mut M) -> Outcome

@@ -20,7 +20,7 @@ pub enum Status {
     Running,
     /// It has executed ECALL.
     Finished,
-    /// An instruction trapped, and stands at the program counter for good.
+    /// An instruction trapped, and is at the program counter for good.
     Trapped(Trap),
 }
 

@@ -144,7 +144,7 @@ impl Hart {
         self.load_one(memory, width, vd, fourth, index + 3);
     }
 
-    /// Loads so many times four elements, in the same way.
+    /// Loads this many times four elements, in the same way.
     fn load_piece<M: Bytes>(
         &mut self,
         memory: &M,
@@ -248,7 +248,7 @@ fn store_quad<M: Bytes>(
     store_one(memory, state, width, vs3, fourth, index + 3);
 }
 
-/// Stores so many times four elements, in the same way.
+/// Stores this many times four elements, in the same way.
 fn store_piece<M: Bytes>(
     memory: &mut M,
     state: &VectorState,

@@ -238,7 +238,7 @@ impl Hart {
     }
 }
 
-/// So many bytes from a program counter, modulo 2^32.
+/// This many bytes from a program counter, modulo 2^32.
 pub(crate) fn target(pc: u32, offset: i32) -> u32
     ensures { result ≡ plus pc offset }
 {

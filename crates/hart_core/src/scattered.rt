@@ -123,8 +123,8 @@ impl Hart {
         Ok(())
     }
 
-    /// Loads a whole group of words that lie so many bytes apart as `rs2` says, or says which trap the first that can't
-    /// be loaded makes.
+    /// Loads a whole group of words that lie this many bytes apart as `rs2` says, or says which trap the first that
+    /// can't be loaded makes.
     #[inline(never)]
     pub(crate) fn load_strided<M: Bytes>(
         &mut self,

@@ -20,7 +20,7 @@ pub enum Failure {
     Engine(Fault),
 }
 
-/// A fault's line in which each control character stands as its number, so that a path neither commands a terminal nor
+/// A fault's line in which each control character is as its number, so that a path neither commands a terminal nor
 /// makes a second line.
 #[derive(Drop)]
 struct Escaped<'a>(&'a Fault);

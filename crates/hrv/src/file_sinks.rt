@@ -16,9 +16,9 @@ use std::{fs, io};
 
 /// A file to be written. It is made at its first write, so that where nothing is written no file is made or touched.
 ///
-/// The bytes go into a new file in the folder of the path, which takes the place of what stands there once all of them
+/// The bytes go into a new file in the folder of the path, which takes the place of what is there once all of them
 /// are on the disk: a write that fails leaves everything as it was. What is no regular file, as a terminal, a pipe or a
-/// symbolic link, is written where it stands; and so is a file where its folder takes no new one, or memory for a new
+/// symbolic link, is written where it is; and so is a file where its folder takes no new one, or memory for a new
 /// one's path is wanting.
 #[derive(Drop)]
 pub struct FileSink<'a, R: Files> {
@@ -26,7 +26,7 @@ pub struct FileSink<'a, R: Files> {
     alloc: Global,
     path: &'a str,
     file: Option<R::File>,
-    // The path of the new file, until it stands at the path that was asked for.
+    // The path of the new file, until it is at the path that was asked for.
     draft: Option<String>,
     failures: u64,
 }
@@ -82,7 +82,7 @@ impl<'a, R: Files> FileSink<'a, R> {
         Ok(count)
     }
 
-    /// Has the disk take what was written, and puts the new file in the place of what stands at the path, if there is a
+    /// Has the disk take what was written, and puts the new file in the place of what is at the path, if there is a
     /// new file.
     fn try_finish(&mut self) -> io::Result<()>
         ensures path { self.new.path.now ≡ self.old.path.now }
@@ -116,7 +116,7 @@ impl<'a, R: Files> FileSink<'a, R> {
     }
 }
 
-/// What stands at a path.
+/// What is at a path.
 #[derive(Drop)]
 enum PathEntry {
     /// Nothing.
@@ -127,7 +127,7 @@ enum PathEntry {
     Other,
 }
 
-/// What stands at a path. A regular file that may not be written is an error.
+/// What is at a path. A regular file that may not be written is an error.
 fn what_stands<R: Files>(rt: &R, path: &str) -> io::Result<PathEntry> {
     let metadata = match fs::symlink_metadata(rt, path) {
         Ok(metadata) => metadata,
@@ -141,7 +141,7 @@ fn what_stands<R: Files>(rt: &R, path: &str) -> io::Result<PathEntry> {
     Ok(PathEntry::File(metadata.permissions()))
 }
 
-/// Opens what stands at a path and writes some bytes, and says how many. What it held before stays until bytes stand in
+/// Opens what is at a path and writes some bytes, and says how many. What it held before stays until bytes stand in
 /// its place, so that a first write that fails leaves it as it was.
 fn begin_in_place<R: Files>(rt: &R, path: &str, bytes: &[u8]) -> io::Result<(R::File, usize)>
     ensures { IfOk result (λ begun. begun.1 ≤ length bytes.now) }
@@ -166,7 +166,7 @@ fn write_within<R: Files, F: Write + OpenFile + Seek>(
     file.write(bytes)
 }
 
-/// Cuts off what a file holds after so many bytes. What is no regular file, as a terminal or a pipe, has no length.
+/// Cuts off what a file holds after this many bytes. What is no regular file, as a terminal or a pipe, has no length.
 fn cut<F: OpenFile>(file: &F, length: u64) -> io::Result<()> {
     if file.metadata()?.is_file() {
         file.set_len(length)?;
@@ -182,7 +182,7 @@ fn sync<F: OpenFile>(file: &F) -> io::Result<()> {
     Ok(())
 }
 
-/// Puts a new file in the place of what stands at a path. A file that is a mount of its own can't be replaced: it takes
+/// Puts a new file in the place of what is at a path. A file that is a mount of its own can't be replaced: it takes
 /// the bytes of the new one, which then goes.
 fn replace<R: Files>(rt: &R, draft: &str, path: &str) -> io::Result<()> {
     match fs::rename(rt, draft, path) {
@@ -249,7 +249,7 @@ fn new_beside<R: Files>(
     Err(io::Error::from(io::ErrorKind::AlreadyExists))
 }
 
-/// The rights of a file where none stood, before the system takes some away.
+/// The rights of a file where none was, before the system takes some away.
 const NEW_FILE: u32 = 0o666;
 
 /// Whether an error says that nothing new may be made in a folder.

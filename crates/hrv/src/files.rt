@@ -235,7 +235,7 @@ impl<'a, R: Files + Print> Sink for StandardOutput<'a, R> {
         count
     }
 
-    /// What standard output took stands where it is.
+    /// What standard output took is where it is.
     fn finish(&mut self) -> io::Result<()> {
         Ok(())
     }

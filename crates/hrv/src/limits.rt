@@ -17,7 +17,7 @@ const LIMITS: &str = "/proc/self/limits";
 
 const FILE_SIZE: &str = "Max file size";
 
-/// How the line begins on where a stream stands.
+/// How the line begins on where a stream is.
 const POSITION: &str = "pos:";
 
 /// As many bytes of these files are read at most: the lines that are looked for stand among them.
@@ -33,7 +33,7 @@ pub enum Stream {
 }
 
 impl Stream {
-    /// The path of what stands there.
+    /// The path of what is there.
     fn path(self) -> &'static str {
         match self {
             Stream::Output => "/proc/self/fd/1",
@@ -50,7 +50,7 @@ impl Stream {
     }
 }
 
-/// Lets a file take so many bytes at its position.
+/// Lets a file take this many bytes at its position.
 ///
 /// # Errors
 ///
@@ -62,7 +62,7 @@ pub fn admit<R: Files, F: OpenFile + Seek>(rt: &R, file: &mut F, count: u64) -> 
     }
 }
 
-/// Lets a standard stream take so many bytes. Those of a regular file are taken to stand after all that it has, as
+/// Lets a standard stream take this many bytes. Those of a regular file are taken to stand after all that it has, as
 /// they do where the stream appends.
 ///
 /// # Errors
@@ -111,7 +111,7 @@ fn front<'a, R: Files>(rt: &R, path: &str, bytes: &'a mut [u8; MOST]) -> Option<
     bytes.get(..length)
 }
 
-/// Fails where so many bytes at a position would go past a limit.
+/// Fails where this many bytes at a position would go past a limit.
 fn admit_at(most: u64, position: u64, count: u64) -> io::Result<()>
     ensures { IsOk result ↔ position + count ≤ most }
 {

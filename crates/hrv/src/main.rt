@@ -8,7 +8,7 @@
 //! - [`files`], [`file_sinks`]: the system's files and standard input and output, as devices.
 //! - [`limits`]: the limit on the size of files, asked before each write.
 //! - [`outputs`]: outputs that aren't inputs.
-//! - [`streams`]: what stands where a standard stream is closed.
+//! - [`streams`]: what is where a standard stream is closed.
 //! - [`failures`]: why the program gives no answer, and its exit status.
 #![tactic(auto)]
 

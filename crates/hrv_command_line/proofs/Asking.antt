@@ -31,7 +31,7 @@ bounded none most n (Some text) low high e = go (accepts false (Unsigned 1 most)
         subst (λ m. (1 ≤ m) × (m ≤ most)) (ap (λ o. unwrap_or o n) e) (fits.2, fits.3)
     go false refused e = some_none e
 
--- ---- what a command is asked for stands in the words, and within the limits
+-- ---- what a command is asked for is in the words, and within the limits
 
 abbrev Holds : List Text → Asked → Type 0
 Holds words asked = IsSpelled words asked × IsWithinLimits asked

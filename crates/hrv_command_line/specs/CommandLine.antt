@@ -85,7 +85,7 @@ IsWithinLimits _ = Unit {0}
 
 -- ---- words after a command's name
 
--- a word that is taken as it stands: it begins with no `-` (45), unless that is all of it
+-- a word that is taken as it is: it begins with no `-` (45), unless that is all of it
 abbrev pub is_plain : Text → Bool
 is_plain word = if is_some (strip_byte 45 word) then bytes_eq word (codes "-") else true
 

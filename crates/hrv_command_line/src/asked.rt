@@ -417,7 +417,7 @@ fn refusal_in<'a>(word: &'a str, others: &[&'a str]) -> Option<(&'a str, &'a str
     }
 }
 
-// The family and the code after `refused`: after `file` stands a path, whatever words it is of.
+// The family and the code after `refused`: after `file` is a path, whatever words it is of.
 fn printed_in<'a>(words: &[&'a str]) -> Option<(&'a str, &'a str)>
     ensures { option_map (λ r. (r.0.now, r.1.now)) result ≡ printed_in (texts words.now) }
 {

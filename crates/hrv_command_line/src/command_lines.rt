@@ -33,7 +33,7 @@ pub struct TraceArguments<'a> {
     pub address: Option<&'a str>,
 }
 
-/// How many harts make at most how many turns each, and how turns are drawn: from a seed, so many at once at most.
+/// How many harts make at most how many turns each, and how turns are drawn: from a seed, this many at once at most.
 #[derive(Clone, Copy, Debug)]
 pub struct DrawArguments {
     pub harts: u64,

@@ -106,7 +106,7 @@ pub fn asm_is_named()
 {}
 
 /// Which words name a listing: `dis` and a name, after `--` where it begins with `-`; with addresses where
-/// `--addresses` stands after the name or before it.
+/// `--addresses` is after the name or before it.
 pub fn dis_is_named()
     ensures plain { (image : List ℕ) → IsPlainWord image → named (codes "dis" ∷ image ∷ []) ≡ Some (Lists image) }
     ensures marked { (image : List ℕ) → named (codes "dis" ∷ codes "--" ∷ image ∷ []) ≡ Some (Lists image) }

@@ -215,7 +215,7 @@ fn kind_named(name: &str, choices: &[Choice<'_>]) -> Option<OptionKind>
     }
 }
 
-// Whether a word is taken as it stands.
+// Whether a word is taken as it is.
 fn is_plain(word: &str) -> bool
     ensures { result ≡ spec.is_plain word.now }
 {
@@ -243,7 +243,7 @@ fn long_of(word: &str) -> Option<(&str, Option<&str>)>
     Some(name_and_text(rest))
 }
 
-// What stands before the first `=`, and what stands after it if there is one.
+// What is before the first `=`, and what is after it if there is one.
 fn name_and_text(text: &str) -> (&str, Option<&str>)
     ensures { (result.0.now, option_map (λ s. s.now) result.1) ≡ name_and_value text.now }
 {

@@ -14,7 +14,7 @@ pub enum ValueCount {
     AnyNumber,
 }
 
-/// What stands after the name of an option.
+/// What is after the name of an option.
 #[derive(Clone, Copy)]
 pub enum OptionKind {
     /// Nothing.

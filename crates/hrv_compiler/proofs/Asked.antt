@@ -15,11 +15,11 @@ use Rattle.lowering.proofs.Using.{pictures_answer_words}
 use Rattle.hrv_compiler.specs.Images.{ArePictures}
 use Rattle.hrv_compiler.proofs.Images.{asked_for}
 
-each-is : (pictures : List PictureContents) → ArePictures pictures → (place : ℕ) (picture : PictureContents) → slice_get pictures place ≡ Some picture
+each-is : (pictures : List PictureContents) → ArePictures pictures → (func_index : ℕ) (picture : PictureContents) → slice_get pictures func_index ≡ Some picture
     → IsPicture picture
-each-is [] are place picture e = absurd cc
+each-is [] are func_index picture e = absurd cc
 each-is (first ∷ pictures) are zero picture e = let same : first ≡ picture = cc in rw (sym same) are.0
-each-is (first ∷ pictures) are (suc place) picture e = each-is pictures are.1 place picture e
+each-is (first ∷ pictures) are (suc func_index) picture e = each-is pictures are.1 func_index picture e
 
 all-below : (pixels : List ℕ) → list_all (λ pixel. nat_lt pixel 256) pixels ≡ true → All (λ pixel. pixel < 256) pixels
 all-below [] e i d l = absurd (omega (arith, l))
@@ -32,19 +32,19 @@ where-bytes true test b e = e
 where-bytes false test b e = absurd cc
 
 bytes-held : (inputs : List Input) (pictures : List PictureContents) → hold_bytes inputs pictures ≡ true
-    → (place : ℕ) (input : Input) (picture : PictureContents) → slice_get inputs place ≡ Some input → slice_get pictures place ≡ Some picture
+    → (func_index : ℕ) (input : Input) (picture : PictureContents) → slice_get inputs func_index ≡ Some input → slice_get pictures func_index ≡ Some picture
     → input.is_bytes ≡ true
     → All (λ pixel. pixel < 256) picture.pixels
-bytes-held [] pictures h place input picture e f b = absurd cc
-bytes-held (one ∷ inputs) [] h place input picture e f b = absurd cc
+bytes-held [] pictures h func_index input picture e f b = absurd cc
+bytes-held (one ∷ inputs) [] h func_index input picture e f b = absurd cc
 bytes-held (one ∷ inputs) (first ∷ pictures) h zero input picture e f b =
     let same : one ≡ input = cc in
     let like : first ≡ picture = cc in
     let holds = (and_parts (holds_bytes one first) (hold_bytes inputs pictures) h).0 in
     let kind : one.is_bytes ≡ true = ap (λ (i : Input). i.is_bytes) same ∙ b in
     rw (sym like) (all-below first.pixels (where-bytes one.is_bytes (list_all (λ pixel. nat_lt pixel 256) first.pixels) kind holds))
-bytes-held (one ∷ inputs) (first ∷ pictures) h (suc place) input picture e f b =
-    bytes-held inputs pictures (and_parts (holds_bytes one first) (hold_bytes inputs pictures) h).1 place input picture e f b
+bytes-held (one ∷ inputs) (first ∷ pictures) h (suc func_index) input picture e f b =
+    bytes-held inputs pictures (and_parts (holds_bytes one first) (hold_bytes inputs pictures) h).1 func_index input picture e f b
 
 pub answer-words : (inputs : List Input) (funcs : List Func) (pictures : List PictureContents) → judged inputs pictures ≡ None → ArePictures pictures
     → AnswerWords inputs (reads_of (input_planes pictures) (pixels funcs (input_planes pictures) 0))

@@ -41,7 +41,7 @@ use Rattle.vector_codegen_laws.specs.Points.{address_at}
 use Rattle.vector_codegen_laws.specs.Settings.{places, size}
 use Rattle.vector_codegen_laws.specs.Sharing.{HoldsPixels, AreShared}
 use Rattle.vector_codegen_laws.proofs.Sharing.{phases-are-shared}
-use Rattle.bounds.specs.Stages.{StagePlace, stages}
+use Rattle.bounds.specs.Stages.{StagePosition, stages}
 use Rattle.hrv_compiler.specs.Assigned.{WrittenAs, IsReached, IsAssigned}
 use Rattle.hrv_compiler.specs.Compiled.{CompiledContents}
 use Rattle.hrv_compiler.specs.inner.Held.{IsHeld}
@@ -56,39 +56,42 @@ use Rattle.hrv_compiler.proofs.Opening.{phases_are, opens}
 use Rattle.hrv_compiler.proofs.OutputBox.{RootOutput, root_output}
 use Rattle.hrv_compiler.proofs.Shown.{shows-output}
 
-module _ (own : CompiledContents) (rules : IsHeld own) (pictures : List PictureContents) (none : judged own.pipeline.inputs pictures ≡ None)
+module _ (compiled_contents : CompiledContents) (rules : IsHeld compiled_contents) (pictures : List PictureContents) (none : judged compiled_contents.pipeline.inputs pictures ≡ None)
     (are : ArePictures pictures) where
   abbrev phases : List Phase
   phases = rules.words_are.phases
 
-  counted : own.boxes.layout.phases ≡ length phases
+  counted : compiled_contents.boxes.layout.phases ≡ length phases
   counted =
-      phases_are own rules.compiled pictures none are
-      ∙ phases-counted own.pipeline own.schedule own.boxes rules.compiled.accepted rules.compiled.inferred_is phases rules.words_are.are_lowered
+      phases_are compiled_contents rules.compiled pictures none are
+      ∙ phases-counted compiled_contents.pipeline compiled_contents.schedule compiled_contents.boxes rules.compiled.accepted rules.compiled.inferred_is phases rules.words_are.are_lowered
 
   abbrev pub bytes : List ℕ
-  bytes = image_data own.boxes.layout own.pipeline.inputs pictures
+  bytes = image_data compiled_contents.boxes.layout compiled_contents.pipeline.inputs pictures
 
   abbrev planes : Planes
   planes = input_planes pictures
 
   abbrev there : Places
-  there = places own.pipeline own.schedule own.boxes.funcs
+  there = places compiled_contents.pipeline compiled_contents.schedule compiled_contents.boxes.funcs
 
-  pub places-are : places_of own.pipeline own.schedule own.boxes.funcs own.boxes.layout ≡ there
-  places-are = ap (places_of own.pipeline own.schedule own.boxes.funcs) (layout_is own.pipeline own.schedule own.boxes rules.compiled.inferred_is)
+  pub places-are : places_of compiled_contents.pipeline compiled_contents.schedule compiled_contents.boxes.funcs
+      compiled_contents.boxes.layout ≡ there
+  places-are = ap (places_of compiled_contents.pipeline compiled_contents.schedule compiled_contents.boxes.funcs) (layout_is compiled_contents.pipeline compiled_contents.schedule compiled_contents.boxes rules.compiled.inferred_is)
 
-  answers : AnswerWords own.pipeline.inputs (reads_of planes (pixels own.pipeline.funcs planes 0))
-  answers = answer-words own.pipeline.inputs own.pipeline.funcs pictures none are
+  answers : AnswerWords compiled_contents.pipeline.inputs (reads_of planes
+      (pixels compiled_contents.pipeline.funcs planes 0))
+  answers = answer-words compiled_contents.pipeline.inputs compiled_contents.pipeline.funcs pictures none are
 
-  root : RootOutput own.pipeline own.schedule own.boxes
-  root = root_output own.pipeline own.schedule own.boxes rules.compiled.well_formed rules.compiled.accepted rules.compiled.inferred_is
+  root : RootOutput compiled_contents.pipeline compiled_contents.schedule compiled_contents.boxes
+  root = root_output compiled_contents.pipeline compiled_contents.schedule compiled_contents.boxes rules.compiled.well_formed rules.compiled.accepted rules.compiled.inferred_is
 
   some : 1 ≤ length phases
   some =
-      some_phases own.pipeline own.schedule own.boxes (length own.pipeline.funcs) phases rules.words_are.are_lowered own.pipeline.output.func root.func
+      some_phases compiled_contents.pipeline compiled_contents.schedule compiled_contents.boxes (length compiled_contents.pipeline.funcs) phases rules.words_are.are_lowered compiled_contents.pipeline.output.func root.func
       root.plan root.own
-      (slice_get_within own.pipeline.funcs own.pipeline.output.func root.func root.at_root.func_is) root.at_root
+      (slice_get_within compiled_contents.pipeline.funcs compiled_contents.pipeline.output.func root.func
+      root.at_root.func_is) root.at_root
 
   abbrev pub last : ℕ
   last = length phases - 1
@@ -103,28 +106,30 @@ module _ (own : CompiledContents) (rules : IsHeld own) (pictures : List PictureC
   codes : ArePartsOf there 0 phases parts
   codes = subst (λ (p : Places). ArePartsOf p 0 phases parts) places-are rules.words_are.is_program.are_parts
 
-  stands : Stand own.words text_start (program 0 parts)
-  stands = programs-stand (places_of own.pipeline own.schedule own.boxes.funcs own.boxes.layout) phases own.words rules.words_are.is_program
+  stands : Stand compiled_contents.words text_start (program 0 parts)
+  stands = programs-stand (places_of compiled_contents.pipeline compiled_contents.schedule compiled_contents.boxes.funcs compiled_contents.boxes.layout) phases compiled_contents.words rules.words_are.is_program
 
   abbrev image : ImageContents
-  image = image_of own pictures
+  image = image_of compiled_contents pictures
 
   module _ (harts : ℕ) (some_harts : 0 < harts) (few_harts : harts ≤ 8) where
     abbrev pub IsSharedSo : Type 0
-    IsSharedSo = AreShared own.pipeline own.schedule own.boxes harts parts last own.words bytes planes
+    IsSharedSo = AreShared compiled_contents.pipeline compiled_contents.schedule compiled_contents.boxes harts parts
+        last compiled_contents.words bytes planes
 
     pub shared : IsSharedSo
     shared =
-        phases-are-shared own.pipeline own.schedule own.boxes rules.compiled.well_formed rules.compiled.accepted rules.compiled.inferred_is planes answers
+        phases-are-shared compiled_contents.pipeline compiled_contents.schedule compiled_contents.boxes rules.compiled.well_formed rules.compiled.accepted rules.compiled.inferred_is planes answers
         phases rules.words_are.are_lowered parts codes
-        rules.words_are.is_program.few_tasks harts some_harts few_harts last count own.words bytes stands (opens own rules.compiled pictures none are answers)
+        rules.words_are.is_program.few_tasks harts some_harts few_harts last count compiled_contents.words bytes stands (opens compiled_contents rules.compiled pictures none are answers)
 
     module _ (is : IsSharedSo) where
       abbrev pub steps : ℕ → SharedPhase
-      steps = phase own.words (size own.pipeline own.schedule own.boxes.funcs) harts parts is.matter
+      steps = phase compiled_contents.words (size compiled_contents.pipeline compiled_contents.schedule
+          compiled_contents.boxes.funcs) harts parts is.matter
 
       whole : Program steps last × (Opens (steps 0) text_start bytes × ((k : ℕ) → k ≤ last → TaskWrites (steps k)))
-      whole = programs-share own.words (size own.pipeline own.schedule own.boxes.funcs) harts parts is.matter last bytes is.is_shared
+      whole = programs-share compiled_contents.words (size compiled_contents.pipeline compiled_contents.schedule compiled_contents.boxes.funcs) harts parts is.matter last bytes is.is_shared
 
       pub goes : Program steps last
       goes = whole.0
@@ -132,11 +137,12 @@ module _ (own : CompiledContents) (rules : IsHeld own) (pictures : List PictureC
       pub begins : Opens (steps 0) text_start bytes
       begins = whole.1.0
 
-      none-races : (turns : List ℕ) → Race (control_words own.boxes.layout.phases) (run (opening image harts) turns) → ⊥
+      none-races : (turns : List ℕ) → Race (control_words compiled_contents.boxes.layout.phases)
+          (run (opening image harts) turns) → ⊥
       none-races turns race =
           let all = counted in
           let one = count in
-          let same : own.boxes.layout.phases ≡ suc last = omega (arith, all, one) in
+          let same : compiled_contents.boxes.layout.phases ≡ suc last = omega (arith, all, one) in
           never-races steps last text_start bytes turns goes begins
           (subst (λ (n : ℕ). Race (control_words n) (run (opening image harts) turns)) same race)
 
@@ -144,7 +150,7 @@ module _ (own : CompiledContents) (rules : IsHeld own) (pictures : List PictureC
         abbrev end : State
         end = run (opening image harts) turns
 
-        text-stays : end.text ≡ own.words
+        text-stays : end.text ≡ compiled_contents.words
         text-stays = (shape-run (opening image harts) turns).text
 
         left : ((address task : ℕ) → task < (steps last).tasks → (steps last).uses address ≡ Owned task
@@ -152,28 +158,33 @@ module _ (own : CompiledContents) (rules : IsHeld own) (pictures : List PictureC
             × ((address : ℕ) → (steps last).uses address ≡ Fixed → byte_at end.text end.memory address ≡ (steps last).start address)
         left = one-result steps last text_start bytes turns goes begins finished
 
-        holds : HoldsPixels own.pipeline own.schedule own.boxes end.text end.memory planes
+        holds : HoldsPixels compiled_contents.pipeline compiled_contents.schedule compiled_contents.boxes end.text
+            end.memory planes
         holds =
-            subst (λ (text : List ℕ). HoldsPixels own.pipeline own.schedule own.boxes text end.memory planes) (sym text-stays)
+            subst (λ (text : List ℕ). HoldsPixels compiled_contents.pipeline compiled_contents.schedule compiled_contents.boxes text end.memory planes) (sym text-stays)
             (is.ends end.memory (λ address task l u. ap (λ (text : List ℕ). byte_at text end.memory address) (sym text-stays) ∙ left.0 address task l u)
             (λ address u. ap (λ (text : List ℕ). byte_at text end.memory address) (sym text-stays) ∙ left.1 address u))
 
-        shows : ShowsOutput own.pipeline pictures end image.output
+        shows : ShowsOutput compiled_contents.pipeline pictures end image.output
         shows =
             let extents =
-            and_parts (is_width own.pipeline.output.width)
-            (is_height own.pipeline.output.width own.pipeline.output.height) rules.compiled.well_formed.output in
-            let wide = and_parts (nat_le 1 own.pipeline.output.width) (nat_le own.pipeline.output.width 65536) extents.0 in
-            let all = and_parts (nat_le 1 own.pipeline.output.height && nat_le own.pipeline.output.height 65536)
-            (nat_le (own.pipeline.output.width * own.pipeline.output.height) 1048576) extents.1 in
-            let high = and_parts (nat_le 1 own.pipeline.output.height) (nat_le own.pipeline.output.height 65536) all.0 in
-            shows-output own rules.compiled pictures none are (leb-true own.pipeline.output.width 65536 wide.1)
-            (leb-true own.pipeline.output.height 65536 high.1) end holds
+            and_parts (is_width compiled_contents.pipeline.output.width)
+            (is_height compiled_contents.pipeline.output.width compiled_contents.pipeline.output.height)
+            rules.compiled.well_formed.output in
+            let wide = and_parts (nat_le 1 compiled_contents.pipeline.output.width) (nat_le compiled_contents.pipeline.output.width 65536) extents.0 in
+            let all = and_parts (nat_le 1 compiled_contents.pipeline.output.height && nat_le
+            compiled_contents.pipeline.output.height 65536)
+            (nat_le (compiled_contents.pipeline.output.width * compiled_contents.pipeline.output.height) 1048576)
+            extents.1 in
+            let high = and_parts (nat_le 1 compiled_contents.pipeline.output.height) (nat_le compiled_contents.pipeline.output.height 65536) all.0 in
+            shows-output compiled_contents rules.compiled pictures none are
+            (leb-true compiled_contents.pipeline.output.width 65536 wide.1)
+            (leb-true compiled_contents.pipeline.output.height 65536 high.1) end holds
 
-      last-is : last ≡ own.boxes.layout.phases - 1
+      last-is : last ≡ compiled_contents.boxes.layout.phases - 1
       last-is = let all = counted in omega (arith, all)
 
-      is-correct : IsCorrect own.pipeline pictures own.boxes.layout.phases image harts
+      is-correct : IsCorrect compiled_contents.pipeline pictures compiled_contents.boxes.layout.phases image harts
       is-correct = record {
         never_traps = λ turns. never-traps steps last text_start bytes turns goes begins;
         never_races = none-races;
@@ -195,17 +206,19 @@ module _ (own : CompiledContents) (rules : IsHeld own) (pictures : List PictureC
       -- ---- assignments
 
       module _ (assigned : ℕ → ℕ → ℕ) (below : (number iteration : ℕ) → assigned number iteration < harts) where
-        stage_written : (number : ℕ) (stage : StagePlace) → slice_get (stages own.pipeline own.schedule own.boxes) number ≡ Some stage → (turns : List ℕ)
+        stage_written : (number : ℕ) (stage : StagePosition) → slice_get (stages compiled_contents.pipeline compiled_contents.schedule compiled_contents.boxes) number ≡ Some stage → (turns : List ℕ)
             → SharedWrittenAs (steps number) (assigned number) (opening image harts) turns
-            → WrittenAs own.pipeline own.schedule own.boxes pictures stage (assigned number) (opening image harts) turns
+            → WrittenAs compiled_contents.pipeline compiled_contents.schedule compiled_contents.boxes pictures stage
+            (assigned number) (opening image harts) turns
         stage_written number stage e turns written iteration x y byte l writes small =
             let bytes_own = is.own_bytes number stage e iteration l x y byte writes small in
-            let lying = lies own rules stage.func (is.roots_are number stage e) x y in
+            let lying = lies compiled_contents rules stage.func (is.roots_are number stage e) x y in
             ap (λ (a : ℕ). last_writer (a + byte) None (opening image harts) turns) (sym lying)
-            ∙ written iteration (address_at own.pipeline own.schedule own.boxes.funcs 0 (sources.Func stage.func) x y + byte)
+            ∙ written iteration (address_at compiled_contents.pipeline compiled_contents.schedule compiled_contents.boxes.funcs 0 (sources.Func stage.func) x y + byte)
             (subst (λ (n : ℕ). iteration < n) (sym (is.tasks_are number stage e)) l) bytes_own.0 bytes_own.1
 
-        reached : IsReached own.pipeline own.schedule own.boxes pictures image harts assigned
+        reached : IsReached compiled_contents.pipeline compiled_contents.schedule compiled_contents.boxes pictures image
+            harts assigned
         reached =
             let all = every-assignment steps last text_start bytes assigned goes begins whole.1.1 (λ number task l k. below number task) in
             let long = is.stages_are in
@@ -229,14 +242,16 @@ module _ (own : CompiledContents) (rules : IsHeld own) (pictures : List PictureC
                   (subst (λ (n : ℕ). SharedWrittenAs (steps n) (assigned n) (opening image harts) all.0) here all.4);
             }
 
-  pub is-assigned : IsAssigned own.pipeline own.schedule own.boxes pictures image
+  pub is-assigned : IsAssigned compiled_contents.pipeline compiled_contents.schedule compiled_contents.boxes pictures
+      image
   is-assigned harts some_harts few_harts assigned below = reached harts some_harts few_harts (shared harts some_harts few_harts) assigned below
 
-  pub correct : Correct own.pipeline pictures own.boxes.layout.phases image
+  pub correct : Correct compiled_contents.pipeline pictures compiled_contents.boxes.layout.phases image
   correct harts some_harts few_harts = is-correct harts some_harts few_harts (shared harts some_harts few_harts)
 
   -- each stage is a phase
-  pub stages-counted : length (stages own.pipeline own.schedule own.boxes) ≡ own.boxes.layout.phases
+  pub stages-counted : length (stages compiled_contents.pipeline compiled_contents.schedule compiled_contents.boxes) ≡
+      compiled_contents.boxes.layout.phases
   stages-counted =
       let long = (shared 1 (omega arith) (omega arith)).stages_are in
       omega (arith, long, counted, count)

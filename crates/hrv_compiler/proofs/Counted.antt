@@ -46,14 +46,14 @@ count_at (Some standing) (Some func) (Some own) = phases_of standing.place func 
 abbrev counts : List FuncPlacement → List Func → List (Option SourceBox) → ℕ → ℕ
 counts standings funcs boxes k = count_at (slice_get standings k) (slice_get funcs k) (slice_get boxes k)
 
-no-func : (standing : Option FuncPlacement) (own : Option (Option SourceBox)) → count_at standing None own ≡ 0
+no-func : (placement : Option FuncPlacement) (own : Option (Option SourceBox)) → count_at placement None own ≡ 0
 no-func None own = refl
-no-func (Some standing) own = refl
+no-func (Some placement) own = refl
 
-no-box : (standing : Option FuncPlacement) (func : Option Func) → count_at standing func None ≡ 0
+no-box : (placement : Option FuncPlacement) (func : Option Func) → count_at placement func None ≡ 0
 no-box None func = refl
-no-box (Some standing) None = refl
-no-box (Some standing) (Some func) = refl
+no-box (Some placement) None = refl
+no-box (Some placement) (Some func) = refl
 
 counted-all : (standings : List FuncPlacement) (funcs : List Func) (boxes : List (Option SourceBox)) (n : ℕ) → length funcs ≤ n
     → phases standings funcs boxes ≡ total n (counts standings funcs boxes)
@@ -72,70 +72,70 @@ module _ (pipeline : Pipeline) (schedule : Schedule) (boxes : Boxes) (accepted :
     at_place = counts schedule.standings pipeline.funcs boxes.funcs
 
     -- a Func at root that has a box is reached
-    root-with-box : (place : ℕ) (standing : FuncPlacement) (func : Func) (own : SourceBox) → slice_get schedule.standings place ≡ Some standing
-        → slice_get pipeline.funcs place ≡ Some func
-        → slice_get boxes.funcs place ≡ Some (Some own) → standing.place ≡ places.Root → IsNotAtRoot pipeline schedule boxes place → ⊥
-    root-with-box place standing func own s f b root none =
-        let plan = pair_there IsPlan pipeline.funcs schedule.funcs place func accepted.plans f in
-        let box = has_box pipeline schedule boxes accepted is place own b in
-        let same : box.standing ≡ standing = let p = box.there.standing in cc in
+    root-with-box : (func_index : ℕ) (placement : FuncPlacement) (func : Func) (own : SourceBox) → slice_get schedule.standings func_index ≡ Some placement
+        → slice_get pipeline.funcs func_index ≡ Some func
+        → slice_get boxes.funcs func_index ≡ Some (Some own) → placement.place ≡ places.Root → IsNotAtRoot pipeline schedule boxes func_index → ⊥
+    root-with-box func_index placement func own s f b root none =
+        let plan = pair_there IsPlan pipeline.funcs schedule.funcs func_index func accepted.plans f in
+        let box = has_box pipeline schedule boxes accepted is func_index own b in
+        let same : box.standing ≡ placement = let p = box.there.standing in cc in
         none func plan.value own (record {
           func_is = f;
           plan_is = plan.is;
           box_is = b;
-          standing = standing;
-          there = subst (IsReached schedule.standings place) same box.there;
+          standing = placement;
+          there = subst (IsReached schedule.standings func_index) same box.there;
           placed_is = root;
         })
 
-    passed-by : (place : ℕ) → IsNotAtRoot pipeline schedule boxes place → at_place place ≡ 0
-    passed-by place none = by_all (slice_get schedule.standings place) (slice_get pipeline.funcs place) (slice_get boxes.funcs place) refl refl refl
+    passed-by : (func_index : ℕ) → IsNotAtRoot pipeline schedule boxes func_index → at_place func_index ≡ 0
+    passed-by func_index none = by_all (slice_get schedule.standings func_index) (slice_get pipeline.funcs func_index) (slice_get boxes.funcs func_index) refl refl refl
       where
-        by_box : (standing : FuncPlacement) (func : Func) (own : Option SourceBox) (at : ComputeLevel) → slice_get schedule.standings place ≡ Some standing
-            → slice_get pipeline.funcs place ≡ Some func
-            → slice_get boxes.funcs place ≡ Some own → standing.place ≡ at → phases_of at func own ≡ 0
-        by_box standing func None places.Root s f b p = refl
-        by_box standing func (Some own) places.Root s f b p = absurd (root-with-box place standing func own s f b p none)
-        by_box standing func own places.Inlined s f b p = refl
-        by_box standing func own (places.At at) s f b p = refl
-        by_box standing func own places.Nowhere s f b p = refl
+        by_box : (placement : FuncPlacement) (func : Func) (own : Option SourceBox) (at : ComputeLevel) → slice_get schedule.standings func_index ≡ Some placement
+            → slice_get pipeline.funcs func_index ≡ Some func
+            → slice_get boxes.funcs func_index ≡ Some own → placement.place ≡ at → phases_of at func own ≡ 0
+        by_box placement func None places.Root s f b p = refl
+        by_box placement func (Some own) places.Root s f b p = absurd (root-with-box func_index placement func own s f b p none)
+        by_box placement func own places.Inlined s f b p = refl
+        by_box placement func own (places.At at) s f b p = refl
+        by_box placement func own places.Nowhere s f b p = refl
 
-        by_all : (standing : Option FuncPlacement) (func : Option Func) (own : Option (Option SourceBox)) → slice_get schedule.standings place ≡ standing
-            → slice_get pipeline.funcs place ≡ func
-            → slice_get boxes.funcs place ≡ own → count_at standing func own ≡ 0
+        by_all : (placement : Option FuncPlacement) (func : Option Func) (own : Option (Option SourceBox)) → slice_get schedule.standings func_index ≡ placement
+            → slice_get pipeline.funcs func_index ≡ func
+            → slice_get boxes.funcs func_index ≡ own → count_at placement func own ≡ 0
         by_all None func own s f b = refl
-        by_all (Some standing) None own s f b = refl
-        by_all (Some standing) (Some func) None s f b = refl
-        by_all (Some standing) (Some func) (Some own) s f b = by_box standing func own standing.place s f b refl
+        by_all (Some placement) None own s f b = refl
+        by_all (Some placement) (Some func) None s f b = refl
+        by_all (Some placement) (Some func) (Some own) s f b = by_box placement func own placement.place s f b refl
 
-    stages-long : (place : ℕ) (func : Func) (plan : FuncPlan) (own : SourceBox) (others : List Phase) (number : ℕ) (made : List Phase)
-        → ArePhasesOf pipeline schedule boxes place func plan own others number made → length made ≡ length others + number
-    stages-long place func plan own others _ _ None_yet = omega arith
-    stages-long place func plan own others _ _ (One_more number made phase before one) =
-        let rest = stages-long place func plan own others number made before in
+    stages-long : (func_index : ℕ) (func : Func) (plan : FuncPlan) (own : SourceBox) (others : List Phase) (number : ℕ) (made : List Phase)
+        → ArePhasesOf pipeline schedule boxes func_index func plan own others number made → length made ≡ length others + number
+    stages-long func_index func plan own others _ _ None_yet = omega arith
+    stages-long func_index func plan own others _ _ (One_more number made phase before one) =
+        let rest = stages-long func_index func plan own others number made before in
         let more = length-append made (phase ∷ []) in
         omega (arith, rest, more)
 
-    at-root : (place : ℕ) (func : Func) (plan : FuncPlan) (own : SourceBox) → IsAtRoot pipeline schedule boxes place func plan own
-        → at_place place ≡ length func.updates + 1
-    at-root place func plan own root =
-        ap (λ (s : Option FuncPlacement). count_at s (slice_get pipeline.funcs place) (slice_get boxes.funcs place)) root.there.standing
-        ∙ (ap (λ (f : Option Func). count_at (Some root.standing) f (slice_get boxes.funcs place)) root.func_is
+    at-root : (func_index : ℕ) (func : Func) (plan : FuncPlan) (own : SourceBox) → IsAtRoot pipeline schedule boxes func_index func plan own
+        → at_place func_index ≡ length func.updates + 1
+    at-root func_index func plan own root =
+        ap (λ (s : Option FuncPlacement). count_at s (slice_get pipeline.funcs func_index) (slice_get boxes.funcs func_index)) root.there.standing
+        ∙ (ap (λ (f : Option Func). count_at (Some root.standing) f (slice_get boxes.funcs func_index)) root.func_is
         ∙ (ap (λ (b : Option (Option SourceBox)). count_at (Some root.standing) (Some func) b) root.box_is
         ∙ ap (λ (p : ComputeLevel). phases_of p func (Some own)) root.placed_is))
 
     lowered-long : (count : ℕ) (made : List Phase) → AreLowered pipeline schedule boxes count made → length made ≡ total count at_place
     lowered-long _ _ No_func = refl
-    lowered-long _ made (Passed place _ before none) =
-        let rest = lowered-long place made before in
-        let zero_here = passed-by place none in
-        let next = total-next place at_place in
+    lowered-long _ made (Passed func_index _ before none) =
+        let rest = lowered-long func_index made before in
+        let zero_here = passed-by func_index none in
+        let next = total-next func_index at_place in
         omega (arith, rest, zero_here, next)
-    lowered-long _ made (Computed place before _ func plan own earlier root stages) =
-        let rest = lowered-long place before earlier in
-        let here = at-root place func plan own root in
-        let long = stages-long place func plan own before (suc (length func.updates)) made stages in
-        let next = total-next place at_place in
+    lowered-long _ made (Computed func_index before _ func plan own earlier root stages) =
+        let rest = lowered-long func_index before earlier in
+        let here = at-root func_index func plan own root in
+        let long = stages-long func_index func plan own before (suc (length func.updates)) made stages in
+        let next = total-next func_index at_place in
         omega (arith, rest, here, long, next)
 
     pub phases-counted : (made : List Phase) → AreLowered pipeline schedule boxes (length pipeline.funcs) made

@@ -1,4 +1,4 @@
--- What stands in the data of an image: at each byte what the part that it is of holds there.
+-- What is in the data of an image: at each byte what the part that it is of holds there.
 use Rattle.std.proofs.Common.{◌≡◌, ℕ, zero, suc, ◌+◌, ◌-◌, ◌*◌, ◌/◌, ◌%◌, ◌<◌, ◌≤◌, Bool, true, false, cond, List, [], ◌∷◌, ◌++◌, map, length, replicate}
 use Rattle.std.proofs.Common.{Option, Some, None, refl, sym, ap, ◌∙◌, arith, inl, inr}
 use Rattle.std.specs.Prelude.{◌&&◌, ◌==◌, nat_lt, nat_le, slice_index, slice_get}
@@ -122,8 +122,8 @@ module _ (input : Input) (picture : PictureContents) (rules : IsPicture picture)
           ∙ ap whole pixels_are)
       by_kind false = words-length picture.pixels ∙ ap (λ (k : ℕ). k * 4) pixels_are
 
-  module _ (place : ℕ) (inputs : Planes) (same : (x y : ℕ) → inputs place x y ≡ input_plane (Some picture) x y) (n : ℕ) (l : n < input_bytes input) where
-    of_bytes : slice_index (padded (whole (length picture.pixels)) picture.pixels) n ≡ inputs place (n % input.width) (n / input.width)
+  module _ (func_index : ℕ) (inputs : Planes) (same : (x y : ℕ) → inputs func_index x y ≡ input_plane (Some picture) x y) (n : ℕ) (l : n < input_bytes input) where
+    of_bytes : slice_index (padded (whole (length picture.pixels)) picture.pixels) n ≡ inputs func_index (n % input.width) (n / input.width)
     of_bytes = elim (cases_lt n (length picture.pixels)) [
       | inl b ↦
           before-zeros picture.pixels (whole (length picture.pixels) - length picture.pixels) n b
@@ -135,7 +135,7 @@ module _ (input : Input) (picture : PictureContents) (rules : IsPicture picture)
           ∙ sym (same (n % input.width) (n / input.width))))
     ]
 
-    of_words : n < length picture.pixels * 4 → slice_index (word_bytes picture.pixels) n ≡ byte_of (inputs place (n / 4 % input.width) (n / 4 / input.width))
+    of_words : n < length picture.pixels * 4 → slice_index (word_bytes picture.pixels) n ≡ byte_of (inputs func_index (n / 4 % input.width) (n / 4 / input.width))
         (n % 4)
     of_words b =
         let q : n / 4 < length picture.pixels = omega (arith, b) in
@@ -143,12 +143,12 @@ module _ (input : Input) (picture : PictureContents) (rules : IsPicture picture)
         ∙ ap (λ (p : ℕ). byte_of p (n % 4)) (sym (numbered picture rules (n / 4) q) ∙ (ap (λ (w : ℕ). input_plane (Some picture) (n / 4 % w) (n / 4 / w)) widths
         ∙ sym (same (n / 4 % input.width) (n / 4 / input.width))))
 
-    pub byte-of-input : slice_index (input_data input picture) n ≡ input_byte (Some input) place inputs n
+    pub byte-of-input : slice_index (input_data input picture) n ≡ input_byte (Some input) func_index inputs n
     byte-of-input = by_kind input.is_bytes l
       where
         by_kind : (kind : Bool) → n < cond kind ((input.width * input.height + 3) / 4 * 4) (input.width * input.height * 4)
             → slice_index (cond kind (padded (whole (length picture.pixels)) picture.pixels) (word_bytes picture.pixels)) n
-            ≡ cond kind (inputs place (n % input.width) (n / input.width)) (byte_of (inputs place (n / 4 % input.width) (n / 4 / input.width)) (n % 4))
+            ≡ cond kind (inputs func_index (n % input.width) (n / input.width)) (byte_of (inputs func_index (n / 4 % input.width) (n / 4 / input.width)) (n % 4))
         by_kind true b = of_bytes
         by_kind false b = of_words (omega (arith, b, pixels_are))
 
@@ -159,15 +159,16 @@ abbrev pub found_byte : List Input → Planes → Option Found → ℕ
 found_byte all inputs None = 0
 found_byte all inputs (Some found) = input_byte (slice_get all found.place) found.place inputs found.offset
 
-one_further : (input : Input) (others : List Input) (picture : PictureContents) (pictures : List PictureContents) (found : Option Found)
-    → found_byte (input ∷ others) (input_planes (picture ∷ pictures)) (further found) ≡ found_byte others (input_planes pictures) found
+one_further : (input : Input) (others : List Input) (picture : PictureContents) (pictures : List PictureContents) (found_found : Option Found)
+    → found_byte (input ∷ others) (input_planes (picture ∷ pictures)) (further found_found) ≡ found_byte others (input_planes pictures) found_found
 one_further input others picture pictures None = refl
-one_further input others picture pictures (Some found) = of_place (slice_get others found.place)
+one_further input others picture pictures (Some found_found) = of_place (slice_get others found_found.place)
   where
-    of_place : (own : Option Input) → input_byte own (suc found.place) (input_planes (picture ∷ pictures)) found.offset
-        ≡ input_byte own found.place (input_planes pictures) found.offset
+    of_place : (own_input : Option Input) → input_byte own_input (suc found_found.place)
+        (input_planes (picture ∷ pictures)) found_found.offset
+        ≡ input_byte own_input found_found.place (input_planes pictures) found_found.offset
     of_place None = refl
-    of_place (Some own) = refl
+    of_place (Some own_input) = refl
 
 pub inputs-found : (inputs : List Input) (pictures : List PictureContents) → length pictures ≡ length inputs → are_sizes inputs pictures ≡ true
     → ArePictures pictures

@@ -69,19 +69,20 @@ room size phases inputs pictures none rules fit =
 
 -- ---- the output's picture
 
-picture_lies : (at size : ℕ) (own : SourceBox) (width height : ℕ) → Holds at own width height → at % 4 ≡ 0 → data_start ≤ at
-    → at + 4 * points own ≤ data_start + size → width * height ≤ most_pixels
-    → is_output_or_none size (output_in at (Some own) width height) ≡ true
-picture_lies at size own width height h aligned above within few =
-    let row = extent own.x in
-    let up = origin - own.y.low in
-    let aside = origin - own.x.low in
-    let last : (up + (height - 1)) * row ≤ (extent own.y - 1) * row = mul-le-mul_right row (omega (arith, h.top, h.bottom, h.high)) in
+picture_lies : (at size : ℕ) (source_box : SourceBox) (width height : ℕ) → Holds at source_box width height → at % 4 ≡ 0 → data_start ≤ at
+    → at + 4 * points source_box ≤ data_start + size → width * height ≤ most_pixels
+    → is_output_or_none size (output_in at (Some source_box) width height) ≡ true
+picture_lies at size source_box width height h aligned above within few =
+    let row = extent source_box.x in
+    let up = origin - source_box.y.low in
+    let aside = origin - source_box.x.low in
+    let last : (up + (height - 1)) * row ≤ (extent source_box.y - 1) * row = mul-le-mul_right row (omega (arith, h.top, h.bottom, h.high)) in
     let parts : (up + (height - 1)) * row ≡ up * row + (height - 1) * row = add-mul up (height - 1) row in
-    let whole : (extent own.y - 1 + 1) * row ≡ (extent own.y - 1) * row + 1 * row = add-mul (extent own.y - 1) 1 row in
-    let rows : extent own.y - 1 + 1 ≡ extent own.y = omega (arith, h.top, h.bottom, h.high) in
-    let whole_rows : extent own.y * row ≡ (extent own.y - 1) * row + 1 * row = ap (λ (n : ℕ). n * row) (sym rows) ∙ whole in
-    let turned : extent own.y * row ≡ points own = mul_comm (extent own.y) row in
+    let whole : (extent source_box.y - 1 + 1) * row ≡ (extent source_box.y - 1) * row + 1 * row = add-mul
+    (extent source_box.y - 1) 1 row in
+    let rows : extent source_box.y - 1 + 1 ≡ extent source_box.y = omega (arith, h.top, h.bottom, h.high) in
+    let whole_rows : extent source_box.y * row ≡ (extent source_box.y - 1) * row + 1 * row = ap (λ (n : ℕ). n * row) (sym rows) ∙ whole in
+    let turned : extent source_box.y * row ≡ points source_box = mul_comm (extent source_box.y) row in
     let columns : aside + width ≤ row = omega (arith, h.left, h.right) in
     let a : ((at + 4 * (up * row + aside)) % 4 == 0) ≡ true = eq-eqb ((at + 4 * (up * row + aside)) % 4) 0 (omega (arith, aligned)) in
     let b : (4 * row % 4 == 0) ≡ true = eq-eqb (4 * row % 4) 0 (omega arith) in
@@ -98,101 +99,115 @@ picture_lies at size own width height h aligned above within few =
 
 -- ---- the parts of an image
 
-module _ (own : CompiledContents) (rules : IsCompiled own) (pictures : List PictureContents) (none : judged own.pipeline.inputs pictures ≡ None)
+module _ (compiled_contents : CompiledContents) (rules : IsCompiled compiled_contents) (pictures : List PictureContents) (none : judged compiled_contents.pipeline.inputs pictures ≡ None)
     (are : ArePictures pictures) where
-  pub long : length (image_data own.boxes.layout own.pipeline.inputs pictures) ≡ own.boxes.layout.size
+  pub long : length (image_data compiled_contents.boxes.layout compiled_contents.pipeline.inputs pictures) ≡
+      compiled_contents.boxes.layout.size
   long =
-      let content = replicate (8 * own.boxes.layout.phases) 0 ++ inputs_data own.pipeline.inputs pictures in
-      let fit = room own.boxes.layout.size own.boxes.layout.phases own.pipeline.inputs pictures none are (inputs_fit own.pipeline own.schedule own.boxes
+      let content = replicate (8 * compiled_contents.boxes.layout.phases) 0 ++ inputs_data
+      compiled_contents.pipeline.inputs pictures in
+      let fit = room compiled_contents.boxes.layout.size compiled_contents.boxes.layout.phases compiled_contents.pipeline.inputs pictures none are (inputs_fit compiled_contents.pipeline compiled_contents.schedule compiled_contents.boxes
       rules.inferred_is) in
-      let a = length-append {A = ℕ} content (replicate (own.boxes.layout.size - length content) 0) in
-      let b : length {A = ℕ} (replicate (own.boxes.layout.size - length content) 0) ≡ own.boxes.layout.size - length content = length-replicate {A = ℕ}
-      (own.boxes.layout.size - length content) 0 in
+      let a = length-append {A = ℕ} content (replicate (compiled_contents.boxes.layout.size - length content) 0) in
+      let b : length {A = ℕ} (replicate (compiled_contents.boxes.layout.size - length content) 0) ≡ compiled_contents.boxes.layout.size - length content = length-replicate {A = ℕ}
+      (compiled_contents.boxes.layout.size - length content) 0 in
       omega (arith, a, b, fit)
 
-  pub box_here : OutputBox own.pipeline own.boxes
-  box_here = output_box own.pipeline own.schedule own.boxes rules.well_formed rules.accepted rules.inferred_is
+  pub box_here : OutputBox compiled_contents.pipeline compiled_contents.boxes
+  box_here = output_box compiled_contents.pipeline compiled_contents.schedule compiled_contents.boxes rules.well_formed
+      rules.accepted rules.inferred_is
 
-  pub output_is : output_of own.pipeline own.boxes ≡ output_in box_here.at (Some box_here.own) own.pipeline.output.width own.pipeline.output.height
+  pub output_is : output_of compiled_contents.pipeline compiled_contents.boxes ≡ output_in box_here.at (Some box_here.own) compiled_contents.pipeline.output.width compiled_contents.pipeline.output.height
   output_is =
-      ap (λ (n : ℕ). output_in n (box_in (slice_get own.boxes.funcs own.pipeline.output.func)) own.pipeline.output.width own.pipeline.output.height)
-      (get_or_from_slice_get own.boxes.layout.roots own.pipeline.output.func box_here.at 0 box_here.at_is)
-      ∙ ap (λ (o : Option (Option SourceBox)). output_in box_here.at (box_in o) own.pipeline.output.width own.pipeline.output.height) box_here.is
+      ap (λ (n : ℕ). output_in n (box_in (slice_get compiled_contents.boxes.funcs compiled_contents.pipeline.output.func)) compiled_contents.pipeline.output.width compiled_contents.pipeline.output.height)
+      (get_or_from_slice_get compiled_contents.boxes.layout.roots compiled_contents.pipeline.output.func box_here.at 0
+      box_here.at_is)
+      ∙ ap (λ (o : Option (Option SourceBox)). output_in box_here.at (box_in o) compiled_contents.pipeline.output.width compiled_contents.pipeline.output.height) box_here.is
 
-  output_lies : is_output_or_none (length (image_data own.boxes.layout own.pipeline.inputs pictures)) (output_of own.pipeline own.boxes) ≡ true
+  output_lies : is_output_or_none (length (image_data compiled_contents.boxes.layout compiled_contents.pipeline.inputs pictures)) (output_of compiled_contents.pipeline compiled_contents.boxes) ≡ true
   output_lies =
-      rw output_is (rw long (picture_lies box_here.at own.boxes.layout.size box_here.own own.pipeline.output.width own.pipeline.output.height box_here.holds
+      rw output_is (rw long (picture_lies box_here.at compiled_contents.boxes.layout.size box_here.own compiled_contents.pipeline.output.width compiled_contents.pipeline.output.height box_here.holds
       box_here.aligned box_here.above box_here.within
-      (output_points own.pipeline own.schedule own.boxes rules.well_formed rules.accepted rules.inferred_is)))
+      (output_points compiled_contents.pipeline compiled_contents.schedule compiled_contents.boxes rules.well_formed
+      rules.accepted rules.inferred_is)))
 
-module _ (own : CompiledContents) (rules : IsHeld own) (pictures : List PictureContents) (none : judged own.pipeline.inputs pictures ≡ None)
+module _ (compiled_contents : CompiledContents) (rules : IsHeld compiled_contents) (pictures : List PictureContents) (none : judged compiled_contents.pipeline.inputs pictures ≡ None)
     (are : ArePictures pictures) where
-  limits : is_within_limits (image_of own pictures) ≡ true
+  limits : is_within_limits (image_of compiled_contents pictures) ≡ true
   limits =
       let few = rules.words_are.is_program.few in
-      let low = (lies_low own.pipeline own.schedule own.boxes rules.compiled.inferred_is).size in
-      let a : nat_le (length own.words) most_words ≡ true = le-leb (length own.words) most_words few in
-      let b : nat_le (length (image_data own.boxes.layout own.pipeline.inputs pictures)) most_bytes ≡ true =
-      le-leb (length (image_data own.boxes.layout own.pipeline.inputs pictures)) most_bytes
-      (let size = long own rules.compiled pictures none are in omega (arith, size, low)) in
+      let low = (lies_low compiled_contents.pipeline compiled_contents.schedule compiled_contents.boxes
+      rules.compiled.inferred_is).size in
+      let a : nat_le (length compiled_contents.words) most_words ≡ true = le-leb (length compiled_contents.words)
+      most_words few in
+      let b : nat_le (length (image_data compiled_contents.boxes.layout compiled_contents.pipeline.inputs pictures))
+      most_bytes ≡ true =
+      le-leb (length (image_data compiled_contents.boxes.layout compiled_contents.pipeline.inputs pictures)) most_bytes
+      (let size = long compiled_contents rules.compiled pictures none are in omega (arith, size, low)) in
       rw a (rw b refl)
 
-  entry : is_entry (length own.words) text_start ≡ true
+  entry : is_entry (length compiled_contents.words) text_start ≡ true
   entry =
-      let some = some_words own rules in
-      let l : nat_lt text_start (text_start + 4 * length own.words) ≡ true = lt-ltb text_start (text_start + 4 * length own.words) (omega (arith, some)) in
+      let some = some_words compiled_contents rules in
+      let l : nat_lt text_start (text_start + 4 * length compiled_contents.words) ≡ true = lt-ltb text_start (text_start + 4 * length compiled_contents.words) (omega (arith, some)) in
       rw l refl
 
-  pub is-image : All (λ word. word < 2 ^ 32) own.words → All (λ byte. byte < 256) (data_front own.boxes.layout own.pipeline.inputs pictures)
-      → IfSome (output_of own.pipeline own.boxes) IsInWords → IsImage (image_of own pictures)
+  pub is-image : All (λ word. word < 2 ^ 32) compiled_contents.words → All (λ byte. byte < 256) (data_front compiled_contents.boxes.layout compiled_contents.pipeline.inputs pictures)
+      → IfSome (output_of compiled_contents.pipeline compiled_contents.boxes) IsInWords
+      → IsImage (image_of compiled_contents pictures)
   is-image words bytes output =
-      let front = data_front own.boxes.layout own.pipeline.inputs pictures in
-      let n = own.boxes.layout.size - length front in
+      let front = data_front compiled_contents.boxes.layout compiled_contents.pipeline.inputs pictures in
+      let n = compiled_contents.boxes.layout.size - length front in
       record {
         limits = limits;
         entry = entry;
-        output = output_lies own rules.compiled pictures none are;
+        output = output_lies compiled_contents rules.compiled pictures none are;
         words_fit = words;
         bytes_fit = All-append (λ byte. byte < 256) front (replicate n 0) bytes (All-replicate (λ byte. byte < 256) n 0 (omega arith));
         output_fits = output;
       }
 
   -- the parts that are stored
-  pub are-parts : (parts : ImageParts) → parts.words.now ≡ own.words → parts.front.now ≡ data_front own.boxes.layout own.pipeline.inputs pictures
-      → parts.size ≡ own.boxes.layout.size → AreParts parts
+  pub are-parts : (parts : ImageParts) → parts.words.now ≡ compiled_contents.words → parts.front.now ≡ data_front compiled_contents.boxes.layout compiled_contents.pipeline.inputs pictures
+      → parts.size ≡ compiled_contents.boxes.layout.size → AreParts parts
   are-parts parts words_are front_is size_is =
       let few = rules.words_are.is_program.few in
-      let low = (lies_low own.pipeline own.schedule own.boxes rules.compiled.inferred_is).size in
-      let fit = room own.boxes.layout.size own.boxes.layout.phases own.pipeline.inputs pictures none are
-      (inputs_fit own.pipeline own.schedule own.boxes rules.compiled.inferred_is) in
+      let low = (lies_low compiled_contents.pipeline compiled_contents.schedule compiled_contents.boxes
+      rules.compiled.inferred_is).size in
+      let fit = room compiled_contents.boxes.layout.size compiled_contents.boxes.layout.phases
+      compiled_contents.pipeline.inputs pictures none are
+      (inputs_fit compiled_contents.pipeline compiled_contents.schedule compiled_contents.boxes
+      rules.compiled.inferred_is) in
       record {
         words = omega (arith, few, ap length words_are);
         size = omega (arith, low, size_is);
         front = omega (arith, fit, size_is, ap length front_is);
       }
 
-  pub passes : judged_image (image_of own pictures) ≡ Ok (image_of own pictures)
-  passes = rw limits (rw entry (rw (output_lies own rules.compiled pictures none are) refl))
+  pub passes : judged_image (image_of compiled_contents pictures) ≡ Ok (image_of compiled_contents pictures)
+  passes = rw limits (rw entry (rw (output_lies compiled_contents rules.compiled pictures none are) refl))
 
-  pub parts_pass : (words bytes : List ℕ) (output : Option Output) → words ≡ own.words → bytes ≡ image_data own.boxes.layout own.pipeline.inputs pictures
-      → output ≡ output_of own.pipeline own.boxes
-      → judged_image (record { entry = text_start; words = words; bytes = bytes; output = output }) ≡ Ok (image_of own pictures)
+  pub parts_pass : (words bytes : List ℕ) (output : Option Output) → words ≡ compiled_contents.words → bytes ≡ image_data compiled_contents.boxes.layout compiled_contents.pipeline.inputs pictures
+      → output ≡ output_of compiled_contents.pipeline compiled_contents.boxes
+      → judged_image (record { entry = text_start; words = words; bytes = bytes; output = output }) ≡ Ok (image_of compiled_contents pictures)
   parts_pass words bytes output e f g =
       ap (λ (w : List ℕ). judged_image (record { entry = text_start; words = w; bytes = bytes; output = output })) e
-      ∙ (ap (λ (b : List ℕ). judged_image (record { entry = text_start; words = own.words; bytes = b; output = output })) f
+      ∙ (ap (λ (b : List ℕ). judged_image (record { entry = text_start; words = compiled_contents.words; bytes = b; output = output })) f
       ∙ (ap (λ (o : Option Output). judged_image (record {
         entry = text_start;
-        words = own.words;
-        bytes = image_data own.boxes.layout own.pipeline.inputs
+        words = compiled_contents.words;
+        bytes = image_data compiled_contents.boxes.layout compiled_contents.pipeline.inputs
             pictures;
         output = o;
       })) g ∙ passes))
 
 -- the image of such parts
-pub image-with : (own : CompiledContents) (pictures : List PictureContents) (parts : ImageParts) → parts.entry ≡ text_start → parts.words.now ≡ own.words
-    → parts.front.now ≡ data_front own.boxes.layout own.pipeline.inputs pictures → parts.size ≡ own.boxes.layout.size
-    → parts.output ≡ output_of own.pipeline own.boxes → image_with parts ≡ image_of own pictures
-image-with own pictures parts entry_is words_are front_is size_is output_is = rw (entry_is, words_are, front_is, size_is, output_is) refl
+pub image-with : (compiled_contents : CompiledContents) (pictures : List PictureContents) (parts : ImageParts) → parts.entry ≡ text_start → parts.words.now ≡ compiled_contents.words
+    → parts.front.now ≡ data_front compiled_contents.boxes.layout compiled_contents.pipeline.inputs pictures
+    → parts.size ≡ compiled_contents.boxes.layout.size
+    → parts.output ≡ output_of compiled_contents.pipeline compiled_contents.boxes
+    → image_with parts ≡ image_of compiled_contents pictures
+image-with compiled_contents pictures parts entry_is words_are front_is size_is output_is = rw (entry_is, words_are, front_is, size_is, output_is) refl
 
 pub is_ok : (answer : Result ImageContents LoadFault) (image : ImageContents) → answer ≡ Ok image → IsOk answer
 is_ok (Ok own) image e = refl

@@ -24,9 +24,10 @@ passed : (test : Bool) (wrong : BoundsFault) (next : Result Boxes BoundsFault) (
 passed true wrong next boxes e = e
 passed false wrong next boxes e = absurd cc
 
-kept : (test : Bool) (own boxes : Boxes) (wrong : BoundsFault) → cond test (Ok own) (Err wrong) ≡ Ok boxes → own ≡ boxes
-kept true own boxes wrong e = cc
-kept false own boxes wrong e = absurd cc
+kept : (test : Bool) (own_boxes boxes : Boxes) (wrong : BoundsFault)
+    → cond test (Ok own_boxes) (Err wrong) ≡ Ok boxes → own_boxes ≡ boxes
+kept true own_boxes boxes wrong e = cc
+kept false own_boxes boxes wrong e = absurd cc
 
 module _ (pipeline : Pipeline) (schedule : Schedule) (boxes : Boxes) where
   judged_so : (funcs inputs : List (Option SourceBox)) → judged pipeline schedule funcs inputs ≡ Ok boxes

@@ -22,9 +22,9 @@ use Rattle.hrv_compiler.specs.Compiled.{CompiledContents}
 use Rattle.hrv_compiler.specs.inner.Held.{IsHeld}
 use Rattle.hrv_compiler.proofs.Low.{layout_is}
 
-module _ (own : CompiledContents) (rules : IsHeld own) (func : ℕ) (root : RootFunc own.pipeline own.schedule own.boxes.funcs func) where
+module _ (compiled_contents : CompiledContents) (rules : IsHeld compiled_contents) (func : ℕ) (root : RootFunc compiled_contents.pipeline compiled_contents.schedule compiled_contents.boxes.funcs func) where
   abbrev sizes : Sizes
-  sizes = sizes_of own.pipeline own.schedule own.boxes.funcs
+  sizes = sizes_of compiled_contents.pipeline compiled_contents.schedule compiled_contents.boxes.funcs
 
   abbrev start : ℕ
   start = slice_index (placed (roots_at sizes) sizes.roots) func
@@ -32,29 +32,33 @@ module _ (own : CompiledContents) (rules : IsHeld own) (func : ℕ) (root : Root
   abbrev private : ℕ
   private = slice_index (placed (privates_at sizes) sizes.privates) func
 
-  roots-are : own.boxes.layout.roots ≡ placed (roots_at sizes) sizes.roots
+  roots-are : compiled_contents.boxes.layout.roots ≡ placed (roots_at sizes) sizes.roots
   unfolding laid_in
-  roots-are = ap (λ (l : Layout). l.roots) (layout_is own.pipeline own.schedule own.boxes rules.compiled.inferred_is)
+  roots-are = ap (λ (l : Layout). l.roots) (layout_is compiled_contents.pipeline compiled_contents.schedule
+      compiled_contents.boxes rules.compiled.inferred_is)
 
-  in-layout : (x y : ℕ) → point_address own.boxes func x y ≡ start + 4 * (y * extent root.own.x + x)
+  in-layout : (x y : ℕ) → point_address compiled_contents.boxes func x y ≡ start + 4 * (y * extent root.own.x + x)
   in-layout x y =
-      ap (λ (l : List ℕ). point_in (slice_index l func) (box_in (slice_get own.boxes.funcs func)) x y) roots-are
+      ap (λ (l : List ℕ). point_in (slice_index l func) (box_in (slice_get compiled_contents.boxes.funcs func)) x y)
+      roots-are
       ∙ ap (λ (b : Option (Option SourceBox)). point_in start (box_in b) x y) root.box_is
 
-  in-code : (x y : ℕ) → address_at own.pipeline own.schedule own.boxes.funcs 0 (sources.Func func) x y ≡ start + 4 * (y * extent root.own.x + x)
+  in-code : (x y : ℕ) → address_at compiled_contents.pipeline compiled_contents.schedule compiled_contents.boxes.funcs 0 (sources.Func func) x y ≡ start + 4 * (y * extent root.own.x + x)
   in-code x y =
       ap (λ place. address place 0 x y)
-      (func-place-at own.pipeline own.schedule own.boxes.funcs func root.standing root.own root.standing_is root.box_is
+      (func-place-at compiled_contents.pipeline compiled_contents.schedule compiled_contents.boxes.funcs func
+      root.standing root.own root.standing_is root.box_is
       ∙ ap (λ (p : Standpoint). func_place p (Some root.own) start private) root.at_root)
       ∙ (let same : start + 0 * 0 + 4 * (y * extent root.own.x + x) ≡ start + 4 * (y * extent root.own.x + x) = omega arith in same)
 
-  pub lies : (x y : ℕ) → address_at own.pipeline own.schedule own.boxes.funcs 0 (sources.Func func) x y ≡ point_address own.boxes func x y
+  pub lies : (x y : ℕ) → address_at compiled_contents.pipeline compiled_contents.schedule compiled_contents.boxes.funcs 0 (sources.Func func) x y ≡ point_address compiled_contents.boxes func x y
   lies x y = in-code x y ∙ sym (in-layout x y)
 
   -- the bytes of one run there are those of one run here
   pub same-run : (extents : Extents) (stage : Stage) (written : List ℕ)
-      → IsOneRun (address_at own.pipeline own.schedule own.boxes.funcs 0 (sources.Func func)) extents stage written
-      → IsOneRun (point_address own.boxes func) extents stage written
+      → IsOneRun (address_at compiled_contents.pipeline compiled_contents.schedule compiled_contents.boxes.funcs 0
+      (sources.Func func)) extents stage written
+      → IsOneRun (point_address compiled_contents.boxes func) extents stage written
   same-run extents stage written one = record {
     iterations = one.iterations;
     are = one.are;

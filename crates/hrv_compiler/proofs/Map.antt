@@ -22,24 +22,25 @@ phases_are : (pipeline : Pipeline) (schedule : Schedule) (boxes : Boxes) → inf
 unfolding laid_in
 phases_are pipeline schedule boxes is = ap (λ (l : Layout). l.phases) (layout_is pipeline schedule boxes is)
 
-pub are-phases : (own : CompiledContents) → IsHeld own → ArePhases own
-are-phases own rules =
+pub are-phases : (compiled_contents : CompiledContents) → IsHeld compiled_contents → ArePhases compiled_contents
+are-phases compiled_contents rules =
     let made = rules.words_are.is_program in
     record {
       parts = made.parts;
       as_many =
-          parts-length (places_of own.pipeline own.schedule own.boxes.funcs own.boxes.layout) 0 rules.words_are.phases made.parts made.are_parts
-          ∙ sym (phases_are own.pipeline own.schedule own.boxes rules.compiled.inferred_is
-          ∙ phases-counted own.pipeline own.schedule own.boxes rules.compiled.accepted rules.compiled.inferred_is rules.words_are.phases
+          parts-length (places_of compiled_contents.pipeline compiled_contents.schedule compiled_contents.boxes.funcs compiled_contents.boxes.layout) 0 rules.words_are.phases made.parts made.are_parts
+          ∙ sym (phases_are compiled_contents.pipeline compiled_contents.schedule compiled_contents.boxes
+          rules.compiled.inferred_is
+          ∙ phases-counted compiled_contents.pipeline compiled_contents.schedule compiled_contents.boxes rules.compiled.accepted rules.compiled.inferred_is rules.words_are.phases
           rules.words_are.are_lowered);
       are_words = made.emits;
       ends_are = rules.words_are.ends_are;
     }
 
 -- all images of the words do what is promised of each that is made
-pub all-right : (own : CompiledContents) → IsHeld own → AreAllRight own
-all-right own rules pictures none are = record {
-  correct = correct own rules pictures none are;
-  assigned = is-assigned own rules pictures none are;
-  runs = writes-whole-runs own rules pictures none are;
+pub all-right : (compiled_contents : CompiledContents) → IsHeld compiled_contents → AreAllRight compiled_contents
+all-right compiled_contents rules pictures none are = record {
+  correct = correct compiled_contents rules pictures none are;
+  assigned = is-assigned compiled_contents rules pictures none are;
+  runs = writes-whole-runs compiled_contents rules pictures none are;
 }

@@ -50,54 +50,56 @@ module _ (all : List Input) (boxes : List (Option SourceBox)) (inputs : Planes) 
   abbrev holds_at : Part → ℕ
   holds_at = byte_in all boxes inputs nothing_yet
 
-  copies-zero : (found : Option Found) (hart : ℕ) → holds_at (found_or Copies found (Frame hart)) ≡ 0
+  copies-zero : (found_found : Option Found) (hart : ℕ) → holds_at (found_or Copies found_found (Frame hart)) ≡ 0
   copies-zero None hart = refl
-  copies-zero (Some found) hart = refl
+  copies-zero (Some found_found) hart = refl
 
-  roots-zero : (found : Option Found) (other : Part) → holds_at other ≡ 0 → holds_at (found_or Root found other) ≡ 0
+  roots-zero : (found_found : Option Found) (other : Part) → holds_at other ≡ 0
+      → holds_at (found_or Root found_found other) ≡ 0
   roots-zero None other e = e
-  roots-zero (Some found) other e = byte-zero (found.offset % 4)
+  roots-zero (Some found_found) other e = byte-zero (found_found.offset % 4)
 
   behind-zero : (sizes : Sizes) (n : ℕ) → holds_at (in_roots sizes n) ≡ 0
   behind-zero sizes n =
       let rest = n - total sizes.roots in
       roots-zero (find sizes.roots n) (in_privates sizes rest) (copies-zero (find sizes.privates rest) ((rest - total sizes.privates) / 4096))
 
-  inputs-first : (found : Option Found) (other : Part) → holds_at other ≡ 0 → found_byte all inputs found ≡ holds_at (found_or InputPart found other)
+  inputs-first : (found_found : Option Found) (other : Part) → holds_at other ≡ 0 → found_byte all inputs found_found ≡ holds_at (found_or InputPart found_found other)
   inputs-first None other e = sym e
-  inputs-first (Some found) other e = refl
+  inputs-first (Some found_found) other e = refl
 
 -- ---- the data
 
-module _ (own : CompiledContents) (rules : IsCompiled own) (pictures : List PictureContents) (none : judged own.pipeline.inputs pictures ≡ None)
+module _ (compiled_contents : CompiledContents) (rules : IsCompiled compiled_contents) (pictures : List PictureContents) (none : judged compiled_contents.pipeline.inputs pictures ≡ None)
     (are : ArePictures pictures) where
   abbrev inputs : List Input
-  inputs = own.pipeline.inputs
+  inputs = compiled_contents.pipeline.inputs
 
   abbrev planes : Planes
   planes = input_planes pictures
 
   abbrev bytes : List ℕ
-  bytes = image_data own.boxes.layout inputs pictures
+  bytes = image_data compiled_contents.boxes.layout inputs pictures
 
   abbrev sizes : Sizes
-  sizes = sizes_of own.pipeline own.schedule own.boxes.funcs
+  sizes = sizes_of compiled_contents.pipeline compiled_contents.schedule compiled_contents.boxes.funcs
 
   abbrev wanted : Part → ℕ
-  wanted = byte_in inputs own.boxes.funcs planes nothing_yet
+  wanted = byte_in inputs compiled_contents.boxes.funcs planes nothing_yet
 
-  laid : own.boxes.layout ≡ laid_out own.pipeline own.schedule own.boxes.funcs
-  laid = layout_is own.pipeline own.schedule own.boxes rules.inferred_is
+  laid : compiled_contents.boxes.layout ≡ laid_out compiled_contents.pipeline compiled_contents.schedule
+      compiled_contents.boxes.funcs
+  laid = layout_is compiled_contents.pipeline compiled_contents.schedule compiled_contents.boxes rules.inferred_is
 
-  pub phases_are : own.boxes.layout.phases ≡ sizes.phases
+  pub phases_are : compiled_contents.boxes.layout.phases ≡ sizes.phases
   unfolding laid_in
   phases_are = ap (λ (l : Layout). l.phases) laid
 
   abbrev control : ℕ
-  control = 8 * own.boxes.layout.phases
+  control = 8 * compiled_contents.boxes.layout.phases
 
   abbrev behind : ℕ
-  behind = own.boxes.layout.size - length (replicate {A = ℕ} control 0 ++ inputs_data inputs pictures)
+  behind = compiled_contents.boxes.layout.size - length (replicate {A = ℕ} control 0 ++ inputs_data inputs pictures)
 
   abbrev rest : List ℕ
   rest = inputs_data inputs pictures ++ replicate behind 0
@@ -123,7 +125,7 @@ module _ (own : CompiledContents) (rules : IsCompiled own) (pictures : List Pict
       ∙ (ap (λ (k : ℕ). slice_index rest (n - k)) (let q : length {A = ℕ} (replicate control 0) ≡ 8 * sizes.phases = omega (arith, control-long, phases_are) in
       q)
       ∙ (inputs-found inputs pictures asked.count asked.sizes are behind at
-      ∙ (inputs-first inputs own.boxes.funcs planes (find sizes.inputs at) (in_roots sizes (at - total sizes.inputs)) (behind-zero inputs own.boxes.funcs planes
+      ∙ (inputs-first inputs compiled_contents.boxes.funcs planes (find sizes.inputs at) (in_roots sizes (at - total sizes.inputs)) (behind-zero inputs compiled_contents.boxes.funcs planes
       sizes (at - total sizes.inputs))
       ∙ ap (λ (b : Bool). wanted (cond b (Control (n / 8)) (in_inputs sizes at))) (sym (le-ltb n (8 * sizes.phases) l))))))
 
@@ -133,40 +135,44 @@ module _ (own : CompiledContents) (rules : IsCompiled own) (pictures : List Pict
     | inr l ↦ in-others n l
   ]
 
-  holds : (address : ℕ) → data_start ≤ address → byte_at own.words bytes address ≡ wanted (part own.pipeline own.schedule own.boxes.funcs address)
+  holds : (address : ℕ) → data_start ≤ address → byte_at compiled_contents.words bytes address ≡ wanted (part compiled_contents.pipeline compiled_contents.schedule compiled_contents.boxes.funcs address)
   holds address l =
       let n = address - data_start in
-      ap (λ (b : Bool). cond b (slice_index own.words ((address - text_start) / 4) / 256 ^ ((address - text_start) % 4) % 256) (slice_index bytes n))
+      ap (λ (b : Bool). cond b (slice_index compiled_contents.words ((address - text_start) / 4) / 256 ^ ((address - text_start) % 4) % 256) (slice_index bytes n))
       (le-ltb address data_start l)
       ∙ (byte-is n ∙ ap (λ (b : Bool). wanted (cond b Outside (in_data sizes n))) (sym (le-ltb address data_start l)))
 
   -- ---- they are bytes
 
-  module _ (answers : AnswerWords inputs (reads_of planes (pixels own.pipeline.funcs planes 0))) where
-    input-small : (place offset : ℕ) → input_byte (slice_get inputs place) place planes offset < 256
-    input-small place offset = by_input (slice_get inputs place) refl
+  module _ (answers : AnswerWords inputs (reads_of planes (pixels compiled_contents.pipeline.funcs planes 0))) where
+    input-small : (func_index offset : ℕ) → input_byte (slice_get inputs func_index) func_index planes offset < 256
+    input-small func_index offset = by_input (slice_get inputs func_index) refl
       where
-        by_kind : (input : Input) (is_bytes : Bool) → input.is_bytes ≡ is_bytes → slice_get inputs place ≡ Some input
-            → cond is_bytes (planes place (offset % input.width) (offset / input.width)) (byte_of (planes place (offset / 4 % input.width)
+        by_kind : (input : Input) (is_bytes : Bool) → input.is_bytes ≡ is_bytes
+            → slice_get inputs func_index ≡ Some input
+            → cond is_bytes (planes func_index (offset % input.width) (offset / input.width)) (byte_of (planes func_index (offset / 4 % input.width)
             (offset / 4 / input.width)) (offset % 4)) < 256
-        by_kind input true e there = answers.bytes place input there e (offset % input.width) (offset / input.width)
-        by_kind input false e there = byte-small (planes place (offset / 4 % input.width) (offset / 4 / input.width)) (offset % 4)
+        by_kind input true e there = answers.bytes func_index input there e (offset % input.width)
+            (offset / input.width)
+        by_kind input false e there = byte-small (planes func_index (offset / 4 % input.width) (offset / 4 / input.width)) (offset % 4)
 
-        by_input : (found : Option Input) → slice_get inputs place ≡ found → input_byte found place planes offset < 256
+        by_input : (found_input : Option Input) → slice_get inputs func_index ≡ found_input
+            → input_byte found_input func_index planes offset < 256
         by_input None e = omega arith
         by_input (Some input) e = by_kind input input.is_bytes refl e
 
     part-small : (own_part : Part) → wanted own_part < 256
     part-small (Control phase) = omega arith
-    part-small (InputPart place offset) = input-small place offset
-    part-small (Root place offset) = byte-small 0 (offset % 4)
-    part-small (Copies place offset) = omega arith
+    part-small (InputPart func_index offset) = input-small func_index offset
+    part-small (Root func_index offset) = byte-small 0 (offset % 4)
+    part-small (Copies func_index offset) = omega arith
     part-small (Frame hart) = omega arith
     part-small Outside = omega arith
 
-    pub opens : OpensWith own.pipeline own.schedule own.boxes own.words bytes planes
+    pub opens : OpensWith compiled_contents.pipeline compiled_contents.schedule compiled_contents.boxes
+        compiled_contents.words bytes planes
     opens = record {
-      whole = long own rules pictures none are ∙ ap (λ (l : Layout). l.size) laid;
+      whole = long compiled_contents rules pictures none are ∙ ap (λ (l : Layout). l.size) laid;
       bytes = λ n. subst (λ (k : ℕ). k < 256) (sym (byte-is n)) (part-small (in_data sizes n));
       holds = holds;
     }

@@ -51,29 +51,29 @@ record IsPlaced (start end : ℕ) (found : Option ℕ) (size : ℕ) : Type 0 whe
   pub above : start ≤ at
   pub within : at + size ≤ end
 
-whole_root : (place : ComputeLevel) (own : Option SourceBox) → root_bytes place own % 4 ≡ 0
+whole_root : (level : ComputeLevel) (source_box : Option SourceBox) → root_bytes level source_box % 4 ≡ 0
 whole_root places.Root None = refl
-whole_root places.Root (Some own) = omega arith
-whole_root places.Inlined own = refl
-whole_root (places.At at) own = refl
-whole_root places.Nowhere own = refl
+whole_root places.Root (Some source_box) = omega arith
+whole_root places.Inlined source_box = refl
+whole_root (places.At at) source_box = refl
+whole_root places.Nowhere source_box = refl
 
-root_at : (start : ℕ) (standings : List FuncPlacement) (boxes : List (Option SourceBox)) (place : ℕ) (standing : FuncPlacement) (own : Option SourceBox) → start % 4 ≡ 0
-    → slice_get standings place ≡ Some standing → slice_get boxes place ≡ Some own
-    → IsPlaced start (start + total (root_sizes standings boxes)) (slice_get (placed start (root_sizes standings boxes)) place) (root_bytes standing.place own)
-root_at start [] boxes place standing own aligned s b = absurd cc
-root_at start (first ∷ standings) [] place standing own aligned s b = absurd cc
-root_at start (first ∷ standings) (one ∷ boxes) zero standing own aligned s b =
-    let same : first ≡ standing = cc in
-    let like : one ≡ own = cc in
-    let size : root_bytes standing.place own ≡ root_bytes first.place one = sym (ap (λ (t : FuncPlacement). root_bytes t.place one) same
-    ∙ ap (root_bytes standing.place) like) in
+root_at : (start : ℕ) (standings : List FuncPlacement) (boxes : List (Option SourceBox)) (func_index : ℕ) (placement : FuncPlacement) (source_box : Option SourceBox) → start % 4 ≡ 0
+    → slice_get standings func_index ≡ Some placement → slice_get boxes func_index ≡ Some source_box
+    → IsPlaced start (start + total (root_sizes standings boxes)) (slice_get (placed start (root_sizes standings boxes)) func_index) (root_bytes placement.place source_box)
+root_at start [] boxes func_index placement source_box aligned s b = absurd cc
+root_at start (first ∷ standings) [] func_index placement source_box aligned s b = absurd cc
+root_at start (first ∷ standings) (one ∷ boxes) zero placement source_box aligned s b =
+    let same : first ≡ placement = cc in
+    let like : one ≡ source_box = cc in
+    let size : root_bytes placement.place source_box ≡ root_bytes first.place one = sym (ap (λ (t : FuncPlacement). root_bytes t.place one) same
+    ∙ ap (root_bytes placement.place) like) in
     record { at = start; is = refl; aligned = aligned; above = omega arith; within = omega (arith, size) }
-root_at start (first ∷ standings) (one ∷ boxes) (suc place) standing own aligned s b =
+root_at start (first ∷ standings) (one ∷ boxes) (suc func_index) placement source_box aligned s b =
     let size = root_bytes first.place one in
     let w : size % 4 ≡ 0 = whole_root first.place one in
     let next : (start + size) % 4 ≡ 0 = omega (arith, aligned, w) in
-    let rest = root_at (start + size) standings boxes place standing own next s b in
+    let rest = root_at (start + size) standings boxes func_index placement source_box next s b in
     record { at = rest.at; is = rest.is; aligned = rest.aligned; above = omega (arith, rest.above); within = omega (arith, rest.within) }
 
 whole_inputs : (inputs : List Input) → total (map input_bytes inputs) % 4 ≡ 0
@@ -98,9 +98,9 @@ boxed_one None x y e = absurd cc
 boxed_one (Some None) x y e = absurd cc
 boxed_one (Some (Some own)) x y e = record { own = own; is = refl }
 
-drawn_func : (own : Option Func) (n : ℕ) → is_func_of own n ≡ true → IsSome own
+drawn_func : (func : Option Func) (n : ℕ) → is_func_of func n ≡ true → IsSome func
 drawn_func None n e = absurd cc
-drawn_func (Some own) n e = record { value = own; is = refl }
+drawn_func (Some func) n e = record { value = func; is = refl }
 
 or_second : (a b : Bool) → a ≡ false → (a || b) ≡ true → b ≡ true
 or_second true b f e = absurd cc

@@ -14,7 +14,7 @@ use Rattle.work_sharing.proofs.Races.{rules-kept}
 use Rattle.vector_codegen_laws.specs.Points.{RootFunc, RootPoint, address_at}
 use Rattle.vector_codegen_laws.specs.Runs.{IsOneRun}
 use Rattle.vector_codegen_laws.specs.Sharing.{IsOwnedIn}
-use Rattle.bounds.specs.Stages.{StagePlace, stages}
+use Rattle.bounds.specs.Stages.{StagePosition, stages}
 use Rattle.hrv_compiler.specs.Assigned.{byte_of_point}
 use Rattle.hrv_compiler.specs.Compiled.{CompiledContents}
 use Rattle.hrv_compiler.specs.inner.Held.{IsHeld}
@@ -24,33 +24,34 @@ use Rattle.hrv_compiler.specs.Runs.{IsInVectors, WritesWholeRuns}
 use Rattle.hrv_compiler.proofs.Lying.{lies, same-run}
 use Rattle.hrv_compiler.proofs.Correct.{last, bytes, IsSharedSo, shared, steps, goes, begins}
 
-module _ (own : CompiledContents) (rules : IsHeld own) (pictures : List PictureContents) (none : judged own.pipeline.inputs pictures ≡ None)
-    (are : ArePictures pictures) (place : ℕ)
-    (is : IsInVectors own place) (harts : ℕ) (some_harts : 0 < harts) (few_harts : harts ≤ 8) (turns : List ℕ) (hart : ℕ) where
+module _ (compiled_contents : CompiledContents) (rules : IsHeld compiled_contents) (pictures : List PictureContents) (none : judged compiled_contents.pipeline.inputs pictures ≡ None)
+    (are : ArePictures pictures) (func_index : ℕ)
+    (is : IsInVectors compiled_contents func_index) (harts : ℕ) (some_harts : 0 < harts) (few_harts : harts ≤ 8) (turns : List ℕ) (hart : ℕ) where
   abbrev written : List ℕ
-  written = written_next (run (opening (image_of own pictures) harts) turns) hart
+  written = written_next (run (opening (image_of compiled_contents pictures) harts) turns) hart
 
-  all_shared : IsSharedSo own rules pictures none are harts some_harts few_harts
-  all_shared = shared own rules pictures none are harts some_harts few_harts
+  all_shared : IsSharedSo compiled_contents rules pictures none are harts some_harts few_harts
+  all_shared = shared compiled_contents rules pictures none are harts some_harts few_harts
 
-  kept : RuleKept (steps own rules pictures none are harts some_harts few_harts all_shared) (last own rules pictures none are) written
+  kept : RuleKept (steps compiled_contents rules pictures none are harts some_harts few_harts all_shared) (last compiled_contents rules pictures none are) written
   kept =
-      rules-kept (steps own rules pictures none are harts some_harts few_harts all_shared) (last own rules pictures none are) text_start
-      (bytes own rules pictures none are) turns
-      (goes own rules pictures none are harts some_harts few_harts all_shared) (begins own rules pictures none are harts some_harts few_harts all_shared) hart
+      rules-kept (steps compiled_contents rules pictures none are harts some_harts few_harts all_shared) (last compiled_contents rules pictures none are) text_start
+      (bytes compiled_contents rules pictures none are) turns
+      (goes compiled_contents rules pictures none are harts some_harts few_harts all_shared) (begins compiled_contents rules pictures none are harts some_harts few_harts all_shared) hart
 
   -- a stage of the Func is its pure definition
-  first_stage : (stage : StagePlace) → slice_get (stages own.pipeline own.schedule own.boxes) kept.k ≡ Some stage → stage.func ≡ place
-      → slice_get (stages own.pipeline own.schedule own.boxes) kept.k ≡ Some (record { func = place; number = 0 })
+  first_stage : (stage : StagePosition) → slice_get (stages compiled_contents.pipeline compiled_contents.schedule compiled_contents.boxes) kept.k ≡ Some stage → stage.func ≡ func_index
+      → slice_get (stages compiled_contents.pipeline compiled_contents.schedule compiled_contents.boxes) kept.k ≡ Some
+      (record { func = func_index; number = 0 })
   first_stage stage e f =
-      let few = all_shared.numbers_are kept.k stage is.func e (ap (slice_get own.pipeline.funcs) f ∙ is.at_root.func_is) in
+      let few = all_shared.numbers_are kept.k stage is.func e (ap (slice_get compiled_contents.pipeline.funcs) f ∙ is.at_root.func_is) in
       let none_left : length is.func.updates ≡ 0 = ap (λ (us : List Update). length us) is.no_updates in
       let n : stage.number ≡ 0 = omega (arith, few, none_left) in
-      e ∙ ap (λ (p : ℕ). Some (record { func = p; number = stage.number })) f ∙ ap (λ (m : ℕ). Some (record { func = place; number = m })) n
+      e ∙ ap (λ (p : ℕ). Some (record { func = p; number = stage.number })) f ∙ ap (λ (m : ℕ). Some (record { func = func_index; number = m })) n
 
   module _ (x y byte : ℕ) (column : x < extent is.box.x) (row : y < extent is.box.y) (small : byte < 4)
-      (hit : is_in (byte_of_point own.boxes place x y byte) written ≡ true) where
-    root : RootFunc own.pipeline own.schedule own.boxes.funcs place
+      (hit : is_in (byte_of_point compiled_contents.boxes func_index x y byte) written ≡ true) where
+    root : RootFunc compiled_contents.pipeline compiled_contents.schedule compiled_contents.boxes.funcs func_index
     root = record {
       standing = is.at_root.standing;
       standing_is = is.at_root.there.standing;
@@ -60,12 +61,13 @@ module _ (own : CompiledContents) (rules : IsHeld own) (pictures : List PictureC
     }
 
     abbrev byte_address : ℕ
-    byte_address = address_at own.pipeline own.schedule own.boxes.funcs 0 (sources.Func place) x y + byte
+    byte_address = address_at compiled_contents.pipeline compiled_contents.schedule compiled_contents.boxes.funcs 0
+        (sources.Func func_index) x y + byte
 
     hit_there : is_in byte_address written ≡ true
-    hit_there = ap (λ (a : ℕ). is_in (a + byte) written) (lies own rules place root x y) ∙ hit
+    hit_there = ap (λ (a : ℕ). is_in (a + byte) written) (lies compiled_contents rules func_index root x y) ∙ hit
 
-    point : RootPoint own.pipeline own.schedule own.boxes.funcs place x y
+    point : RootPoint compiled_contents.pipeline compiled_contents.schedule compiled_contents.boxes.funcs func_index x y
     point = record {
       standing = is.at_root.standing;
       standing_is = is.at_root.there.standing;
@@ -76,21 +78,24 @@ module _ (own : CompiledContents) (rules : IsHeld own) (pictures : List PictureC
       row = row;
     }
 
-    by_owner : IsOwnedIn own.pipeline own.schedule own.boxes all_shared.matter kept.k place byte_address
-        → IsOneRun (address_at own.pipeline own.schedule own.boxes.funcs 0 (sources.Func place)) (extents_of is.box) is.plan.pure written
+    by_owner : IsOwnedIn compiled_contents.pipeline compiled_contents.schedule compiled_contents.boxes all_shared.matter
+        kept.k func_index byte_address
+        → IsOneRun (address_at compiled_contents.pipeline compiled_contents.schedule compiled_contents.boxes.funcs 0 (sources.Func func_index)) (extents_of is.box) is.plan.pure written
     by_owner owner =
-        all_shared.runs_are kept.k place is.func is.plan is.box 0 is.at_root (first_stage owner.stage owner.stage_is owner.func_is) is.vectorized owner.task
+        all_shared.runs_are kept.k func_index is.func is.plan is.box 0 is.at_root (first_stage owner.stage owner.stage_is owner.func_is) is.vectorized owner.task
         written
         (kept.rule byte_address owner.task hit_there owner.owned)
 
-    one_run : IsOneRun (point_address own.boxes place) (extents_of is.box) is.plan.pure written
-    one_run = elim (all_shared.root_bytes kept.k place x y byte kept.within point small) [
+    one_run : IsOneRun (point_address compiled_contents.boxes func_index) (extents_of is.box) is.plan.pure written
+    one_run = elim (all_shared.root_bytes kept.k func_index x y byte kept.within point small) [
       | inl fixed ↦ absurd (kept.no_fixed byte_address hit_there fixed)
-      | inr owner ↦ same-run own rules place root (extents_of is.box) is.plan.pure written (by_owner owner)
+      | inr owner ↦ same-run compiled_contents rules func_index root (extents_of is.box) is.plan.pure written
+          (by_owner owner)
     ]
 
-pub writes-whole-runs : (own : CompiledContents) → IsHeld own → (pictures : List PictureContents) → judged own.pipeline.inputs pictures ≡ None
+pub writes-whole-runs : (compiled_contents : CompiledContents) → IsHeld compiled_contents → (pictures : List PictureContents) → judged compiled_contents.pipeline.inputs pictures ≡ None
     → ArePictures pictures
-    → WritesWholeRuns own (image_of own pictures)
-writes-whole-runs own rules pictures none are place is harts some_harts few_harts turns hart x y byte column row small hit =
-    one_run own rules pictures none are place is harts some_harts few_harts turns hart x y byte column row small hit
+    → WritesWholeRuns compiled_contents (image_of compiled_contents pictures)
+writes-whole-runs compiled_contents rules pictures none are place is harts some_harts few_harts turns hart x y byte column row small hit =
+    one_run compiled_contents rules pictures none are place is harts some_harts few_harts turns hart x y byte column row
+    small hit

@@ -42,16 +42,17 @@ one-address at up aside row x y =
     let both = add-mul y up row in
     omega (arith, four, both)
 
-module _ (own : CompiledContents) (rules : IsCompiled own) (pictures : List PictureContents) (none : judged own.pipeline.inputs pictures ≡ None)
+module _ (compiled_contents : CompiledContents) (rules : IsCompiled compiled_contents) (pictures : List PictureContents) (none : judged compiled_contents.pipeline.inputs pictures ≡ None)
     (are : ArePictures pictures) where
   abbrev func : ℕ
-  func = own.pipeline.output.func
+  func = compiled_contents.pipeline.output.func
 
-  abbrev box : OutputBox own.pipeline own.boxes
-  box = box_here own rules pictures none are
+  abbrev box : OutputBox compiled_contents.pipeline compiled_contents.boxes
+  box = box_here compiled_contents rules pictures none are
 
-  root : RootOutput own.pipeline own.schedule own.boxes
-  root = root_output own.pipeline own.schedule own.boxes rules.well_formed rules.accepted rules.inferred_is
+  root : RootOutput compiled_contents.pipeline compiled_contents.schedule compiled_contents.boxes
+  root = root_output compiled_contents.pipeline compiled_contents.schedule compiled_contents.boxes rules.well_formed
+      rules.accepted rules.inferred_is
 
   abbrev aside : ℕ
   aside = origin - box.own.x.low
@@ -60,17 +61,20 @@ module _ (own : CompiledContents) (rules : IsCompiled own) (pictures : List Pict
   up = origin - box.own.y.low
 
   abbrev sizes : Sizes
-  sizes = sizes_of own.pipeline own.schedule own.boxes.funcs
+  sizes = sizes_of compiled_contents.pipeline compiled_contents.schedule compiled_contents.boxes.funcs
 
-  roots-are : own.boxes.layout.roots ≡ placed (roots_at sizes) sizes.roots
+  roots-are : compiled_contents.boxes.layout.roots ≡ placed (roots_at sizes) sizes.roots
   unfolding laid_in
-  roots-are = ap (λ (l : Layout). l.roots) (layout_is own.pipeline own.schedule own.boxes rules.inferred_is)
+  roots-are = ap (λ (l : Layout). l.roots) (layout_is compiled_contents.pipeline compiled_contents.schedule
+      compiled_contents.boxes rules.inferred_is)
 
   starts : slice_index (placed (roots_at sizes) sizes.roots) func ≡ box.at
-  starts = ap (λ (l : List ℕ). slice_index l func) (sym roots-are) ∙ get_or_from_slice_get own.boxes.layout.roots func box.at 0 box.at_is
+  starts = ap (λ (l : List ℕ). slice_index l func) (sym roots-are) ∙ get_or_from_slice_get compiled_contents.boxes.layout.roots func box.at 0 box.at_is
 
-  module _ (x y : ℕ) (inside_x : x < own.pipeline.output.width) (inside_y : y < own.pipeline.output.height) where
-    abbrev point : RootPoint own.pipeline own.schedule own.boxes.funcs func (x + aside) (y + up)
+  module _ (x y : ℕ) (inside_x : x < compiled_contents.pipeline.output.width)
+      (inside_y : y < compiled_contents.pipeline.output.height) where
+    abbrev point : RootPoint compiled_contents.pipeline compiled_contents.schedule compiled_contents.boxes.funcs func
+        (x + aside) (y + up)
     point = record {
       standing = root.at_root.standing;
       standing_is = root.at_root.there.standing;
@@ -81,35 +85,36 @@ module _ (own : CompiledContents) (rules : IsCompiled own) (pictures : List Pict
       row = omega (arith, inside_y, box.holds.top, box.holds.bottom);
     }
 
-    lies : address_at own.pipeline own.schedule own.boxes.funcs 0 (sources.Func func) (x + aside) (y + up) ≡ box.at + 4 * (up * extent box.own.x + aside) + y
+    lies : address_at compiled_contents.pipeline compiled_contents.schedule compiled_contents.boxes.funcs 0 (sources.Func func) (x + aside) (y + up) ≡ box.at + 4 * (up * extent box.own.x + aside) + y
         * (4 * extent box.own.x) + 4 * x
     lies =
         let same = one-address box.at up aside (extent box.own.x) x y in
-        ap (λ place. address place 0 (x + aside) (y + up)) (root-place own.pipeline own.schedule own.boxes.funcs func (x + aside) (y + up) point)
+        ap (λ place. address place 0 (x + aside) (y + up)) (root-place compiled_contents.pipeline compiled_contents.schedule compiled_contents.boxes.funcs func (x + aside) (y + up) point)
         ∙ (ap (λ (start : ℕ). start + 0 * 0 + 4 * ((y + up) * extent box.own.x + (x + aside))) starts ∙ omega (arith, same))
 
     pixel-is : (small_x : x < 65536) (small_y : y < 65536)
-        → held own.boxes.funcs (pixels own.pipeline.funcs (input_planes pictures) (length own.pipeline.funcs)) func (x + aside) (y + up)
-        ≡ output_pixel own.pipeline pictures x y
+        → held compiled_contents.boxes.funcs (pixels compiled_contents.pipeline.funcs (input_planes pictures) (length compiled_contents.pipeline.funcs)) func (x + aside) (y + up)
+        ≡ output_pixel compiled_contents.pipeline pictures x y
     pixel-is small_x small_y =
-        let plane = pixels own.pipeline.funcs (input_planes pictures) (length own.pipeline.funcs) func in
+        let plane = pixels compiled_contents.pipeline.funcs (input_planes pictures)
+        (length compiled_contents.pipeline.funcs) func in
         ap (λ found. plane (word.add (corner_of (box_in found)).x (x + aside)) (word.add (corner_of (box_in found)).y (y + up))) box.is
         ∙ (ap (λ (a : ℕ). plane a (word.add (corner_word box.own.y.low) (y + up))) (from-corner box.own.x.low x (omega (arith, box.holds.rules.x.low))
         box.holds.left small_x)
         ∙ ap (plane x) (from-corner box.own.y.low y (omega (arith, box.holds.rules.y.low)) box.holds.top small_y))
 
-  module _ (few_columns : own.pipeline.output.width ≤ 65536) (few_rows : own.pipeline.output.height ≤ 65536) (state : State) (holds : HoldsPixels own.pipeline
-      own.schedule own.boxes state.text state.memory (input_planes pictures)) where
+  module _ (few_columns : compiled_contents.pipeline.output.width ≤ 65536) (few_rows : compiled_contents.pipeline.output.height ≤ 65536) (state : State) (holds : HoldsPixels compiled_contents.pipeline
+      compiled_contents.schedule compiled_contents.boxes state.text state.memory (input_planes pictures)) where
     abbrev output : Output
     output = record {
       address = box.at + 4 * (up * extent box.own.x + aside);
-      width = own.pipeline.output.width;
-      height = own.pipeline.output.height;
+      width = compiled_contents.pipeline.output.width;
+      height = compiled_contents.pipeline.output.height;
       stride =
           4 * extent box.own.x;
     }
 
-    shows : ShowsPixels own.pipeline pictures state output
+    shows : ShowsPixels compiled_contents.pipeline pictures state output
     shows = record {
       width = refl;
       height = refl;
@@ -119,5 +124,7 @@ module _ (own : CompiledContents) (rules : IsCompiled own) (pictures : List Pict
           (omega (arith, inside_y, few_rows)));
     }
 
-    pub shows-output : ShowsOutput own.pipeline pictures state (output_of own.pipeline own.boxes)
-    shows-output = subst (ShowsOutput own.pipeline pictures state) (sym (output_is own rules pictures none are)) shows
+    pub shows-output : ShowsOutput compiled_contents.pipeline pictures state
+        (output_of compiled_contents.pipeline compiled_contents.boxes)
+    shows-output = subst (ShowsOutput compiled_contents.pipeline pictures state)
+        (sym (output_is compiled_contents rules pictures none are)) shows

@@ -13,7 +13,7 @@ use Rattle.schedule.specs.declared.schedules.Schedule.{Schedule}
 use Rattle.bounds.specs.declared.verdict.Boxes.{Boxes}
 use Rattle.loader.specs.Image.{ImageContents}
 use Rattle.work_sharing.specs.Turns.{gate_word, Name, last_writer}
-use Rattle.bounds.specs.Stages.{StagePlace, stages, iterations, writes}
+use Rattle.bounds.specs.Stages.{StagePosition, stages, iterations, writes}
 use Rattle.bounds.specs.Extents.{point_address}
 use Rattle.hrv_compiler.specs.Correct.{opening}
 
@@ -24,14 +24,15 @@ byte_of_point boxes func x y byte = point_address boxes func x y + byte
 module _ (pipeline : Pipeline) (schedule : Schedule) (boxes : Boxes) (pictures : List PictureContents) where
   -- In these turns each byte of the points that an iteration of the stage writes was last written by the hart that the iteration is assigned
   -- to.
-  abbrev pub WrittenAs : StagePlace → (ℕ → ℕ) → State → List ℕ → Type 0
+  abbrev pub WrittenAs : StagePosition → (ℕ → ℕ) → State → List ℕ → Type 0
   WrittenAs stage assigned begin turns =
       (iteration x y byte : ℕ) → iteration < iterations pipeline schedule boxes stage
       → writes pipeline schedule boxes (input_planes pictures) stage iteration x y ≡ true → byte < 4
       → last_writer (byte_of_point boxes stage.func x y byte) None begin turns ≡ Some (assigned iteration)
 
   -- That holds up to the first place where the phase's gate word is full: `before` are the turns up to there.
-  pub record DoneBy (stage : StagePlace) (phase : ℕ) (assigned : ℕ → ℕ) (begin : State) (turns : List ℕ) : Type 0 where
+  pub record DoneBy (stage : StagePosition) (phase : ℕ) (assigned : ℕ
+      → ℕ) (begin : State) (turns : List ℕ) : Type 0 where
     pub before : List ℕ
     pub after : List ℕ
     pub split : turns ≡ before ++ after
@@ -45,11 +46,11 @@ module _ (pipeline : Pipeline) (schedule : Schedule) (boxes : Boxes) (pictures :
     pub turns : List ℕ
     pub named : Name harts turns
     pub finished : all_finished (run (opening image harts) turns) ≡ true
-    pub earlier : (phase : ℕ) (stage : StagePlace) → slice_get (stages pipeline schedule boxes) phase ≡ Some stage
+    pub earlier : (phase : ℕ) (stage : StagePosition) → slice_get (stages pipeline schedule boxes) phase ≡ Some stage
         → suc phase < length (stages pipeline schedule boxes)
         → DoneBy stage phase (assigned phase) (opening image harts) turns
     -- the last one has no gate
-    pub last : (phase : ℕ) (stage : StagePlace) → slice_get (stages pipeline schedule boxes) phase ≡ Some stage → suc phase
+    pub last : (phase : ℕ) (stage : StagePosition) → slice_get (stages pipeline schedule boxes) phase ≡ Some stage → suc phase
         ≡ length (stages pipeline schedule boxes)
         → WrittenAs stage (assigned phase) (opening image harts) turns
 

@@ -39,7 +39,7 @@ ShowsOutput pipeline pictures state (Some output) = ShowsPixels pipeline picture
 abbrev pub opening : ImageContents → ℕ → State
 opening image harts = opened image.entry image.words image.bytes harts
 
--- So many harts, which share the work of so many phases by the words of control.
+-- This many harts, which share the work of this many phases by the words of control.
 pub record IsCorrect (pipeline : Pipeline) (pictures : List PictureContents) (phases : ℕ) (image : ImageContents) (harts : ℕ) : Type 0 where
   -- no hart traps
   pub never_traps : (turns : List ℕ) → NoTrap (run (opening image harts) turns)
@@ -50,8 +50,8 @@ pub record IsCorrect (pipeline : Pipeline) (pictures : List PictureContents) (ph
       → ShowsOutput pipeline pictures (run (opening image harts) turns) image.output
   -- from everywhere, further turns of these harts make all finish
   pub can_finish : (turns : List ℕ) → (more : List ℕ) × Name harts more × (all_finished (run (opening image harts) (turns ++ more)) ≡ true)
-  -- and after any turns so many rounds, in each of which every hart has at least one turn, make all finish; the count depends on the image and on
-  -- the number of harts, and not on the turns
+  -- and after any turns this many rounds, in each of which every hart has at least one turn, make all finish; the count
+  -- depends on the image and on the number of harts, and not on the turns
   pub fair_ends : (count : ℕ)
       × ((turns : List ℕ) (rounds : List (List ℕ)) → are_rounds harts rounds ≡ true → count ≤ length rounds
       → all_finished (run (opening image harts) (turns ++ concat rounds)) ≡ true)

@@ -45,11 +45,11 @@ image_data layout inputs pictures = padded layout.size (data_front layout inputs
 
 -- Text and entry depend on the program alone.
 abbrev pub image_of : CompiledContents → List PictureContents → ImageContents
-image_of own pictures = record {
+image_of compiled_contents pictures = record {
   entry = text_start;
-  words = own.words;
-  bytes = image_data own.boxes.layout own.pipeline.inputs pictures;
-  output = output_of own.pipeline own.boxes;
+  words = compiled_contents.words;
+  bytes = image_data compiled_contents.boxes.layout compiled_contents.pipeline.inputs pictures;
+  output = output_of compiled_contents.pipeline compiled_contents.boxes;
 }
 
 -- They keep the limits of pictures.

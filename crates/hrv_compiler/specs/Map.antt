@@ -14,18 +14,20 @@ pub use Rattle.hrv_map.specs.Maps.{map_text}
 
 -- The text has as many parts as there are phases, one after the other. Each draws tasks at the ticket word of its phase and waits at its gate
 -- (`phase_code`), and the ends are theirs.
-pub record ArePhases (own : CompiledContents) : Type 0 where
+pub record ArePhases (compiled_contents : CompiledContents) : Type 0 where
   pub parts : List Part
-  pub as_many : length parts ≡ own.boxes.layout.phases
-  pub are_words : Emits [] own.words (program 0 parts)
-  pub ends_are : own.ends ≡ ends_from 0 0 parts
+  pub as_many : length parts ≡ compiled_contents.boxes.layout.phases
+  pub are_words : Emits [] compiled_contents.words (program 0 parts)
+  pub ends_are : compiled_contents.ends ≡ ends_from 0 0 parts
 
 -- What an image of these words and of any pictures that are asked for does is what is promised of each image that is made: so the words are of a
 -- right program, whose code draws the tasks of its phases and uses the layout.
-pub record AreImagesRight (own : CompiledContents) (pictures : List PictureContents) : Type 0 where
-  pub correct : Correct own.pipeline pictures own.boxes.layout.phases (image_of own pictures)
-  pub assigned : IsAssigned own.pipeline own.schedule own.boxes pictures (image_of own pictures)
-  pub runs : WritesWholeRuns own (image_of own pictures)
+pub record AreImagesRight (compiled_contents : CompiledContents) (pictures : List PictureContents) : Type 0 where
+  pub correct : Correct compiled_contents.pipeline pictures compiled_contents.boxes.layout.phases
+      (image_of compiled_contents pictures)
+  pub assigned : IsAssigned compiled_contents.pipeline compiled_contents.schedule compiled_contents.boxes pictures
+      (image_of compiled_contents pictures)
+  pub runs : WritesWholeRuns compiled_contents (image_of compiled_contents pictures)
 
 abbrev pub AreAllRight : CompiledContents → Type 0
-AreAllRight own = (pictures : List PictureContents) → judged own.pipeline.inputs pictures ≡ None → ArePictures pictures → AreImagesRight own pictures
+AreAllRight compiled_contents = (pictures : List PictureContents) → judged compiled_contents.pipeline.inputs pictures ≡ None → ArePictures pictures → AreImagesRight compiled_contents pictures

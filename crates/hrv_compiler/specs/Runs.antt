@@ -19,13 +19,14 @@ use Rattle.hrv_compiler.specs.Assigned.{byte_of_point}
 use Rattle.hrv_compiler.specs.Compiled.{CompiledContents}
 use Rattle.hrv_compiler.specs.Correct.{opening}
 
-module _ (own : CompiledContents) where
+module _ (compiled_contents : CompiledContents) where
   -- The Func at a place is computed at root and has no updates, and the innermost loop of its pure definition is vectorized.
-  pub record IsInVectors (place : ℕ) : Type 0 where
+  pub record IsInVectors (func_index : ℕ) : Type 0 where
     pub func : Func
     pub plan : FuncPlan
     pub box : SourceBox
-    pub at_root : IsAtRoot own.pipeline own.schedule own.boxes place func plan box
+    pub at_root : IsAtRoot compiled_contents.pipeline compiled_contents.schedule compiled_contents.boxes func_index func
+        plan box
     pub no_updates : func.updates ≡ []
     pub vectorized : is_vectorized_first plan.pure.loops ≡ true
 
@@ -33,7 +34,8 @@ module _ (own : CompiledContents) where
   -- box, it writes one run.
   abbrev pub WritesWholeRuns : ImageContents → Type 0
   WritesWholeRuns image =
-      (place : ℕ) (is : IsInVectors place) (harts : ℕ)
+      (func_index : ℕ) (is : IsInVectors func_index) (harts : ℕ)
       → 0 < harts → harts ≤ 8 → (turns : List ℕ) (hart x y byte : ℕ) → x < extent is.box.x → y < extent is.box.y → byte < 4
-      → is_in (byte_of_point own.boxes place x y byte) (written_next (run (opening image harts) turns) hart) ≡ true
-      → IsOneRun (point_address own.boxes place) (extents_of is.box) is.plan.pure (written_next (run (opening image harts) turns) hart)
+      → is_in (byte_of_point compiled_contents.boxes func_index x y byte)
+      (written_next (run (opening image harts) turns) hart) ≡ true
+      → IsOneRun (point_address compiled_contents.boxes func_index) (extents_of is.box) is.plan.pure (written_next (run (opening image harts) turns) hart)

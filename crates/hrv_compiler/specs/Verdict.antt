@@ -1,4 +1,4 @@
--- Why an algorithm under a schedule isn't compiled: the first fault that stands. Judged are, in this order, the algorithm's text, the
+-- Why an algorithm under a schedule isn't compiled: the first fault that there is. Judged are, in this order, the algorithm's text, the
 -- schedule's, how heavy the schedule is, the boxes, and how many registers expressions need.
 -- This project's own.
 use Rattle.std.specs.Prelude.{◌≡◌, ◌⊎◌, ℕ, nat_lt, if◌then◌else◌, List, Option, Some, None, Result, Ok, Err}
@@ -22,14 +22,14 @@ use Rattle.hrv_compiler.specs.declared.faults.CompileFault.TheVariants as faults
 use Rattle.hrv_compiler.specs.Compiled.{CompiledContents}
 
 abbrev pub by_needs : StageNeeds → Option CompileFault
-by_needs own = if is_too_deep own then Some faults.TooDeep else None
+by_needs own_stage_needs = if is_too_deep own_stage_needs then Some faults.TooDeep else None
 
 abbrev pub by_boxes : Pipeline → Schedule → Result Boxes BoundsFault → Option CompileFault
 by_boxes pipeline schedule (Ok boxes) = by_needs (needs pipeline schedule)
 by_boxes pipeline schedule (Err fault) = Some (faults.Bounds fault)
 
 abbrev pub by_weight : Pipeline → Schedule → ℕ → Option CompileFault
-by_weight pipeline schedule own = if nat_lt most_weight own then Some (faults.Lower weights.TooHeavy) else by_boxes pipeline schedule
+by_weight pipeline schedule func_index = if nat_lt most_weight func_index then Some (faults.Lower weights.TooHeavy) else by_boxes pipeline schedule
     (inferred pipeline schedule)
 
 abbrev pub by_schedule : Pipeline → Result Schedule (ℕ × ScheduleFault) → Option CompileFault
@@ -44,19 +44,19 @@ by_algorithm schedule (Err fault) = Some (faults.Parse fault.0 fault.1)
 unfoldable pub refusal_of : Global → List ℕ → List ℕ → Option CompileFault
 refusal_of alloc algorithm schedule = by_algorithm schedule (parsed alloc algorithm)
 
--- The fault stands first, or memory ran out.
+-- The fault is first, or memory ran out.
 abbrev pub IsFirst : Option CompileFault → CompileFault → Type 0
 IsFirst wanted fault = (wanted ≡ Some fault) ⊎ (fault ≡ faults.Memory)
 
 -- ---- What two texts mean: a pipeline, and a schedule that is accepted for it, for which boxes are inferred.
 
 -- The schedule was accepted for the pipeline, and the boxes were inferred for both.
-pub record IsCompiled (own : CompiledContents) : Type 0 where
-  pub well_formed : IsWellFormed own.pipeline
-  pub accepted : IsAccepted own.pipeline own.schedule
-  pub inferred_is : inferred own.pipeline own.schedule ≡ Ok own.boxes
+pub record IsCompiled (compiled_contents : CompiledContents) : Type 0 where
+  pub well_formed : IsWellFormed compiled_contents.pipeline
+  pub accepted : IsAccepted compiled_contents.pipeline compiled_contents.schedule
+  pub inferred_is : inferred compiled_contents.pipeline compiled_contents.schedule ≡ Ok compiled_contents.boxes
 
 -- It is what these texts mean.
-pub record Means (alloc : Global) (algorithm schedule : List ℕ) (own : CompiledContents) : Type 0 where
-  pub algorithm_is : parsed alloc algorithm ≡ Ok own.pipeline
-  pub schedule_is : read own.pipeline schedule ≡ Ok own.schedule
+pub record Means (alloc : Global) (algorithm schedule : List ℕ) (compiled_contents : CompiledContents) : Type 0 where
+  pub algorithm_is : parsed alloc algorithm ≡ Ok compiled_contents.pipeline
+  pub schedule_is : read compiled_contents.pipeline schedule ≡ Ok compiled_contents.schedule

@@ -77,7 +77,6 @@ impl Model for Compiled {
     }) };
 }
 
-/// Written out, so that a check sees a call wherever one is dropped, and not the drops of its parts.
 impl Drop for Compiled {
     fn drop(self) {
         let Compiled {
@@ -95,12 +94,12 @@ impl Drop for Compiled {
 }
 
 /// The output's picture in a box that begins at an address.
-fn output_in(at: u64, own: &SourceBox, width: u32, height: u32) -> Output
-    requires { Holds at own.now width height }
-    ensures { Some result ≡ output_in at (Some own.now) width height }
+fn output_in(at: u64, source_box: &SourceBox, width: u32, height: u32) -> Output
+    requires { Holds at source_box.now width height }
+    ensures { Some result ≡ output_in at (Some source_box.now) width height }
 {
-    let row = u64::from(extents_of(own).first_argument);
-    let first = (ORIGIN - own.y.low) * row + (ORIGIN - own.x.low);
+    let row = u64::from(extents_of(source_box).first_argument);
+    let first = (ORIGIN - source_box.y.low) * row + (ORIGIN - source_box.x.low);
     Output {
         address: (at + 4 * first) as u32,
         width,
@@ -125,8 +124,8 @@ impl Compiled {
     /// On every list that says which hart makes the next turn, no hart traps, none race but on the words of
     /// [`Compiled::control`], and wherever all have finished the output is the algorithm's (`specs/Correct.antt`).
     /// From everywhere some turns make all finish, and for each number of harts there is a count of rounds, in each of
-    /// which every hart has a turn, such that after any turns so many rounds make all finish. No gate word falls, each
-    /// hart writes each one once at most, and a hart that is given turns alone finishes or waits at a gate. Every
+    /// which every hart has a turn, such that after any turns this many rounds make all finish. No gate word falls,
+    /// each hart writes each one once at most, and a hart that is given turns alone finishes or waits at a gate. Every
     /// assignment of iterations to harts is reached by some list (`specs/Assigned.antt`); the stages that these are of
     /// are as many as phases. Where the innermost loop of a Func at root without updates is vectorized, a turn that
     /// writes a point of the Func writes one run of that loop, and nothing else (`specs/Runs.antt`).

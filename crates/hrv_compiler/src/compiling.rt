@@ -29,7 +29,7 @@ use task_code_scalar::CodeFault;
 use task_code_scalar::layouts::Places;
 use vector_codegen_laws::{Program, generate};
 
-/// The boxes of a pipeline under a schedule, or the first fault that stands.
+/// The boxes of a pipeline under a schedule, or the first fault that there is.
 fn judged(alloc: Global, pipeline: &Pipeline, schedule: &Schedule) -> Result<Boxes, CompileFault>
     requires { IsAccepted pipeline.now schedule.now }
     ensures ok { IfOk result (λ boxes. inferred pipeline.now schedule.now ≡ Ok boxes) }
@@ -81,7 +81,7 @@ fn words_of(alloc: Global, plan: &Plan<'_>) -> Result<Program, CompileFault>
     Ok(program)
 }
 
-/// The program of a pipeline under a schedule, or the first fault that stands.
+/// The program of a pipeline under a schedule, or the first fault that there is.
 fn built(alloc: Global, pipeline: Pipeline, schedule: Schedule) -> Result<Compiled, CompileFault>
     requires { IsAccepted pipeline schedule }
     ensures pipeline { IfOk result (λ own. own.pipeline ≡ pipeline) }
@@ -105,7 +105,7 @@ fn built(alloc: Global, pipeline: Pipeline, schedule: Schedule) -> Result<Compil
     })
 }
 
-/// The program of an algorithm under a schedule: exactly where no fault stands, and else the first fault
+/// The program of an algorithm under a schedule: exactly where no fault is, and else the first fault
 /// (`specs/Verdict.antt`).
 ///
 /// # Errors

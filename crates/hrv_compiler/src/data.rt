@@ -107,7 +107,7 @@ fn push_inputs(
     Ok(())
 }
 
-/// So many zeros, or as many as are appended at once.
+/// This many zeros, or as many as are appended at once.
 fn zeros(count: usize) -> &'static [u8]
     ensures { result.now ≡ replicate (min count 4096) 0 }
 {
@@ -115,7 +115,7 @@ fn zeros(count: usize) -> &'static [u8]
     &ZEROS[..count.min(ZEROS.len())]
 }
 
-/// Puts zeros after bytes, up to so many.
+/// Puts zeros after bytes, up to this many.
 fn pad(bytes: &mut Vec<u8>, size: usize) -> Result<(), AllocError>
     requires { length bytes.old.items ≤ size }
     ensures { OnOk result (bytes.new.items ≡ padded size bytes.old.items) }

@@ -67,26 +67,31 @@ fn nowhere() -> BufferLayout
 }
 
 /// How many bytes a copy of a box has.
-fn copy_bytes(own: &SourceBox) -> u32
-    requires rules { IsBox own.now }
-    requires few { points own.now ≤ most_points }
-    ensures { result ≡ 4 * points own.now }
+fn copy_bytes(source_box: &SourceBox) -> u32
+    requires rules { IsBox source_box.now }
+    requires few { points source_box.now ≤ most_points }
+    ensures { result ≡ 4 * points source_box.now }
 {
-    4 * points(own) as u32
+    4 * points(source_box) as u32
 }
 
-fn func_place(place: ComputeLevel, own: &Option<SourceBox>, root: u64, private: u64) -> BufferLayout
-    requires rules { IsBoxOrNone own.now }
-    requires few { HasFewPoints own.now }
+fn func_place(
+    level: ComputeLevel,
+    source_box: &Option<SourceBox>,
+    root: u64,
+    private: u64,
+) -> BufferLayout
+    requires rules { IsBoxOrNone source_box.now }
+    requires few { HasFewPoints source_box.now }
     requires root { IsAddress root }
     requires private { IsAddress private }
-    ensures { result ≡ spec.func_place place own.now root private }
+    ensures { result ≡ spec.func_place level source_box.now root private }
 {
-    let Some(own) = own else {
+    let Some(source_box) = source_box else {
         return nowhere();
     };
-    let width = extents_of(own).first_argument;
-    match place {
+    let width = extents_of(source_box).first_argument;
+    match level {
         ComputeLevel::Root => BufferLayout {
             start: root as u32,
             width,
@@ -96,7 +101,7 @@ fn func_place(place: ComputeLevel, own: &Option<SourceBox>, root: u64, private: 
         ComputeLevel::At(_) => BufferLayout {
             start: private as u32,
             width,
-            distance: copy_bytes(own),
+            distance: copy_bytes(source_box),
             pixels: Pixels::Words,
         },
         ComputeLevel::Inlined | ComputeLevel::Nowhere => nowhere(),

@@ -194,7 +194,7 @@ no_line_ends : is_of_tokens 10 ≡ true → ⊥
 unfolding is_of_tokens
 no_line_ends e = cc
 
--- the tokens after one that was read, with so many steps left
+-- the tokens after one that was read, with this many steps left
 abbrev then : ℕ → Result (Token × List ℕ) ParseFault → Result (List Token) ParseFault
 then count found = found >>= λ first. tokens_from count first.1 >>= λ others. Ok (first.0 ∷ others)
 

@@ -37,7 +37,7 @@ separator-row_in marks output y (suc x) =
     ∙ separator-more (row_in marks output y x) (mark_in marks output x y)
     ∙ ap (λ is_first. if is_first then [] else codes " ") (sym (eqb-suc-zero x))
 
--- the numbers of the first so many marks of a row
+-- the numbers of the first this many marks of a row
 abbrev pub numbers_in : List ℕ → Output → ℕ → ℕ → List ℕ
 numbers_in marks output y x = join_with_byte 32 (map number_text (row_in marks output y x))
 

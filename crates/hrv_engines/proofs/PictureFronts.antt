@@ -1,5 +1,5 @@
--- A front of a picture with more bytes than any has decides its fault: each part of a picture is read from so many bytes, and where there
--- are more, what stands after them changes nothing.
+-- A front of a picture with more bytes than any has decides its fault: each part of a picture is read from this many
+-- bytes, and where there are more, what is after them changes nothing.
 use Rattle.std.proofs.Common.{◌≡◌, ◌∙◌, ◌<◌, ◌≤◌, ◌+◌, ◌-◌, ◌*◌, ◌^◌, ◌%◌, ◌&&◌, ℕ, zero, suc, Bool, true, false, cond, not, nat_lt, nat_le, nat_eq, List, []}
 use Rattle.std.proofs.Common.{◌∷◌, ◌++◌, length, take, drop, fold, codes, Option, Some, None, Result, Ok, Err, arith, refl, sym, ap, ap₂, subst, inl, inr}
 use Rattle.std.specs.Prelude.{◌==◌}
@@ -22,9 +22,9 @@ use Rattle.picture.specs.Reading.{pixel_of, pixel_then, pixels_at, plain_at, sep
 use Rattle.picture.proofs.Numerals.{cond-Ok, decimal-decimal_number, then-Ok}
 use Rattle.hrv_engines.specs.Devices.{most_picture_bytes}
 
--- ---- readers of so many bytes
+-- ---- readers of this many bytes
 
--- of a text and of a longer one that begins with it, the same is read, from at most so many bytes
+-- of a text and of a longer one that begins with it, the same is read, from at most this many bytes
 abbrev Same : {A : Type 0} → ℕ → List ℕ → List ℕ → Read A → Read A → Type 0
 Same most text rest (Err f) longer = longer ≡ Err f
 Same most text rest (Ok read) longer = (longer ≡ Ok (read.0, read.1 ++ rest)) × (length text ≤ length read.1 + most)

@@ -112,7 +112,7 @@ row-at state output y (suc n) x l =
           ∙ ap (λ k. pixel state output k y) (sym here)
     ]
 
--- the pixels of the first so many rows
+-- the pixels of the first this many rows
 abbrev flat : State → Output → ℕ → List ℕ
 flat state output zero = []
 flat state output (suc y) = flat state output y ++ row state output y output.width

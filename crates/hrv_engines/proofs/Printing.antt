@@ -40,7 +40,7 @@ pub vector_lines-more : (hart : HartState) (v : ℕ) → vector_lines hart (v + 
 unfolding vector_lines
 vector_lines-more hart v = rw add-one refl
 
--- what stands after texts before one more
+-- what is after texts before one more
 abbrev pub separator : List (List ℕ) → List ℕ
 separator [] = []
 separator (text ∷ texts) = 32 ∷ []
@@ -71,7 +71,7 @@ separator-row state output y (suc x) =
     ∙ separator-more (row state output y x) (pixel state output x y)
     ∙ ap (λ is_first. if is_first then [] else codes " ") (sym (eqb-suc-zero x))
 
--- the numbers of the first so many pixels of a row
+-- the numbers of the first this many pixels of a row
 abbrev pub numbers : State → Output → ℕ → ℕ → List ℕ
 numbers state output y x = join_with_byte 32 (map number_text (row state output y x))
 

@@ -45,7 +45,7 @@ get-last (x ∷ xs) y = get-last xs y
 same : {X : Type 0} (x y : X) → Some x ≡ Some y → x ≡ y
 same x y e = cc
 
--- ---- so many sources gave their texts, and the others are as they were
+-- ---- this many sources gave their texts, and the others are as they were
 
 pub record GaveFirst {S : Type 0} (gave : S → List ℕ → S → Type 0) (first : List S) (texts : List (List ℕ)) (now : List S) (count : ℕ) : Type 0 where
   pub as_many : length texts ≡ count

@@ -15,7 +15,7 @@ HasNo mark bytes = AllByRecursion (λ byte. byte ≢ mark) bytes
 abbrev pub before : ℕ → List ℕ → ℕ
 before mark bytes = prefix_len (λ byte. not (byte == mark)) bytes
 
--- what stands before the first mark, and what stands from it on
+-- what is before the first mark, and what is from it on
 pub record Cut (mark : ℕ) (front rest : List ℕ) : Type 0 where
   pub clean : HasNo mark front
   pub first : (byte : ℕ) (others : List ℕ) → rest ≡ byte ∷ others → byte ≡ mark

@@ -59,7 +59,7 @@ begins_none bytes count is long rest text =
     let found = by_chars text.0 bytes rest text.1.0 text.1.1 in
     is.longest found.count (omega (arith, found.near, long)) found.within found.front
 
--- after a text stands a text, where both are one
+-- after a text is a text, where both are one
 pub behind_text : (front rest : List ℕ) → IsUtf8 front → IsUtf8 (front ++ rest) → IsUtf8 rest
 behind_text front rest is whole =
     let taken : IsUtf8 (take (length front) (front ++ rest)) = subst IsUtf8 (sym (take-append_seam front rest)) is in

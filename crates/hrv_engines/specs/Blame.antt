@@ -60,13 +60,13 @@ word_text begin turns word = last_text begin.text (option_map (write_at begin tu
 
 -- ---- all pixels
 
--- the marks of the first so many pixels of a row
+-- the marks of the first this many pixels of a row
 unfoldable pub marks_row : Marking → State → List ℕ → Output → ℕ → ℕ → List ℕ
 marks_row marking begin turns output y zero = []
 marks_row marking begin turns output y (suc x) =
     marks_row marking begin turns output y x ++ mark_at marking begin turns (pixel_address output x y) ∷ []
 
--- of the first so many rows
+-- of the first this many rows
 unfoldable pub marks_rows : Marking → State → List ℕ → Output → ℕ → List ℕ
 marks_rows marking begin turns output zero = []
 marks_rows marking begin turns output (suc y) =

@@ -50,7 +50,7 @@ pixel_of output None y = Err Number
 pixel_of output (Some x) None = Err Number
 pixel_of output (Some x) (Some y) = pixel_in output x y
 
--- a word of data, of which there are so many bytes
+-- a word of data, of which there are this many bytes
 abbrev pub is_data_word : ℕ → ℕ → Bool
 is_data_word bytes address = address % 4 == 0 && nat_le data_start address && nat_le (address + 4) (data_start + bytes)
 
@@ -68,7 +68,7 @@ asked_of image x y address with_turns = Err Words
 abbrev pub wanted_of : ImageContents → Given → Result BlameQuestion BlameFault
 wanted_of image given = asked_of image given.x given.y given.address given.with_turns
 
--- an output lies in data, of which there are so many bytes
+-- an output lies in data, of which there are this many bytes
 pub record LiesInData (output : Output) : Type 0 where
   pub bytes : ℕ
   pub few : bytes ≤ most_bytes

@@ -10,7 +10,7 @@ use Rattle.hrv_engines.specs.declared.commands.Command.TheVariants.{Goto, Next, 
 
 -- ---- words
 
--- the words of a line: what stands before, between and after its spaces (32), so one more than there are spaces
+-- the words of a line: what is before, between and after its spaces (32), so one more than there are spaces
 unfoldable pub words_of : List ℕ → List (List ℕ)
 words_of [] = [] ∷ []
 words_of (byte ∷ line) = if byte == 32 then [] ∷ words_of line else joined byte (words_of line)

@@ -30,7 +30,7 @@ first_fault alloc texts = refusal_of alloc texts.0.0 texts.0.1
 
 -- ---- what is compiled
 
--- The texts mean a program, in which no fault stands, and pictures that it asks for; the bytes spell its image of them in the second
+-- The texts mean a program, in which no fault is, and pictures that it asks for; the bytes spell its image of them in the second
 -- format. On every list of turns that image leaves the algorithm's pixels, its work can be shared in each way, and vectorized loops write
 -- whole runs.
 pub record IsCompilation (alloc : Global) (texts : Texts) (bytes : List ℕ) : Type 0 where
@@ -49,11 +49,11 @@ pub record IsCompilation (alloc : Global) (texts : Texts) (bytes : List ℕ) : T
 
 -- ---- what is refused
 
--- The fault of an algorithm and a schedule is the first that stands.
+-- The fault of an algorithm and a schedule is the first that is.
 abbrev pub IsFault : Global → Texts → CompileFault → Type 0
 IsFault alloc texts fault = first_fault alloc texts ≡ Some fault
 
--- No fault stands in an algorithm and a schedule, and the inputs are refused: one is no picture, or they aren't what is asked for.
+-- No fault is in an algorithm and a schedule, and the inputs are refused: one is no picture, or they aren't what is asked for.
 pub record RefusesInputs (alloc : Global) (texts : Texts) (refusal : Refusal) : Type 0 where
   pub pipeline : Pipeline
   pub is_faultless : first_fault alloc texts ≡ None

@@ -31,7 +31,7 @@ pub record Taken : Type 1 where
   -- it is as it was
   pub untouched : Type 0
 
--- a source, by its state before the call and after it, that gave all that it had, or more than so many bytes of it
+-- a source, by its state before the call and after it, that gave all that it had, or more than this many bytes of it
 abbrev pub front_of : (most : ℕ) {S : Type 0} (place : S → List ℕ) (failures : S → ℕ) (gave : S → List ℕ → S → Type 0) (ended : S → Type 0) (before after : S)
     → Sources (List ℕ)
 front_of most place failures gave ended before after = record {
@@ -41,18 +41,18 @@ front_of most place failures gave ended before after = record {
   untouched = after ≡ before;
 }
 
--- an image that loads has at most so many bytes
+-- an image that loads has at most this many bytes
 abbrev pub most_image_bytes : ℕ
 most_image_bytes = header_length Hrv2 + 4 * most_words + most_bytes
 
 -- A source of an image, which needn't be read further than it takes to refuse it: the law `long_images_are_refused_by_their_front` says that more
--- bytes than an image has are no image, and that whatever stands after them, the fault is the same.
+-- bytes than an image has are no image, and that whatever is after them, the fault is the same.
 abbrev pub image_bytes_of : {S : Type 0} (place : S → List ℕ) (failures : S → ℕ) (gave : S → List ℕ → S → Type 0) (ended : S → Type 0) (before after : S)
     → Sources (List ℕ)
 image_bytes_of = front_of most_image_bytes
 
 -- Bytes are no log, for another reason than that they end too soon. The law `logs_are_refused_by_their_front` says that they have the same
--- fault whatever stands after them.
+-- fault whatever is after them.
 abbrev pub IsNoLog : List ℕ → Type 0
 IsNoLog bytes = (fault : LogFault) × (fault ≢ Truncated) × (log_of bytes ≡ Err fault)
 
@@ -97,12 +97,12 @@ text_of place failures gave ended before after = record {
   untouched = after ≡ before;
 }
 
--- An algorithm that is accepted has at most so many bytes. The law `long_algorithms_are_refused_in_line_1` says that a longer text is refused
--- in line 1.
+-- An algorithm that is accepted has at most this many bytes. The law `long_algorithms_are_refused_in_line_1` says that
+-- a longer text is refused in line 1.
 abbrev pub most_algorithm_bytes : ℕ
 most_algorithm_bytes = 65536
 
--- A picture that is read has at most so many bytes: a heading of 32, and 12 for each pixel. The law `long_pictures_are_refused_by_their_front`
+-- A picture that is read has at most this many bytes: a heading of 32, and 12 for each pixel. The law `long_pictures_are_refused_by_their_front`
 -- says so, and that of longer ones the fault depends on a front of more bytes alone.
 abbrev pub most_picture_bytes : ℕ
 most_picture_bytes = 32 + 12 * 1048576

@@ -13,7 +13,7 @@ use Rattle.hrv_engines.specs.Run.{IsRun}
 abbrev pub drawn_log : DrawRules → ImageContents → ℕ → LogState
 drawn_log rules image harts = record { harts = harts; turns = (drawn_run rules (machine_of image harts) []).turns }
 
--- The bytes of a log and of a text are those of a run of so many harts, and the log is the one that is drawn.
+-- The bytes of a log and of a text are those of a run of this many harts, and the log is the one that is drawn.
 pub record IsDrawnRun (harts : ℕ) (rules : DrawRules) (image_bytes log_bytes text : List ℕ) : Type 0 where
   pub is_run : IsRun harts rules.limit image_bytes log_bytes text
   pub is_drawn : log_bytes ≡ spelled (drawn_log rules is_run.image harts)

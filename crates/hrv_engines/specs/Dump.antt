@@ -49,7 +49,7 @@ heading number status pc turns =
 unfoldable pub register_line : ℕ → ℕ → List ℕ
 register_line r value = if value == 0 then [] else codes "  x" ++ decimal r ++ codes " " ++ hex_word value ++ newline
 
--- the lines of the registers numbered below so many
+-- the lines of the registers numbered below this many
 unfoldable pub register_lines : HartState → ℕ → List ℕ
 register_lines hart zero = []
 register_lines hart (suc r) = register_lines hart r ++ register_line r (register hart r)
@@ -63,7 +63,7 @@ unfoldable pub vector_line : ℕ → List ℕ → List ℕ
 vector_line v bytes =
     if list_all (λ byte. byte == 0) bytes then [] else codes "  v" ++ decimal v ++ codes " " ++ hex_of bytes ++ newline
 
--- the lines of the vector registers numbered below so many
+-- the lines of the vector registers numbered below this many
 unfoldable pub vector_lines : HartState → ℕ → List ℕ
 vector_lines hart zero = []
 vector_lines hart (suc v) = vector_lines hart v ++ vector_line v (vector hart v)
@@ -72,7 +72,7 @@ unfoldable pub hart_text : ℕ → HartState → ℕ → List ℕ
 hart_text number hart turns =
     heading number hart.status hart.pc turns ++ register_lines hart 32 ++ configuration_line hart.vl hart.vtype ++ vector_lines hart 32
 
--- the harts numbered below so many, each with the count of its turns
+-- the harts numbered below this many, each with the count of its turns
 unfoldable pub hart_texts : State → List ℕ → ℕ → List ℕ
 hart_texts state turns zero = []
 hart_texts state turns (suc number) = hart_texts state turns number ++ hart_text number (hart_at state number) (count_of turns number)
@@ -83,16 +83,16 @@ hart_texts state turns (suc number) = hart_texts state turns number ++ hart_text
 abbrev pub pixel_address : Output → ℕ → ℕ → ℕ
 pixel_address output x y = output.address + y * output.stride + 4 * x
 
--- the word that stands there
+-- the word that is there
 abbrev pub pixel : State → Output → ℕ → ℕ → ℕ
 pixel state output x y = word_at state.text state.memory (pixel_address output x y)
 
--- the first so many pixels of a row
+-- the first this many pixels of a row
 unfoldable pub row : State → Output → ℕ → ℕ → List ℕ
 row state output y zero = []
 row state output y (suc x) = row state output y x ++ pixel state output x y ∷ []
 
--- the first so many rows, as a picture's text has them
+-- the first this many rows, as a picture's text has them
 unfoldable pub rows : State → Output → ℕ → List ℕ
 rows state output zero = []
 rows state output (suc y) = rows state output y ++ spelling.row_text (row state output y output.width)

@@ -10,7 +10,7 @@ use Rattle.hrv_compiler.specs.Map.{map_text}
 use Rattle.hrv_engines.specs.declared.faults.Refusal.{Refusal}
 use Rattle.hrv_engines.specs.declared.faults.Refusal.TheVariants.{Compile}
 
--- The texts mean a program, in which no fault stands. The text says where its layout has the data, which is the layout of every image of it
+-- The texts mean a program, in which no fault is. The text says where its layout has the data, which is the layout of every image of it
 -- (`image_of`), and which of its words, which every image of it has, are the code of which phase; and, of some of a phase's words, of which stage
 -- inside it. All these images do what is promised of compiled images. (That what is stored for the same texts has these words is no clause: both
 -- commands ask the same call for them.)
@@ -23,6 +23,6 @@ pub record IsMap (alloc : Global) (texts : List ℕ × List ℕ) (text : List �
   pub are_right : AreAllRight program
   pub is_text : text ≡ map_text texts.0 program.pipeline program.schedule program.boxes program.ends program.stages
 
--- They are refused as they are to be compiled: by the first fault that stands.
+-- They are refused as they are to be compiled: by the first fault that there is.
 abbrev pub IsRefusedMap : Global → List ℕ × List ℕ → Refusal → Type 0
 IsRefusedMap alloc texts refusal = (fault : CompileFault) × (refusal ≡ Compile fault) × (refusal_of alloc texts.0 texts.1 ≡ Some fault)

@@ -19,11 +19,11 @@ use Rattle.hrv_engines.specs.declared.faults.Refusal.TheVariants.{Load, Log, Bla
 
 -- ---- the words that are left out
 
--- the texts behind references
+-- the texts after references
 abbrev pub texts_of : List (Bor (List ℕ)) → List (List ℕ)
 texts_of = map (λ text. text.now)
 
--- a word of data, of which there are so many bytes, by its address
+-- a word of data, of which there are this many bytes, by its address
 abbrev pub left_out : ℕ → Option ℕ → Result ℕ BlameFault
 left_out bytes None = Err Number
 left_out bytes (Some address) = if is_data_word bytes address then Ok address else Err NoDataWord

@@ -24,7 +24,7 @@ trap_or None Running = None
 trap_or None Finished = None
 trap_or None (Trapped trap) = Some trap
 
--- the trap of the hart with the least number, of those numbered below so many that trapped
+-- the trap of the hart with the least number, of those numbered below this many that trapped
 unfoldable pub trap_below : State → ℕ → Option Trap
 trap_below state zero = None
 trap_below state (suc hart) = trap_or (trap_below state hart) (hart_at state hart).status
@@ -66,7 +66,7 @@ pub record IsRecordOf (limit : ℕ) (image_bytes log_bytes record_bytes : List �
 
 -- ---- how a run that left a log ended
 
--- so many harts, and this ending
+-- this many harts, and this ending
 pub record IsEnd (image : ImageContents) (log_bytes : List ℕ) (end : RunEnd) : Type 0 where
   pub log : LogState
   pub is_log : log_of log_bytes ≡ Ok log

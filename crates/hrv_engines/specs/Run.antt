@@ -23,7 +23,7 @@ pub record IsRunFrom (image : ImageContents) (image_bytes : List ℕ) (old : Log
   pub is_spelled : log_bytes ≡ spelled log
   pub is_replay : IsReplay (image_bytes, log_bytes) text
 
--- the same of the bytes of an image, from its start, with so many harts
+-- the same of the bytes of an image, from its start, with this many harts
 pub record IsRun (harts limit : ℕ) (image_bytes log_bytes text : List ℕ) : Type 0 where
   pub image : ImageContents
   pub is_image : image_of image_bytes ≡ Ok image

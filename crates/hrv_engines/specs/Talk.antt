@@ -42,7 +42,7 @@ refusal_text refusal = codes "refused " ++ decimal (unwrap_or (number_of refusal
 
 -- ---- places to go to
 
--- the least place of so many, from this one on, at which a mark stops
+-- the least place of this many, from this one on, at which a mark stops
 unfoldable pub first_stop : SessionState → ℕ → ℕ → Option ℕ
 first_stop session place zero = None
 first_stop session place (suc others) = if stops session place then Some place else first_stop session (suc place) others
@@ -78,7 +78,7 @@ abbrev pub marked : SessionState → Result SessionState SessionRefusal → Answ
 marked session (Ok next) = says ok_text next
 marked session (Err refusal) = says (refusal_text refusal) session
 
--- an address of 2 ^ 32 or more is refused as any other at which no word stands
+-- an address of 2 ^ 32 or more is refused as any other at which no word is
 abbrev pub if_address : {A : Type 0} → ℕ → Result A SessionRefusal → Result A SessionRefusal
 if_address address answer = if nat_lt address (2 ^ 32) then answer else Err Address
 
@@ -101,7 +101,7 @@ vector_text session hart number =
 unfoldable pub hart_line : ℕ → HartState → List ℕ
 hart_line number hart = codes "hart " ++ decimal number ++ codes " " ++ status_text hart.status ++ codes " pc " ++ hex_word hart.pc ++ newline
 
--- the lines of the harts numbered below so many
+-- the lines of the harts numbered below this many
 unfoldable pub hart_lines : State → ℕ → List ℕ
 hart_lines state zero = []
 hart_lines state (suc number) = hart_lines state number ++ hart_line number (hart_at state number)

@@ -38,7 +38,7 @@ abbrev pub some_word : Result ℕ BlameFault → Result (Option ℕ) BlameFault
 some_word (Ok word) = Ok (Some word)
 some_word (Err fault) = Err fault
 
--- the word, if one is given, by its address, where there are so many bytes of data
+-- the word, if one is given, by its address, where there are this many bytes of data
 abbrev pub word_asked : ℕ → Option (List ℕ) → Result (Option ℕ) BlameFault
 word_asked bytes None = Ok None
 word_asked bytes (Some text) = some_word (left_out bytes (number_of text))
@@ -50,7 +50,7 @@ abbrev pub wanted_at : TurnsAsked → Result (Option ℕ) BlameFault → Result 
 wanted_at asked (Ok word) = Ok (wanted_by asked word)
 wanted_at asked (Err fault) = Err fault
 
--- what is wanted of a log, where there are so many bytes of data, or why nothing is
+-- what is wanted of a log, where there are this many bytes of data, or why nothing is
 abbrev pub turns_wanted : ℕ → TurnsAsked → Result TurnsWanted BlameFault
 turns_wanted bytes asked = wanted_at asked (word_asked bytes asked.address)
 

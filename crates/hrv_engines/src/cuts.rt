@@ -3,7 +3,7 @@
 ghost use Rattle.std.specs.Prelude.{◌≡◌, ◌≢◌, ◌≤◌, ◌<◌, ◌==◌, not, ◌++◌, ◌∷◌, length, IfSome, MatchOption};
 ghost use Rattle.std.specs.List.{AllByRecursion, prefix_len};
 
-/// What stands before the first such byte, and what follows it; nothing where there is no such byte.
+/// What is before the first such byte, and what follows it; nothing where there is no such byte.
 pub fn cut_at(bytes: &[u8], mark: u8) -> Option<(&[u8], &[u8])>
     ensures parts { MatchOption result (AllByRecursion (λ byte. byte ≢ mark) bytes.now)
         (λ found. (bytes.now ≡ found.0.now ++ mark ∷ found.1.now) × AllByRecursion (λ byte. byte ≢ mark) found.0.now) }

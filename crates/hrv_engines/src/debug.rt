@@ -86,6 +86,6 @@ fn hold_talk<C: Source, O: Sink>(
             return Ok(());
         }
     }
-    // No source gives so many pieces.
+    // No source gives this many pieces.
     Err(Fault::Memory)
 }

@@ -86,7 +86,7 @@ pub trait Sink {
         ensures grew { OnErr result (failed self.old < failed self.new) }
         ensures path { place self.new ≡ place self.old };
 
-    /// Makes whole what was written so far, so that it stands at the path. Where that fails, it counts as a write that
+    /// Makes whole what was written so far, so that it is at the path. Where that fails, it counts as a write that
     /// failed.
     fn finish(&mut self) -> io::Result<()>
         requires { failed self.old + 1 < 2 ^ 64 }
@@ -102,8 +102,8 @@ pub trait Sink {
     ghost took_more: { (s t u : Self) (xs ys : List ℕ) → took s xs t → took t ys u → took s (xs ++ ys) u };
 }
 
-/// Reads what a source has left, or more than so many bytes of it, but no more than one more piece. What was read
-/// stands in memory once.
+/// Reads what a source has left, or more than this many bytes of it, but no more than one more piece. What was read
+/// is in memory once.
 fn read_past<S: Source>(alloc: Global, source: &mut S, most: usize) -> Result<Vec<u8>, Fault>
     requires { S.failed source.old + 1 < 2 ^ 64 }
     ensures reads { Reads (λ bytes. bytes.items)
@@ -150,7 +150,7 @@ pub const MOST_ALGORITHM_BYTES: usize = 65_536;
 /// each.
 pub const MOST_PICTURE_BYTES: usize = 32 + 12 * 1_048_576;
 
-/// Whether bytes are no log, whatever stands after them.
+/// Whether bytes are no log, whatever is after them.
 fn is_no_log(alloc: Global, bytes: &[u8]) -> Result<bool, Fault>
     ensures ok { IfOk result (λ is. is ≡ true → IsNoLog bytes.now) }
     ensures err { IfErr result (λ fault. fault ≡ Memory) }
@@ -162,7 +162,7 @@ fn is_no_log(alloc: Global, bytes: &[u8]) -> Result<bool, Fault>
     }
 }
 
-/// Reads all that a source has left, or a front of it that is no log, whatever stands after: it is looked at whenever
+/// Reads all that a source has left, or a front of it that is no log, whatever is after: it is looked at whenever
 /// it has become twice as long.
 pub fn read_log_bytes<S: Source>(alloc: Global, source: &mut S) -> Result<Vec<u8>, Fault>
     requires { S.failed source.old + 1 < 2 ^ 64 }
@@ -188,7 +188,7 @@ pub fn read_log_bytes<S: Source>(alloc: Global, source: &mut S) -> Result<Vec<u8
             next = all.len().saturating_mul(2);
         }
     }
-    // No source gives so many pieces.
+    // No source gives this many pieces.
     Err(Fault::Memory)
 }
 

@@ -72,7 +72,7 @@ fn read_digest<S: Source>(alloc: Global, file: &mut S) -> Result<[u8; 32], Fault
         }
         hasher.update(&buffer[..count]);
     }
-    // No file gives so many pieces.
+    // No file gives this many pieces.
     Err(Fault::Memory)
 }
 

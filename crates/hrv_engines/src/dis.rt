@@ -36,7 +36,7 @@ fn listing_of(alloc: Global, bytes: Vec<u8>) -> Result<Vec<u8>, Fault>
     Ok(lines)
 }
 
-/// Reads an image, and writes a line for each word of its text, after which a comment says where the word stands.
+/// Reads an image, and writes a line for each word of its text, after which a comment says where the word is.
 pub fn dis_addresses_bytes<I: Source, O: Sink>(
     alloc: Global,
     image: &mut I,

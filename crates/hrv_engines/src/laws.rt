@@ -31,8 +31,8 @@ pub fn long_images_are_refused_by_their_front()
         → image_of (front ++ rest) ≡ image_of front }
 {}
 
-/// A text with more bytes than an algorithm has is refused in line 1, and with the same fault whatever stands after a
-/// front of so many bytes that has all of that line.
+/// A text with more bytes than an algorithm has is refused in line 1, and with the same fault whatever is after a
+/// front of this many bytes that has all of that line.
 pub fn long_algorithms_are_refused_in_line_1()
     ensures refused { (alloc : Global) (text : List ℕ) → most_algorithm_bytes < length text
         → (fault : ParseFault) × (parsed alloc text ≡ Err (1, fault)) }
@@ -50,7 +50,7 @@ pub fn long_pictures_are_refused_by_their_front()
 {}
 
 /// Bytes that are no log, for another reason than that they end too soon, are refused with the same fault whatever
-/// stands after them.
+/// is after them.
 pub fn logs_are_refused_by_their_front()
     ensures { (front rest : List ℕ) (fault : LogFault) → fault ≢ Truncated → log_of front ≡ Err fault
         → log_of (front ++ rest) ≡ Err fault }

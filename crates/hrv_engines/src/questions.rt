@@ -141,7 +141,7 @@ fn wanted_word(image: &Image, address: &str) -> Result<BlameQuestion, BlameFault
     Ok(BlameQuestion::Word(address as u32))
 }
 
-/// The word of data at an address, by its text, where there are so many bytes of data.
+/// The word of data at an address, by its text, where there are this many bytes of data.
 pub(crate) fn data_word(bytes: usize, address: &str) -> Result<u32, BlameFault>
     requires { bytes ≤ most_bytes }
     ensures { result ≡ left_out bytes (number_of address.now) }
@@ -155,7 +155,7 @@ pub(crate) fn data_word(bytes: usize, address: &str) -> Result<u32, BlameFault>
     Ok(address as u32)
 }
 
-/// Whether a word of data begins at an address, where there are so many bytes of data.
+/// Whether a word of data begins at an address, where there are this many bytes of data.
 fn is_data_word(bytes: usize, address: u64) -> bool
     requires { bytes ≤ most_bytes }
     ensures { result ≡ spec.is_data_word bytes address }

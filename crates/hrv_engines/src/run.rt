@@ -28,7 +28,7 @@ pub struct Resources<'a, R> {
     pub alloc: Global,
 }
 
-/// Reads an image, runs it by a thread for each of 1 to 8 harts until each has stopped or has made so many turns, and
+/// Reads an image, runs it by a thread for each of 1 to 8 harts until each has stopped or has made this many turns, and
 /// writes the log of the turns and then the dump. The whole image is read before the first turn, the whole log is
 /// written before the dump, and nothing is written where memory or threads are wanting. One hart is never refused a
 /// thread.
@@ -57,8 +57,8 @@ pub fn run_bytes<I: Source, L: Sink, O: Sink, R: Threads + Wait + Sync>(
     write_both(alloc, log, out, &log_bytes, text.as_bytes())
 }
 
-/// The same from where a log of the image ends, by a thread for each hart of the log: each makes so many turns more, or
-/// stops before. The log that is written begins with that one. Both files are read before the first turn, the image
+/// The same from where a log of the image ends, by a thread for each hart of the log: each makes this many turns more,
+/// or stops before. The log that is written begins with that one. Both files are read before the first turn, the image
 /// before the log.
 pub fn resume_bytes<I: Source, P: Source, L: Sink, O: Sink, R: Threads + Wait + Sync>(
     resources: &Resources<'_, R>,

@@ -22,7 +22,7 @@ use std::alloc::{AllocError, Global};
 pub(crate) enum Extent {
     /// All of it.
     All,
-    /// So many bytes and one more.
+    /// This many bytes and one more.
     Bytes(usize),
     /// The same, and the first line up to a comment, or up to a byte of which no token of an algorithm is made.
     FirstLine(usize),
@@ -57,7 +57,7 @@ fn is_mark(byte: u8) -> bool
     )
 }
 
-/// Whether a byte stands in tokens of an algorithm, or between them.
+/// Whether a byte is in tokens of an algorithm, or between them.
 #[tactic(auto, unfolding(crate::specs::inner::Fronts::is_of_tokens))]
 fn is_of_tokens(byte: u8) -> bool
     ensures { result ≡ spec.is_of_tokens byte }
@@ -83,7 +83,7 @@ fn valid_len(bytes: &[u8]) -> usize
     }
 }
 
-/// Whether a front of so many bytes decides what is to be said of the text.
+/// Whether a front of this many bytes decides what is to be said of the text.
 fn is_enough(extent: Extent, count: usize, is_line_told: bool) -> bool
     ensures { (text : List ℕ) → count ≡ length text → (is_line_told ≡ true → IsLineTold text) → result ≡ true
         → Decides extent text }
@@ -191,7 +191,7 @@ pub(crate) fn read_kept<S: Source>(
             return Err(Fault::File(path));
         }
     }
-    // No source gives so many pieces.
+    // No source gives this many pieces.
     Err(Fault::Memory)
 }
 

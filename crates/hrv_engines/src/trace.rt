@@ -95,7 +95,7 @@ fn open(
     })
 }
 
-/// The turns that are asked for, where there are so many bytes of data.
+/// The turns that are asked for, where there are this many bytes of data.
 fn turns_wanted(bytes: usize, question: TraceQuestion<'_>) -> Result<TurnsWanted, BlameFault>
     requires { bytes ≤ most_bytes }
     ensures { result ≡ turns_wanted bytes (asked_by question.entry) }

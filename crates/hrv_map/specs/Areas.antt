@@ -22,7 +22,7 @@ input_area at input = record {
 -- A Func's box begins at the lowest end of each of its ranges. Where a range has a base, that is so while all loops of the base have the value 0;
 -- elsewhere it begins so much further as the base then is.
 abbrev pub func_area : ℕ → SourceBox → PixelArea
-func_area at own = record { left = own.x.low; top = own.y.low; width = extent own.x; height = extent own.y; address = at; pixel = 4 }
+func_area at source_box = record { left = source_box.x.low; top = source_box.y.low; width = extent source_box.x; height = extent source_box.y; address = at; pixel = 4 }
 
 -- an end of a range, signed
 abbrev pub end_text : ℕ → List ℕ

@@ -9,7 +9,7 @@ use Rattle.schedule_lines.specs.declared.stages.LoopId.{LoopId}
 use Rattle.schedule_lines.specs.Directives.{same_id}
 use Rattle.schedule.specs.declared.plans.FuncPlan.{FuncPlan}
 use Rattle.schedule.specs.declared.schedules.Schedule.{Schedule}
-use Rattle.schedule.specs.declared.placements.LoopPlace.{LoopPlace}
+use Rattle.schedule.specs.declared.placements.LoopPosition.{LoopPosition}
 use Rattle.schedule.specs.declared.placements.ComputeLevel.{ComputeLevel}
 use Rattle.schedule.specs.declared.placements.ComputeLevel.TheVariants as places
 use Rattle.schedule.specs.declared.placements.FuncPlacement.{FuncPlacement}
@@ -41,7 +41,7 @@ or_zero (Some at) = at
 
 -- the address at a place
 abbrev pub address_at : List ℕ → ℕ → ℕ
-address_at ats place = or_zero (slice_get ats place)
+address_at ats index = or_zero (slice_get ats index)
 
 -- ---- inputs
 
@@ -56,9 +56,9 @@ input_line name at input =
 
 -- of the inputs from a place on, each at its address
 unfoldable pub input_lines : List (List ℕ) → List ℕ → ℕ → List Input → List ℕ
-input_lines names ats place [] = []
-input_lines names ats place (input ∷ inputs) =
-    input_line (name_at names place) (address_at ats place) input ++ input_lines names ats (place + 1) inputs
+input_lines names ats index [] = []
+input_lines names ats index (input ∷ inputs) =
+    input_line (name_at names index) (address_at ats index) input ++ input_lines names ats (index + 1) inputs
 
 -- ---- Funcs
 
@@ -73,7 +73,7 @@ loop_name_in id (Some plan) = loop_name id plan.pure.loops
 
 -- `func NAME root`, and where its box lies
 unfoldable pub root_line : List ℕ → ℕ → SourceBox → List ℕ
-root_line name at own = codes "func " ++ name ++ codes " root" ++ area_text (func_area at own) ++ newline
+root_line name at source_box = codes "func " ++ name ++ codes " root" ++ area_text (func_area at source_box) ++ newline
 
 -- ` copies 8 distance BYTES`: there is one for each of 8 harts, each so far after the one before it
 unfoldable pub copies_text : ℕ → List ℕ
@@ -81,8 +81,8 @@ copies_text distance = codes " copies 8 distance " ++ decimal distance ++ newlin
 
 -- `func NAME at CONSUMER LOOP`, where the box of hart 0 lies, and how far the others'
 unfoldable pub copies_line : List ℕ → List ℕ → List ℕ → ℕ → SourceBox → List ℕ
-copies_line name consumer inside at own =
-    codes "func " ++ name ++ codes " at " ++ consumer ++ codes " " ++ inside ++ area_text (func_area at own) ++ copies_text (4 * points own)
+copies_line name consumer inside at source_box =
+    codes "func " ++ name ++ codes " at " ++ consumer ++ codes " " ++ inside ++ area_text (func_area at source_box) ++ copies_text (4 * points source_box)
 
 module _ (names : List (List ℕ)) (boxes : Boxes) where
   -- of the Func at a place, if it has a box
@@ -91,7 +91,7 @@ module _ (names : List (List ℕ)) (boxes : Boxes) where
   root_if place (Some own) = root_line (name_at names place) (address_at boxes.layout.roots place) own
 
 module _ (names : List (List ℕ)) (schedule : Schedule) (boxes : Boxes) where
-  abbrev pub copies_if : ℕ → LoopPlace → Option SourceBox → List ℕ
+  abbrev pub copies_if : ℕ → LoopPosition → Option SourceBox → List ℕ
   copies_if place at None = []
   copies_if place at (Some own) =
       copies_line (name_at names place) (name_at names at.func) (loop_name_in at.inside (slice_get schedule.funcs at.func)) (address_at boxes.layout.privates

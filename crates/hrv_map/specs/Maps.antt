@@ -11,7 +11,7 @@ use Rattle.hrv_map.specs.Phases.{phases_from, stages_from, tasks_each}
 use Rattle.hrv_map.specs.Stages.{phase_lines}
 use Rattle.task_code_statements.specs.declared.stages.CodeStage.{CodeStage}
 
--- of the first so many phases
+-- of the first this many phases
 unfoldable pub control_lines : ℕ → List ℕ
 control_lines zero = []
 control_lines (suc phase) = control_lines phase ++ control_line phase

@@ -49,4 +49,4 @@ or_none (Some name) = name
 
 -- the name at a place
 abbrev pub name_at : List (List ℕ) → ℕ → List ℕ
-name_at names place = or_none (slice_get names place)
+name_at names index = or_none (slice_get names index)

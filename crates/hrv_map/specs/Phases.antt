@@ -30,18 +30,18 @@ updates_from func at (update ∷ updates) = record { func = func; update = Some 
 
 -- those of a Func at root, if it has a box
 abbrev pub stages_in : ℕ → Func → Option SourceBox → List StageName
-stages_in place func None = []
-stages_in place func (Some own) = record { func = place; update = None } ∷ updates_from place 0 func.updates
+stages_in index func None = []
+stages_in index func (Some own) = record { func = index; update = None } ∷ updates_from index 0 func.updates
 
 abbrev pub stages_where : ℕ → Func → Option SourceBox → ComputeLevel → List StageName
-stages_where place func own places.Root = stages_in place func own
-stages_where place func own (places.At at) = []
-stages_where place func own places.Inlined = []
-stages_where place func own places.Nowhere = []
+stages_where index func source_box places.Root = stages_in index func source_box
+stages_where index func source_box (places.At at) = []
+stages_where index func source_box places.Inlined = []
+stages_where index func source_box places.Nowhere = []
 
 abbrev pub stages_if : ℕ → Func → Option SourceBox → Option FuncPlacement → List StageName
-stages_if place func own None = []
-stages_if place func own (Some standing) = stages_where place func own standing.place
+stages_if index func source_box None = []
+stages_if index func source_box (Some standing) = stages_where index func source_box standing.place
 
 module _ (schedule : Schedule) (boxes : Boxes) where
   -- of the Funcs from a place on
@@ -65,7 +65,7 @@ phases_from number first [] counts ends = []
 phases_from number first (stage ∷ stages) [] ends = []
 phases_from number first (stage ∷ stages) (count ∷ counts) [] = []
 phases_from number first (stage ∷ stages) (count ∷ counts) (end ∷ ends) =
-    record { number = number; stage = stage; tasks = count; first = first; behind = end } ∷ phases_from (number + 1) end stages counts ends
+    record { number = number; stage = stage; tasks = count; first = first; end = end } ∷ phases_from (number + 1) end stages counts ends
 
 -- ---- their lines
 
@@ -78,7 +78,7 @@ update_text (Some at) = codes "." ++ decimal at
 unfoldable pub code_text : CodePhase → List ℕ
 code_text phase =
     update_text phase.stage.update ++ codes " tasks " ++ decimal phase.tasks ++ codes " code "
-    ++ hexadecimal_text 8 (text_start + 4 * phase.first) ++ codes " " ++ hexadecimal_text 8 (text_start + 4 * phase.behind) ++ newline
+    ++ hexadecimal_text 8 (text_start + 4 * phase.first) ++ codes " " ++ hexadecimal_text 8 (text_start + 4 * phase.end) ++ newline
 
 -- `phase PHASE stage NAME tasks N code FIRST BEHIND`
 unfoldable pub phase_line : List (List ℕ) → CodePhase → List ℕ

@@ -13,13 +13,13 @@ use Rattle.hrv_map.specs.Phases.{phase_line, update_text}
 
 -- its words are some of the phase's
 abbrev pub is_inside : CodePhase → CodeStage → Bool
-is_inside phase own = nat_le phase.first own.first && nat_lt own.first own.behind && nat_le own.behind phase.behind
+is_inside phase stage = nat_le phase.first stage.first && nat_lt stage.first stage.end && nat_le stage.end phase.end
 
--- what stands after the name: ` FIRST BEHIND`, by the first word's address and that past the last
+-- what is after the name: ` FIRST BEHIND`, by the first word's address and that past the last
 unfoldable pub range_text : CodeStage → List ℕ
-range_text own =
-    update_text own.stage.update ++ codes " " ++ hexadecimal_text 8 (text_start + 4 * own.first)
-    ++ codes " " ++ hexadecimal_text 8 (text_start + 4 * own.behind) ++ newline
+range_text code_stage =
+    update_text code_stage.stage.update ++ codes " " ++ hexadecimal_text 8 (text_start + 4 * code_stage.first)
+    ++ codes " " ++ hexadecimal_text 8 (text_start + 4 * code_stage.end) ++ newline
 
 module _ (names : List (List ℕ)) where
   -- `code PHASE stage NAME FIRST BEHIND`
@@ -32,12 +32,12 @@ module _ (names : List (List ℕ)) where
 -- of the first ones, up to one that begins after the phase
 unfoldable pub stage_lines : List (List ℕ) → CodePhase → List CodeStage → List ℕ
 stage_lines names phase [] = []
-stage_lines names phase (own ∷ others) = if nat_lt own.first phase.behind then line_inside names phase own ++ stage_lines names phase others else []
+stage_lines names phase (own ∷ others) = if nat_lt own.first phase.end then line_inside names phase own ++ stage_lines names phase others else []
 
 -- that one, and those after it
 unfoldable pub stages_behind : CodePhase → List CodeStage → List CodeStage
 stages_behind phase [] = []
-stages_behind phase (own ∷ others) = if nat_lt own.first phase.behind then stages_behind phase others else own ∷ others
+stages_behind phase (own ∷ others) = if nat_lt own.first phase.end then stages_behind phase others else own ∷ others
 
 -- of each phase its line, and those of the stages inside
 unfoldable pub phase_lines : List (List ℕ) → List CodePhase → List CodeStage → List ℕ

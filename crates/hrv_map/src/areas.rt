@@ -44,14 +44,14 @@ pub(crate) fn input_area(at: u64, input: &Input) -> PixelArea
 }
 
 /// Where the box of a Func lies.
-pub(crate) fn func_area(at: u64, own: &SourceBox) -> PixelArea
-    requires { IsBox own.now }
-    ensures { result ≡ spec.func_area at own.now }
+pub(crate) fn func_area(at: u64, source_box: &SourceBox) -> PixelArea
+    requires { IsBox source_box.now }
+    ensures { result ≡ spec.func_area at source_box.now }
 {
-    let extents = extents_of(own);
+    let extents = extents_of(source_box);
     PixelArea {
-        left: own.x.low,
-        top: own.y.low,
+        left: source_box.x.low,
+        top: source_box.y.low,
         width: extents.first_argument,
         height: extents.second_argument,
         address: at,

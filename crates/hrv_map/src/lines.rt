@@ -13,7 +13,7 @@ use bounds::layout::{DATA_START, FRAME};
 use bounds::{Boxes, Layout, Plan, SourceBox};
 use disassembler::push_hexadecimal;
 use halide_pipeline::{Func, Input};
-use schedule::{ComputeLevel, LoopPlace, Schedule};
+use schedule::{ComputeLevel, LoopPosition, Schedule};
 use schedule_lines::stages::{Loop, LoopId, same_id};
 use sqlite_items::Items;
 use std::alloc::{AllocError, Global};
@@ -67,10 +67,10 @@ fn push_input_line(
 }
 
 /// The address at a place.
-fn address_at(ats: &Items<u64>, place: usize) -> u64
-    ensures { result ≡ spec.address_at ats.now place }
+fn address_at(ats: &Items<u64>, index: usize) -> u64
+    ensures { result ≡ spec.address_at ats.now index }
 {
-    match ats.get(place) {
+    match ats.get(index) {
         Some(at) => *at,
         None => 0,
     }
@@ -83,11 +83,11 @@ pub(crate) fn push_input_lines(
     out: &mut Vec<u8>,
     names: &Items<Items<u8>>,
     ats: &Items<u64>,
-    place: usize,
+    index: usize,
     inputs: &[Input],
 ) -> Result<(), AllocError>
-    requires { place + length inputs.now < 2 ^ 64 }
-    ensures { OnOk result (out.new.items ≡ out.old.items ++ spec.input_lines names.now ats.now place inputs.now) }
+    requires { index + length inputs.now < 2 ^ 64 }
+    ensures { OnOk result (out.new.items ≡ out.old.items ++ spec.input_lines names.now ats.now index inputs.now) }
 {
     let [input, others @ ..] = inputs else {
         return Ok(());
@@ -95,11 +95,11 @@ pub(crate) fn push_input_lines(
     push_input_line(
         alloc,
         out,
-        name_at(names, place),
-        address_at(ats, place),
+        name_at(names, index),
+        address_at(ats, index),
         input,
     )?;
-    push_input_lines(alloc, out, names, ats, place + 1, others)?;
+    push_input_lines(alloc, out, names, ats, index + 1, others)?;
     Ok(())
 }
 
@@ -136,12 +136,12 @@ fn push_root_line(
     out: &mut Vec<u8>,
     name: &[u8],
     at: u64,
-    own: &SourceBox,
+    source_box: &SourceBox,
 ) -> Result<(), AllocError>
-    requires { IsBox own.now }
-    ensures { OnOk result (out.new.items ≡ out.old.items ++ spec.root_line name.now at own.now) }
+    requires { IsBox source_box.now }
+    ensures { OnOk result (out.new.items ≡ out.old.items ++ spec.root_line name.now at source_box.now) }
 {
-    let area = area_text(alloc, func_area(at, own))?;
+    let area = area_text(alloc, func_area(at, source_box))?;
     out.extend_from_slice(b"func ")?;
     out.extend_from_slice(name)?;
     out.extend_from_slice(b" root")?;
@@ -175,14 +175,14 @@ fn push_copies_line(
     name: &[u8],
     around: &NamedLoop<'_>,
     at: u64,
-    own: &SourceBox,
+    source_box: &SourceBox,
 ) -> Result<(), AllocError>
-    requires { IsBox own.now }
+    requires { IsBox source_box.now }
     ensures { OnOk result (out.new.items ≡ out.old.items ++ spec.copies_line name.now around.now.consumer.now
-        around.now.name.now at own.now) }
+        around.now.name.now at source_box.now) }
 {
-    let area = area_text(alloc, func_area(at, own))?;
-    let copies = copies_text(alloc, 4 * points(own))?;
+    let area = area_text(alloc, func_area(at, source_box))?;
+    let copies = copies_text(alloc, 4 * points(source_box))?;
     out.extend_from_slice(b"func ")?;
     out.extend_from_slice(name)?;
     out.extend_from_slice(b" at ")?;
@@ -195,12 +195,12 @@ fn push_copies_line(
 }
 
 /// The box at a place.
-pub(crate) fn box_at(boxes: &[Option<SourceBox>], place: usize) -> Option<SourceBox>
+pub(crate) fn box_at(boxes: &[Option<SourceBox>], index: usize) -> Option<SourceBox>
     requires { AreBoxes boxes.now }
-    ensures is { result ≡ box_in (slice_get boxes.now place) }
+    ensures is { result ≡ box_in (slice_get boxes.now index) }
     ensures near { IfSome result IsBox }
 {
-    match boxes.get(place) {
+    match boxes.get(index) {
         None => None,
         Some(own) => *own,
     }
@@ -212,16 +212,16 @@ fn push_root(
     out: &mut Vec<u8>,
     names: &Items<Items<u8>>,
     boxes: &Boxes,
-    place: usize,
+    index: usize,
 ) -> Result<(), AllocError>
-    ensures { OnOk result (out.new.items ≡ out.old.items ++ spec.root_if names.now boxes.now place
-        (box_in (slice_get boxes.now.funcs place))) }
+    ensures { OnOk result (out.new.items ≡ out.old.items ++ spec.root_if names.now boxes.now index
+        (box_in (slice_get boxes.now.funcs index))) }
 {
-    let Some(own) = box_at(boxes.funcs.as_slice(), place) else {
+    let Some(own) = box_at(boxes.funcs.as_slice(), index) else {
         return Ok(());
     };
-    let address = address_at(&boxes.layout.roots, place);
-    push_root_line(alloc, out, name_at(names, place), address, &own)?;
+    let address = address_at(&boxes.layout.roots, index);
+    push_root_line(alloc, out, name_at(names, index), address, &own)?;
     Ok(())
 }
 
@@ -231,22 +231,22 @@ fn push_copies(
     out: &mut Vec<u8>,
     names: &Items<Items<u8>>,
     plan: &Plan<'_>,
-    place: usize,
-    at: LoopPlace,
+    index: usize,
+    at: LoopPosition,
 ) -> Result<(), AllocError>
     ensures { OnOk result (out.new.items ≡ out.old.items ++ spec.copies_if names.now plan.now.schedule
-        plan.now.boxes place at (box_in (slice_get plan.now.boxes.funcs place))) }
+        plan.now.boxes index at (box_in (slice_get plan.now.boxes.funcs index))) }
 {
     let boxes = plan.boxes();
-    let Some(own) = box_at(boxes.funcs.as_slice(), place) else {
+    let Some(own) = box_at(boxes.funcs.as_slice(), index) else {
         return Ok(());
     };
     let around = NamedLoop {
         consumer: name_at(names, at.func),
         name: loop_name_in(at.inside, plan.schedule(), at.func),
     };
-    let address = address_at(&boxes.layout.privates, place);
-    push_copies_line(alloc, out, name_at(names, place), &around, address, &own)?;
+    let address = address_at(&boxes.layout.privates, index);
+    push_copies_line(alloc, out, name_at(names, index), &around, address, &own)?;
     Ok(())
 }
 
@@ -257,17 +257,17 @@ fn push_func_line(
     out: &mut Vec<u8>,
     names: &Items<Items<u8>>,
     plan: &Plan<'_>,
-    place: usize,
+    index: usize,
 ) -> Result<(), AllocError>
     ensures { OnOk result (out.new.items ≡ out.old.items ++ spec.func_line names.now plan.now.schedule
-        plan.now.boxes place) }
+        plan.now.boxes index) }
 {
-    let Some(standing) = plan.schedule().standing(place) else {
+    let Some(standing) = plan.schedule().standing(index) else {
         return Ok(());
     };
     match standing.place {
-        ComputeLevel::Root => push_root(alloc, out, names, plan.boxes(), place)?,
-        ComputeLevel::At(at) => push_copies(alloc, out, names, plan, place, at)?,
+        ComputeLevel::Root => push_root(alloc, out, names, plan.boxes(), index)?,
+        ComputeLevel::At(at) => push_copies(alloc, out, names, plan, index, at)?,
         ComputeLevel::Inlined | ComputeLevel::Nowhere => {}
     }
     Ok(())
@@ -280,19 +280,19 @@ pub(crate) fn push_func_lines(
     out: &mut Vec<u8>,
     names: &Items<Items<u8>>,
     plan: &Plan<'_>,
-    place: usize,
+    index: usize,
     funcs: &[Func],
 ) -> Result<(), AllocError>
-    requires { place + length funcs.now < 2 ^ 64 }
+    requires { index + length funcs.now < 2 ^ 64 }
     ensures { OnOk result (out.new.items ≡ out.old.items ++ spec.func_lines names.now plan.now.schedule
-        plan.now.boxes place
+        plan.now.boxes index
         funcs.now) }
 {
     let [_, others @ ..] = funcs else {
         return Ok(());
     };
-    push_func_line(alloc, out, names, plan, place)?;
-    push_func_lines(alloc, out, names, plan, place + 1, others)?;
+    push_func_line(alloc, out, names, plan, index)?;
+    push_func_lines(alloc, out, names, plan, index + 1, others)?;
     Ok(())
 }
 

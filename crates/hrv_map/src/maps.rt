@@ -21,7 +21,7 @@ fn push_control_line(alloc: Global, out: &mut Vec<u8>, phase: u64) -> Result<(),
     Ok(())
 }
 
-/// Appends the lines of the words of control of the first so many phases.
+/// Appends the lines of the words of control of the first this many phases.
 fn push_control_lines(alloc: Global, out: &mut Vec<u8>, phases: u64) -> Result<(), AllocError>
     requires { phases ≤ 4194304 }
     ensures { OnOk result (out.new.items ≡ out.old.items ++ spec.control_lines phases) }

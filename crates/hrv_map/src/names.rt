@@ -123,10 +123,10 @@ pub fn names_of(alloc: Global, algorithm: &str) -> Result<SourceNames, AllocErro
 }
 
 /// The name at a place.
-pub fn name_at(names: &Items<Items<u8>>, place: usize) -> &[u8]
-    ensures { result.now ≡ spec.name_at names.now place }
+pub fn name_at(names: &Items<Items<u8>>, index: usize) -> &[u8]
+    ensures { result.now ≡ spec.name_at names.now index }
 {
-    match names.get(place) {
+    match names.get(index) {
         Some(name) => name.as_slice(),
         None => &[],
     }

@@ -36,7 +36,7 @@ pub struct CodePhase {
     /// The place of its first word in the text, from 0.
     pub first: u32,
     /// The place after its last word.
-    pub behind: u32,
+    pub end: u32,
 }
 
 /// Appends the updates of a Func from a place on.
@@ -65,20 +65,20 @@ fn push_updates(
 fn push_all(
     stages: &mut Vec<StageName>,
     boxes: &Boxes,
-    place: usize,
+    index: usize,
     func: &Func,
 ) -> Result<(), AllocError>
     ensures { OnOk result (stages.new.items ≡ stages.old.items
-        ++ spec.stages_in place func.now (box_in (slice_get boxes.now.funcs place))) }
+        ++ spec.stages_in index func.now (box_in (slice_get boxes.now.funcs index))) }
 {
-    if let None = box_at(boxes.funcs.as_slice(), place) {
+    if let None = box_at(boxes.funcs.as_slice(), index) {
         return Ok(());
     }
     stages.push(StageName {
-        func: place,
+        func: index,
         update: None,
     })?;
-    push_updates(stages, place, 0, func.updates.as_slice())?;
+    push_updates(stages, index, 0, func.updates.as_slice())?;
     Ok(())
 }
 
@@ -87,18 +87,18 @@ fn push_stages_of(
     stages: &mut Vec<StageName>,
     schedule: &Schedule,
     boxes: &Boxes,
-    place: usize,
+    index: usize,
     func: &Func,
 ) -> Result<(), AllocError>
     ensures { OnOk result (stages.new.items ≡ stages.old.items
-        ++ spec.stages_if place func.now (box_in (slice_get boxes.now.funcs place))
-        (slice_get schedule.now.standings place)) }
+        ++ spec.stages_if index func.now (box_in (slice_get boxes.now.funcs index))
+        (slice_get schedule.now.standings index)) }
 {
-    let Some(standing) = schedule.standing(place) else {
+    let Some(standing) = schedule.standing(index) else {
         return Ok(());
     };
     match standing.place {
-        ComputeLevel::Root => push_all(stages, boxes, place, func)?,
+        ComputeLevel::Root => push_all(stages, boxes, index, func)?,
         ComputeLevel::At(_) | ComputeLevel::Inlined | ComputeLevel::Nowhere => {}
     }
     Ok(())
@@ -110,18 +110,18 @@ fn push_stages(
     stages: &mut Vec<StageName>,
     schedule: &Schedule,
     boxes: &Boxes,
-    place: usize,
+    index: usize,
     funcs: &[Func],
 ) -> Result<(), AllocError>
-    requires { place + length funcs.now < 2 ^ 64 }
-    ensures { OnOk result (stages.new.items ≡ stages.old.items ++ spec.stages_from schedule.now boxes.now place
+    requires { index + length funcs.now < 2 ^ 64 }
+    ensures { OnOk result (stages.new.items ≡ stages.old.items ++ spec.stages_from schedule.now boxes.now index
         funcs.now) }
 {
     let [func, others @ ..] = funcs else {
         return Ok(());
     };
-    push_stages_of(stages, schedule, boxes, place, func)?;
-    push_stages(stages, schedule, boxes, place + 1, others)?;
+    push_stages_of(stages, schedule, boxes, index, func)?;
+    push_stages(stages, schedule, boxes, index + 1, others)?;
     Ok(())
 }
 
@@ -207,7 +207,7 @@ pub(crate) fn push_phases(
         stage: *stage,
         tasks: *count,
         first,
-        behind: *end,
+        end: *end,
     })?;
     push_phases(phases, number + 1, *end, stages, tasks, ends)?;
     Ok(())
@@ -230,7 +230,7 @@ pub(crate) fn address_of(place: u32) -> u64
     u64::from(TEXT_START) + 4 * u64::from(place)
 }
 
-/// What stands after the name of a phase's stage: ` tasks N code FIRST BEHIND`.
+/// What is after the name of a phase's stage: ` tasks N code FIRST BEHIND`.
 #[tactic(auto, unfolding(crate::specs::Phases::code_text))]
 fn code_text(alloc: Global, phase: &CodePhase) -> Result<String, AllocError>
     ensures { IfOk result (λ text. string_bytes text ≡ spec.code_text phase.now) }
@@ -241,12 +241,12 @@ fn code_text(alloc: Global, phase: &CodePhase) -> Result<String, AllocError>
     write!(text, " tasks {tasks} code ")?;
     push_hexadecimal(&mut text, 8, address_of(phase.first))?;
     text.push_str(" ")?;
-    push_hexadecimal(&mut text, 8, address_of(phase.behind))?;
+    push_hexadecimal(&mut text, 8, address_of(phase.end))?;
     text.push_str("\n")?;
     Ok(text)
 }
 
-/// What stands before the name of a phase's stage.
+/// What is before the name of a phase's stage.
 fn number_text(alloc: Global, number: u64) -> Result<String, AllocError>
     ensures { IfOk result (λ text. string_bytes text ≡ codes "phase " ++ decimal number ++ codes " stage ") }
 {

@@ -13,28 +13,28 @@ use std::alloc::{AllocError, Global};
 use task_code_statements::stages::CodeStage;
 
 /// Whether a stage's words are inside those of a phase, and there are some.
-fn is_inside(phase: &CodePhase, own: &CodeStage) -> bool
-    ensures { result ≡ spec.is_inside phase.now own.now }
+fn is_inside(phase: &CodePhase, stage: &CodeStage) -> bool
+    ensures { result ≡ spec.is_inside phase.now stage.now }
 {
-    phase.first <= own.first && own.first < own.behind && own.behind <= phase.behind
+    phase.first <= stage.first && stage.first < stage.end && stage.end <= phase.end
 }
 
-/// What stands after the name of a stage: `.PLACE` of an update, and ` FIRST BEHIND`.
+/// What is after the name of a stage: `.PLACE` of an update, and ` FIRST BEHIND`.
 #[tactic(auto, unfolding(crate::specs::Stages::range_text))]
-fn range_text(alloc: Global, own: &CodeStage) -> Result<String, AllocError>
-    ensures { IfOk result (λ text. string_bytes text ≡ spec.range_text own.now) }
+fn range_text(alloc: Global, code_stage: &CodeStage) -> Result<String, AllocError>
+    ensures { IfOk result (λ text. string_bytes text ≡ spec.range_text code_stage.now) }
 {
     let mut text = String::new(alloc);
-    push_update(&mut text, own.stage.update)?;
+    push_update(&mut text, code_stage.stage.update)?;
     text.push_str(" ")?;
-    push_hexadecimal(&mut text, 8, address_of(own.first))?;
+    push_hexadecimal(&mut text, 8, address_of(code_stage.first))?;
     text.push_str(" ")?;
-    push_hexadecimal(&mut text, 8, address_of(own.behind))?;
+    push_hexadecimal(&mut text, 8, address_of(code_stage.end))?;
     text.push_str("\n")?;
     Ok(text)
 }
 
-/// What stands before the name of a stage.
+/// What is before the name of a stage.
 fn number_text(alloc: Global, number: u64) -> Result<String, AllocError>
     ensures { IfOk result (λ text. string_bytes text ≡ codes "code " ++ decimal number ++ codes " stage ") }
 {
@@ -50,14 +50,14 @@ fn push_stage_line(
     out: &mut Vec<u8>,
     names: &Items<Items<u8>>,
     phase: &CodePhase,
-    own: &CodeStage,
+    code_stage: &CodeStage,
 ) -> Result<(), AllocError>
-    ensures { OnOk result (out.new.items ≡ out.old.items ++ spec.stage_line names.now phase.now own.now) }
+    ensures { OnOk result (out.new.items ≡ out.old.items ++ spec.stage_line names.now phase.now code_stage.now) }
 {
     let number = number_text(alloc, phase.number)?;
-    let range = range_text(alloc, own)?;
+    let range = range_text(alloc, code_stage)?;
     out.extend_from_slice(number.as_bytes())?;
-    out.extend_from_slice(name_at(names, own.stage.func))?;
+    out.extend_from_slice(name_at(names, code_stage.stage.func))?;
     out.extend_from_slice(range.as_bytes())?;
     Ok(())
 }
@@ -68,12 +68,12 @@ fn push_inside(
     out: &mut Vec<u8>,
     names: &Items<Items<u8>>,
     phase: &CodePhase,
-    own: &CodeStage,
+    stage: &CodeStage,
 ) -> Result<(), AllocError>
-    ensures { OnOk result (out.new.items ≡ out.old.items ++ spec.line_inside names.now phase.now own.now) }
+    ensures { OnOk result (out.new.items ≡ out.old.items ++ spec.line_inside names.now phase.now stage.now) }
 {
-    if is_inside(phase, own) {
-        push_stage_line(alloc, out, names, phase, own)?;
+    if is_inside(phase, stage) {
+        push_stage_line(alloc, out, names, phase, stage)?;
     }
     Ok(())
 }
@@ -93,7 +93,7 @@ pub(crate) fn push_stage_lines<'a>(
     let [own, others @ ..] = stages else {
         return Ok(stages);
     };
-    if own.first >= phase.behind {
+    if own.first >= phase.end {
         return Ok(stages);
     }
     push_inside(alloc, out, names, phase, own)?;

@@ -35,7 +35,7 @@ newline = 10 ∷ []
 abbrev pub line_if : Bool → List ℕ → List ℕ
 line_if is_chosen line = if is_chosen then line ++ newline else []
 
--- A line is what stands in front of the first blank: the family alone, of a family and a code in one word.
+-- A line is what is in front of the first blank: the family alone, of a family and a code in one word.
 unfoldable pub is_front : List ℕ → List ℕ → Bool
 is_front [] line = bytes_eq line []
 is_front (byte ∷ word) [] = byte == 32
@@ -52,7 +52,7 @@ chosen is_chosen family code (line ∷ lines) =
     if is_indented line then line_if is_chosen line ++ chosen is_chosen family code lines
     else chosen (chooses family code line) family code lines
 
--- the heading of a family alone: no blank (32) stands in it
+-- the heading of a family alone: no blank (32) is in it
 abbrev pub is_family : List ℕ → Bool
 is_family line = not (list_any (λ byte. byte == 32) line)
 

@@ -56,7 +56,7 @@ fn push_families(out: &mut Vec<u8>, text: &[u8]) -> Result<(), AllocError>
     Ok(())
 }
 
-/// Whether a line heads a family: no blank stands in it.
+/// Whether a line heads a family: no blank is in it.
 fn is_family(line: &[u8]) -> bool
     ensures { result ≡ spec.is_family line.now }
 {
@@ -113,7 +113,7 @@ fn push_if(out: &mut Vec<u8>, is_chosen: bool, line: &[u8]) -> Result<(), AllocE
     Ok(())
 }
 
-/// Whether a line is what stands in front of the first blank: the family alone, of a family and a code in one word.
+/// Whether a line is what is in front of the first blank: the family alone, of a family and a code in one word.
 #[tactic(auto, unfolding(crate::specs::Explanations::is_front))]
 fn is_front(line: &[u8], word: &[u8]) -> bool
     ensures { result ≡ spec.is_front word.now line.now }
@@ -144,7 +144,7 @@ fn is_indented(line: &[u8]) -> bool
     }
 }
 
-/// Whether a line is the heading of the refusal: its name, before which no blank stands.
+/// Whether a line is the heading of the refusal: its name, before which no blank is.
 fn is_heading(line: &[u8], family: &str, code: &str) -> bool
     ensures { result ≡ spec.is_heading family.now code.now line.now }
 {

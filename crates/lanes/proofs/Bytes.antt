@@ -8,7 +8,7 @@ use Rattle.std.proofs.lemmas.Grind.{flat_map-append}
 use Rattle.std.specs.List.{flat_map}
 use Rattle.lanes.specs.Words.{IsWidth, lowest_bytes, with_element, register_of}
 
--- so many elements fill the register
+-- this many elements fill the register
 pub count_is : (n w : ℕ) → IsWidth w → n * w ≡ 128 → 128 / w ≡ n
 count_is n w (inl e) h = rw e (let m : n * 8 ≡ 128 = rw e at h in omega arith)
 count_is n w (inr (inl e)) h = rw e (let m : n * 16 ≡ 128 = rw e at h in omega arith)

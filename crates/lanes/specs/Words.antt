@@ -183,7 +183,7 @@ abbrev pub little_endian : List ℕ → ℕ
 little_endian [] = 0
 little_endian (byte ∷ bytes) = byte + 256 * little_endian bytes
 
--- so many of the lowest bytes of a number, the lowest first
+-- this many of the lowest bytes of a number, the lowest first
 abbrev pub lowest_bytes : ℕ → ℕ → List ℕ
 lowest_bytes zero n = []
 lowest_bytes (suc count) n = n % 256 ∷ lowest_bytes count (n / 256)
@@ -213,7 +213,7 @@ register_of w numbers = flat_map (lowest_bytes (w / 8)) numbers
 abbrev pub mask_bit : List ℕ → ℕ → Bool
 mask_bit bytes i = bit_at (slice_index bytes (i / 8)) (i % 8) == 1
 
--- so many bits of a mask register, from one on
+-- this many bits of a mask register, from one on
 unfoldable pub mask_bits : ℕ → ℕ → List ℕ → List Bool
 mask_bits first count bytes = map (λ i. mask_bit bytes (first + i)) (range_with_len 0 count)
 
@@ -221,7 +221,7 @@ mask_bits first count bytes = map (λ i. mask_bit bytes (first + i)) (range_with
 abbrev pub is_active : ℕ → Bool → List ℕ → ℕ → Bool
 is_active vl unmasked mask i = nat_lt i vl && (unmasked || mask_bit mask i)
 
--- so many elements, from one on
+-- this many elements, from one on
 unfoldable pub active : ℕ → ℕ → ℕ → Bool → List ℕ → List Bool
 active first count vl unmasked mask = map (λ i. is_active vl unmasked mask (first + i)) (range_with_len 0 count)
 

@@ -35,7 +35,7 @@ taken_from-append takes number state [] others = let e : number + 0 ≡ number =
 taken_from-append takes number state (line ∷ lines) others =
     in_turn_behind takes (takes state line) number line lines others (λ next. taken_from-append takes (number + 1) next lines others)
 
--- So many lines were taken, and what is left is read as all is.
+-- This many lines were taken, and what is left is read as all is.
 pub record Left {S F : Type 0} (takes : S → List ℕ → Result S F) (first : S) (text : List ℕ) (now : S) (rest : List ℕ) (count : ℕ) : Type 0 where
   pub few : count + length rest ≤ length text
   pub counted : count + length (lines_of rest) ≡ length (lines_of text)

@@ -39,7 +39,7 @@ IsLine bytes = AllByRecursion (λ byte. byte ≢ 10) bytes
 abbrev pub text_of : List (List ℕ) → List ℕ
 text_of lines = flat_map (λ line. line ++ 10 ∷ []) lines
 
--- ---- Classes of bytes, and what is left of a line behind its blanks.
+-- ---- Classes of bytes, and what is left of a line after its blanks.
 
 -- a space or a tab
 abbrev pub is_blank : ℕ → Bool

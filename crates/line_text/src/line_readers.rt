@@ -15,7 +15,7 @@ pub trait LineReader {
     /// What a line makes of the reader, or the line's fault.
     ghost takes: { Self → List ℕ → Result Self Self.Fault };
 
-    /// Takes the next line, which comes without its line feed. Behind an error the reader may be
+    /// Takes the next line, which comes without its line feed. After an error the reader may be
     /// anything.
     fn take_line(&mut self, line: &[u8]) -> Result<(), ReadError<Self::Fault>>
         ensures { Takes (takes self.old line.now) result self.new };
@@ -23,7 +23,7 @@ pub trait LineReader {
 
 /// Has a reader take all lines of a text, and says how many there are; or names the first line that
 /// is faulty, by its number from 1, and its fault. It allocates nothing itself, so memory runs out only
-/// where `take_line` says so. Behind an error the reader may be anything.
+/// where `take_line` says so. After an error the reader may be anything.
 pub fn read_lines<R: LineReader>(reader: &mut R, text: &[u8]) -> Result<u64, LocatedError<R::Fault>>
     ensures read { Reads (taken_from R.takes 1 reader.old (lines_of text.now)) result reader.new }
     ensures count { IfOk result (λ count. count ≡ length (lines_of text.now)) }

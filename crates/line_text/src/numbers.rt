@@ -3,7 +3,7 @@
 ghost use Rattle.std.specs.Prelude.{◌≡◌, ◌+◌, ◌*◌, ◌-◌, ◌<◌, ◌^◌, min};
 ghost use Rattle.line_text.specs.Lines.{decimal_number, hexadecimal_number, hexadecimal_value};
 
-/// A digit behind a number, or `most + 1` where that is more than `most`.
+/// A digit after a number, or `most + 1` where that is more than `most`.
 fn with_digit(number: u64, base: u64, digit: u64, most: u64) -> u64
     requires { most + 1 < 2 ^ 64 }
     ensures { result ≡ min (number * base + digit) (most + 1) }

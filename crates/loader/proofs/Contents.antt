@@ -45,7 +45,7 @@ has_width bytes output e =
 
 -- ---- the header
 
--- a number after what stands in front
+-- a number after what is in front
 pub number_behind : (bytes tail : List ℕ) (m n k : ℕ) → drop m bytes ≡ tail → m + n ≡ k → number_at bytes k ≡ number_at tail n
 unfolding number_at
 number_behind bytes tail m n k e sum_is =
@@ -94,7 +94,7 @@ output_again bytes rest count (Some o) e lies fits =
     )
     (cond-false (o.address == 0 && o.width == 0 && o.height == 0 && o.stride == 0) None (Some o) no_zeros)
 
--- the part of a header that both formats have, and what stands after it
+-- the part of a header that both formats have, and what is after it
 record ReadsStart (format : Format) (image : ImageContents) (bytes rest : List ℕ) : Type 0 where
   pub begins : format_of bytes ≡ Some format
   pub entry : number_at bytes 4 ≡ image.entry
@@ -132,7 +132,7 @@ start_again Hrv2 image rest rules =
       behind = sym (drop-drop 16 16 (spelled_start Hrv2 image ++ rest)) ∙ drop_at fields rest 16 (length-output_fields image.output);
     }
 
--- a header, and what stands after it
+-- a header, and what is after it
 pub record ReadsHeader (format : Format) (image : ImageContents) (bytes rest : List ℕ) : Type 0 where
   pub begins : format_of bytes ≡ Some format
   pub entry : number_at bytes 4 ≡ image.entry

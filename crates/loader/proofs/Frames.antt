@@ -127,7 +127,7 @@ magic_is format bytes e = by_tests (starts_with nat_eq bytes (magic Hrv1)) (star
     by_tests false true is_first is_second Hrv1 found = absurd cc
     by_tests false false is_first is_second format found = absurd cc
 
--- what is stored at the end of the whole is all that stands there
+-- what is stored at the end of the whole is all that is there
 pub stored_at_end : (format : Format) (bytes : List ℕ) → length bytes ≡ whole_length format bytes
     → stored_in format bytes ≡ drop (stored_place format bytes) bytes
 stored_at_end format bytes whole =

@@ -130,7 +130,7 @@ kept_whole bytes byte other = ap trimmed (sym (append-nil (bytes ++ byte ∷ [])
   ends (first ∷ []) = ne_eqb byte 0 other
   ends (first ∷ second ∷ front) = later_end first second (front ++ byte ∷ []) ∙ ends (second ∷ front)
 
--- a zero after so many bytes is passed
+-- a zero after this many bytes is passed
 pub zero_passed : (bytes : List ℕ) (count : ℕ) → count < length bytes → get_or bytes count 0 ≡ 0 → trimmed (take (count + 1) bytes) ≡ trimmed (take count bytes)
 zero_passed bytes count lt is_zero =
     ap trimmed (take_more bytes count 0 lt) ∙ ap (λ (byte : ℕ). trimmed (take count bytes ++ byte ∷ [])) is_zero ∙ trimmed_more (take count bytes)

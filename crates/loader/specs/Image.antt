@@ -17,7 +17,7 @@ pub record ImageContents : Type 0 where
   pub bytes : List ℕ
   pub output : Option Output
 
--- a picture has at most so many pixels
+-- a picture has at most this many pixels
 abbrev pub most_pixels : ℕ
 most_pixels = 1048576
 
@@ -25,7 +25,7 @@ most_pixels = 1048576
 abbrev pub is_within_limits : ImageContents → Bool
 is_within_limits image = nat_le (length image.words) most_words && nat_le (length image.bytes) most_bytes
 
--- the entry is the address of a word, where text has so many words
+-- the entry is the address of a word, where text has this many words
 abbrev pub is_entry : ℕ → ℕ → Bool
 is_entry words entry = is_text_word words entry
 
@@ -39,7 +39,7 @@ is_picture output =
 abbrev pub end_of : Output → ℕ
 end_of output = output.address + (output.height - 1) * output.stride + 4 * output.width
 
--- a picture that lies in data, where data has so many bytes
+-- a picture that lies in data, where data has this many bytes
 abbrev pub is_output : ℕ → Output → Bool
 is_output bytes output =
     is_picture output && nat_le data_start output.address && nat_le (end_of output) (data_start + bytes)

@@ -7,7 +7,7 @@ use Rattle.loader.specs.declared.faults.LoadFault.TheVariants.{HartCount}
 use Rattle.loader.specs.Image.{ImageContents, IsImage}
 use Rattle.loader.specs.Spelling.{Spells, image_of}
 
--- a machine at the start, of so many harts
+-- a machine at the start, of this many harts
 abbrev pub machine_of : ImageContents → ℕ → State
 machine_of image harts = opened image.entry image.words image.bytes harts
 

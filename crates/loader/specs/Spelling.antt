@@ -84,7 +84,7 @@ pub record Spells (bytes : List ℕ) (image : ImageContents) : Type 0 where
 unfoldable pub number_at : List ℕ → ℕ → ℕ
 number_at bytes place = from_le_bytes w32 (take 4 (drop place bytes))
 
--- so many numbers, from the front
+-- this many numbers, from the front
 abbrev pub numbers_in : ℕ → List ℕ → List ℕ
 numbers_in zero bytes = []
 numbers_in (suc count) bytes = number_at bytes 0 ∷ numbers_in count (drop 4 bytes)
@@ -125,7 +125,7 @@ whole_length format bytes = stored_place format bytes + stored_count format byte
 abbrev pub stored_in : Format → List ℕ → List ℕ
 stored_in format bytes = take (stored_count format bytes) (drop (stored_place format bytes) bytes)
 
--- so many bytes: these, and zeros after them
+-- this many bytes: these, and zeros after them
 abbrev pub padded : ℕ → List ℕ → List ℕ
 padded count bytes = bytes ++ replicate (count - length bytes) 0
 

@@ -33,7 +33,6 @@ impl Model for Image {
     }) };
 }
 
-/// Written out, so that a check sees a call wherever one is dropped, and not the drops of its parts.
 impl Drop for Image {
     fn drop(self) {
         let Image {
@@ -112,14 +111,14 @@ impl Image {
     }
 }
 
-/// Whether it is the address of a word, where text has so many words.
+/// Whether it is the address of a word, where text has this many words.
 fn is_entry(entry: u32, words: usize) -> bool
     ensures { result ≡ is_entry words entry }
 {
     entry.is_multiple_of(4) && entry >= TEXT_START && (((entry - TEXT_START) / 4) as usize) < words
 }
 
-/// Whether the picture, if there is one, lies in data of so many bytes.
+/// Whether the picture, if there is one, lies in data of this many bytes.
 fn is_output_or_none(output: Option<Output>, bytes: usize) -> bool
     ensures { result ≡ is_output_or_none bytes output }
 {

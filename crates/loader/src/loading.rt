@@ -26,7 +26,7 @@ impl Image {
     }
 }
 
-/// The machine that the bytes of an image make with so many harts, at its start. A count of harts
+/// The machine that the bytes of an image make with this many harts, at its start. A count of harts
 /// outside 1 to 8 is refused after all that [`read_image`] refuses.
 pub fn load(alloc: Global, bytes: &[u8], harts: usize) -> Result<Machine, LoadFault>
     // What is loaded is the machine of an image that the bytes spell.

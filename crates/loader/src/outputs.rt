@@ -9,7 +9,7 @@ use memory::DATA_START;
 pub const MOST_PIXELS: u64 = 1_048_576;
 
 /// A picture in a machine's data: `height` rows of `width` pixels, each of 4 bytes. The first row
-/// stands at `address`, and each further one `stride` bytes after the one before.
+/// is at `address`, and each further one `stride` bytes after the one before.
 #[derive(Clone, Copy, Debug, PartialEq, Eq)]
 pub struct Output {
     /// The address of the first pixel.
@@ -50,7 +50,7 @@ impl Output {
             + 4 * u64::from(self.width)
     }
 
-    /// Whether it is a picture that lies in data of so many bytes.
+    /// Whether it is a picture that lies in data of this many bytes.
     pub fn lies_in(self, bytes: usize) -> bool
         ensures { result ≡ is_output bytes self }
     {

@@ -111,7 +111,7 @@ fn judge_frame(bytes: &[u8]) -> Result<Format, LoadFault>
     Ok(format)
 }
 
-/// So many numbers, from the front.
+/// This many numbers, from the front.
 fn words_of(alloc: Global, count: usize, text: &[u8]) -> Result<Vec<u32>, AllocError>
     requires { 4 * count ≤ length text.now }
     ensures { IfOk result (λ words. words.items ≡ numbers_in count text.now) }
@@ -123,7 +123,7 @@ fn words_of(alloc: Global, count: usize, text: &[u8]) -> Result<Vec<u32>, AllocE
     Ok(words)
 }
 
-/// So many bytes: these, and zeros after them.
+/// This many bytes: these, and zeros after them.
 fn padded(alloc: Global, count: usize, bytes: &[u8]) -> Result<Vec<u8>, AllocError>
     requires { length bytes.now ≤ count }
     ensures { IfOk result (λ padding. padding.items ≡ padded count bytes.now) }

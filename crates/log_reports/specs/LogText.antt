@@ -29,7 +29,7 @@ log_text log = text_of (heading log.harts ∷ run_lines (runs_of log.turns))
 
 -- ---- what a line says
 
--- The number of digits, at least one. A number above 2^40 counts as the one after that: no hart has so many turns either.
+-- The number of digits, at least one. A number above 2^40 counts as the one after that: no hart has this many turns either.
 unfoldable pub number_of : List ℕ → Option ℕ
 number_of word =
     if length word == 0 || nat_lt (prefix_len is_digit word) (length word) then None
@@ -55,12 +55,12 @@ run_in line = let count = prefix_len is_digit line in with_hart (number_of (take
 
 -- ---- the log of a text
 
--- a log of so many harts before any turn
+-- a log of this many harts before any turn
 abbrev pub headed : Option ℕ → Result LogState LogTextFault
 headed None = Err Heading
 headed (Some harts) = if nat_le 1 harts && nat_le harts 8 then Ok (record { harts = harts; turns = [] }) else Err Heading
 
--- a log with so many turns of a hart more
+-- a log with this many turns of a hart more
 abbrev pub with_run : LogState → Option (ℕ × ℕ) → Result LogState LogTextFault
 with_run log None = Err Line
 with_run log (Some (hart, count)) =

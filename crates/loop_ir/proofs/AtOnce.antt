@@ -97,16 +97,17 @@ module _ (points : Points) (inputs : Planes) (reads : Reads) where
     where
       by_test : (test : Bool) → cond test (run points inputs body (with counter (whole_value whole values) values) funcs) funcs
           ≡ put_effect points (cond test (effect (reads_of inputs funcs) body (with counter (whole_value whole values) values)) None) funcs
-      by_test true = does (sym (ap (λ (own : LoopLanes). own.is_one_store) (lanes_bind reads counter whole extent body))
+      by_test true = does (sym (ap (λ (own_loop_lanes : LoopLanes). own_loop_lanes.is_one_store)
+          (lanes_bind reads counter whole extent body))
           ∙ is) (with counter (whole_value whole values) values) funcs
       by_test false = refl
 
   does_by_layer : (X : Type 0) (part : X → Stmt) → ((x : X) → Does (part x)) → (y : Stmt-F X) → Does (roll-Stmt (map-Stmt X Stmt part y))
   does_by_layer X part holds (layer.Store store) = subst Does (sym (rolls-Store store)) (store_does store)
   does_by_layer X part holds (layer.Sequence a b) = subst Does (sym (rolls-Sequence (part a) (part b)))
-      (λ is. absurd (true≢false (sym is ∙ ap (λ (own : LoopLanes). own.is_one_store) (lanes_sequence reads (part a) (part b)))))
+      (λ is. absurd (true≢false (sym is ∙ ap (λ (own_loop_lanes : LoopLanes). own_loop_lanes.is_one_store) (lanes_sequence reads (part a) (part b)))))
   does_by_layer X part holds (layer.For counter count kind a) = subst Does (sym (rolls-For counter count kind (part a)))
-      (λ is. absurd (true≢false (sym is ∙ ap (λ (own : LoopLanes). own.is_one_store) (lanes_of_loop reads counter count kind (part a)))))
+      (λ is. absurd (true≢false (sym is ∙ ap (λ (own_loop_lanes : LoopLanes). own_loop_lanes.is_one_store) (lanes_of_loop reads counter count kind (part a)))))
   does_by_layer X part holds (layer.Bind counter whole extent a) = subst Does (sym (rolls-Bind counter whole extent (part a))) (bind_does counter whole extent
       (part a) (holds a))
 
@@ -115,7 +116,7 @@ module _ (points : Points) (inputs : Planes) (reads : Reads) where
 
 -- ---- reads that agree at all that a lane loads make it store the same
 
--- of so many tests, each passes at the point
+-- of this many tests, each passes at the point
 abbrev Pass : ℕ → (ℕ → Point → Bool) → Point → Type 0
 Pass n tests point = (k : ℕ) → k < n → tests k point ≡ true
 
@@ -184,15 +185,16 @@ put_misses : (points : Points) (inputs : Planes) (func x y pixel : ℕ) (funcs :
     → reads_of inputs (put points func x y pixel funcs) point.source point.x point.y ≡ reads_of inputs funcs point.source point.x point.y
 put_misses points inputs func x y pixel funcs point missed = by_source point.source missed
   where
-    at_func : (own : ℕ) (here hit : Bool) → not hit ≡ true → cond (here && hit) pixel (funcs own point.x point.y) ≡ funcs own point.x point.y
-    at_func own true false is = refl
-    at_func own false hit is = refl
-    at_func own true true is = absurd (true≢false (sym is))
+    at_func : (buffer_index : ℕ) (here hit : Bool) → not hit ≡ true → cond (here && hit) pixel (funcs buffer_index point.x point.y) ≡ funcs buffer_index point.x point.y
+    at_func buffer_index true false is = refl
+    at_func buffer_index false hit is = refl
+    at_func buffer_index true true is = absurd (true≢false (sym is))
 
     by_source : (source : Source) → not (is_source_of func source && (point.x == x && point.y == y)) ≡ true
         → reads_of inputs (put points func x y pixel funcs) source point.x point.y ≡ reads_of inputs funcs source point.x point.y
     by_source (sources.Input input) is = refl
-    by_source (sources.Func own) is = at_func own (points func x y) (own == func && (point.x == x && point.y == y)) is
+    by_source (sources.Func buffer_index) is = at_func buffer_index (points func x y)
+        (buffer_index == func && (point.x == x && point.y == y)) is
 
 module _ (points : Points) (inputs : Planes) (reads : Reads) (point : Point) where
   abbrev Stays : Stmt → Type 0
@@ -247,7 +249,7 @@ module _ (points : Points) (inputs : Planes) (body : Stmt) (at : ℕ → Values)
   abbrev stores : ℕ → Planes
   stores n = iterated n (λ lane. put_effect points (effect before body (at lane))) funcs
 
-  -- after so many lanes a point that all of them miss is answered as before
+  -- after this many lanes a point that all of them miss is answered as before
   answered : (n : ℕ) (point : Point) → Pass n (λ k. misses own (at k)) point → AgreeAt before (reads_of inputs (stores n)) point
   unfolding iterated
   answered zero point pass = refl

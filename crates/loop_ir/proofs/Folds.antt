@@ -17,8 +17,8 @@ module _ (A : Type 0) (step : Expr-F A → A) where
   pub at_number : (n : ℕ) → fold-Expr A step (e.Number n) ≡ step (layer.Number n)
   at_number n = ap of (sym (rolls-Number n)) ∙ fold-roll-Expr A step (layer.Number n)
 
-  pub at_linear : (own : Linear) → fold-Expr A step (e.Linear own) ≡ step (layer.Linear own)
-  at_linear own = ap of (sym (rolls-Linear own)) ∙ fold-roll-Expr A step (layer.Linear own)
+  pub at_linear : (sum : Linear) → fold-Expr A step (e.Linear sum) ≡ step (layer.Linear sum)
+  at_linear sum = ap of (sym (rolls-Linear sum)) ∙ fold-roll-Expr A step (layer.Linear sum)
 
   pub at_binary : (op : Operation) (a b : Expr) → fold-Expr A step (e.Binary op a b) ≡ step (layer.Binary op (fold-Expr A step a) (fold-Expr A step b))
   at_binary op a b = ap of (sym (rolls-Binary op a b)) ∙ fold-roll-Expr A step (layer.Binary op a b)

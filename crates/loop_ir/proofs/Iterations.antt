@@ -21,13 +21,14 @@ iterations_more : (n : ℕ) (one : ℕ → Planes → Planes) (start : Planes) �
 unfolding iterated
 iterations_more n one start = let next : n + 1 ≡ suc n = omega arith in ap (λ k. iterated k one start) next
 
-pub iteration_made : (points now : Points) (inputs : Planes) (body own : Stmt) (counter : Counter) (n : ℕ) (before entered : Values) (start old new : Planes)
-    → now ≡ points → own ≡ body → entered ≡ with counter n before
+pub iteration_made : (points now : Points) (inputs : Planes) (body new_statement : Stmt) (counter : Counter) (n : ℕ) (before entered : Values) (start old new : Planes)
+    → now ≡ points → new_statement ≡ body → entered ≡ with counter n before
     → old ≡ iterated n (λ iteration. run points inputs body (with counter iteration before)) start
-    → new ≡ run now inputs own entered old
+    → new ≡ run now inputs new_statement entered old
     → new ≡ iterated (n + 1) (λ iteration. run points inputs body (with counter iteration before)) start
-iteration_made points now inputs body own counter n before entered start old new same body_is enters so_far made =
-    made ∙ ap (λ p. run p inputs own entered old) same
+iteration_made points now inputs body new_statement counter n before entered start old new same body_is enters so_far
+    made =
+    made ∙ ap (λ p. run p inputs new_statement entered old) same
     ∙ ap (λ statement. run points inputs statement entered old) body_is
     ∙ ap (λ values. run points inputs body values old) enters
     ∙ ap (run points inputs body (with counter n before)) so_far
@@ -62,11 +63,11 @@ task_made points now inputs phase n start old new same so_far made =
     ∙ ap (run_task points inputs phase n) so_far
     ∙ sym (iterations_more n (run_task points inputs phase) start)
 
-pub test_passed : (statement body own : Stmt) (counter : Counter) (whole : Whole) (extent value : ℕ) (points : Points) (inputs : Planes)
+pub test_passed : (statement body new_statement : Stmt) (counter : Counter) (whole : Whole) (extent value : ℕ) (points : Points) (inputs : Planes)
     (before entered : Values) (start end : Planes)
-    → statement ≡ s.Bind counter whole extent body → own ≡ body → value ≡ whole_value whole before → value < extent → entered ≡ with counter value before
-    → end ≡ run points inputs own entered start → end ≡ run points inputs statement before start
-test_passed statement body own counter whole extent value points inputs before entered start end is body_is value_is below enters made =
+    → statement ≡ s.Bind counter whole extent body → new_statement ≡ body → value ≡ whole_value whole before → value < extent → entered ≡ with counter value before
+    → end ≡ run points inputs new_statement entered start → end ≡ run points inputs statement before start
+test_passed statement body new_statement counter whole extent value points inputs before entered start end is body_is value_is below enters made =
     made ∙ ap (λ one. run points inputs one entered start) body_is
     ∙ ap (λ values. run points inputs body values start) (enters ∙ ap (λ n. with counter n before) value_is)
     ∙ sym (run_bind points inputs counter whole extent body before start

@@ -23,9 +23,9 @@ pub need_number : (n : ℕ) → need_of (e.Number n) ≡ leaf
 unfolding need_of
 need_number n = at_number Need need_at n
 
-pub need_linear : (own : Linear) → need_of (e.Linear own) ≡ leaf
+pub need_linear : (sum : Linear) → need_of (e.Linear sum) ≡ leaf
 unfolding need_of
-need_linear own = at_linear Need need_at own
+need_linear sum = at_linear Need need_at sum
 
 pub need_binary : (o : Operation) (a b : Expr) → need_of (e.Binary o a b) ≡ of_parts (max (need a) (beside_first (need_of b)))
 unfolding need_of

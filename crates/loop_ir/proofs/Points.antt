@@ -74,66 +74,73 @@ written width height x y pixel pixels below_x below_y full =
 
 -- ---- a list of buffers, one of which is changed
 
-get_changed : (buffers : List BufferContents) (place : ℕ) (own default : BufferContents) → place < length buffers → slice_get (set buffers place own) place
-    ≡ Some own
-get_changed buffers place own default below =
-    let still : place < length (set buffers place own) = omega (arith, length-set buffers place own) in
-    slice_get-get_or (set buffers place own) place default still ∙ ap Some (get_or-set_same buffers place own default below)
+get_changed : (buffers : List BufferContents) (buffer_index : ℕ) (buffer_contents default : BufferContents) → buffer_index < length buffers → slice_get (set buffers buffer_index buffer_contents) buffer_index
+    ≡ Some buffer_contents
+get_changed buffers buffer_index buffer_contents default below =
+    let still : buffer_index < length (set buffers buffer_index buffer_contents) = omega
+    (arith, length-set buffers buffer_index buffer_contents) in
+    slice_get-get_or (set buffers buffer_index buffer_contents) buffer_index default still ∙ ap Some (get_or-set_same buffers buffer_index buffer_contents default below)
 
-get_other : (buffers : List BufferContents) (place other : ℕ) (own : BufferContents) → other ≢ place → slice_get (set buffers place own) other
+get_other : (buffers : List BufferContents) (buffer_index other : ℕ) (buffer_contents : BufferContents) → other ≢ buffer_index → slice_get (set buffers buffer_index buffer_contents) other
     ≡ slice_get buffers other
-get_other buffers place other own apart = elim (cases_lt other (length buffers)) [
+get_other buffers buffer_index other buffer_contents apart = elim (cases_lt other (length buffers)) [
   | inl below ↦
-      let still : other < length (set buffers place own) = omega (arith, length-set buffers place own) in
-      slice_get-get_or (set buffers place own) other own still ∙ ap Some (get_or-set_other buffers place other own own apart)
-      ∙ sym (slice_get-get_or buffers other own below)
-  | inr above ↦ slice_get_past (set buffers place own) other (omega (arith, length-set buffers place own)) ∙ sym (slice_get_past buffers other above)
+      let still : other < length (set buffers buffer_index buffer_contents) = omega
+      (arith, length-set buffers buffer_index buffer_contents) in
+      slice_get-get_or (set buffers buffer_index buffer_contents) other buffer_contents still ∙ ap Some (get_or-set_other buffers buffer_index other buffer_contents buffer_contents apart)
+      ∙ sym (slice_get-get_or buffers other buffer_contents below)
+  | inr above ↦ slice_get_past (set buffers buffer_index buffer_contents) other (omega (arith, length-set buffers buffer_index buffer_contents)) ∙ sym (slice_get_past buffers other above)
 ]
 
-elsewhere : (points : Points) (own x y pixel : ℕ) (all : Planes) (place i j : ℕ) → (place == own) ≡ false
-    → all place i j ≡ put points own x y pixel all place i j
-elsewhere points own x y pixel all place i j apart =
-    elim (points own x y) as (λ there. all place i j ≡ (if there && (place == own && (i == x && j == y)) then pixel else all place i j))
+elsewhere : (points : Points) (buffer_index x y pixel : ℕ) (all : Planes) (place i j : ℕ)
+    → (place == buffer_index) ≡ false
+    → all place i j ≡ put points buffer_index x y pixel all place i j
+elsewhere points buffer_index x y pixel all place i j apart =
+    elim (points buffer_index x y) as (λ there. all place i j ≡ (if there && (place == buffer_index && (i == x && j == y)) then pixel else all place i j))
     [ true ↦ rw apart refl | false ↦ refl ]
 
-put_at : (buffers : List BufferContents) (own x y pixel : ℕ) (new default : BufferContents) → own < length buffers
-    → plane_of new ≡ (λ i j. if has_point (get_or buffers own default) x y && (i == x && j == y) then pixel else plane_of (get_or buffers own default) i j)
-    → (place i j : ℕ) → planes (slice_set buffers own new) place i j ≡ put (points_of buffers) own x y pixel (planes buffers) place i j
-put_at buffers own x y pixel new default below changed place i j =
-    let old : BufferContents = get_or buffers own default in
-    let found : slice_get buffers own ≡ Some old = slice_get-get_or buffers own default below in
-    elim (cases_eq place own) [
+put_at : (buffers : List BufferContents) (buffer_index x y pixel : ℕ) (new default : BufferContents)
+    → buffer_index < length buffers
+    → plane_of new ≡ (λ i j. if has_point (get_or buffers buffer_index default) x y && (i == x && j == y) then pixel else plane_of (get_or buffers buffer_index default) i j)
+    → (place i j : ℕ) → planes (slice_set buffers buffer_index new) place i j ≡ put (points_of buffers) buffer_index x y pixel (planes buffers) place i j
+put_at buffers buffer_index x y pixel new default below changed place i j =
+    let old : BufferContents = get_or buffers buffer_index default in
+    let found : slice_get buffers buffer_index ≡ Some old = slice_get-get_or buffers buffer_index default below in
+    elim (cases_eq place buffer_index) [
       | inl e ↦
-          let same : (place == own) ≡ true = grind (arith, nat_tests) in
-          let left : planes (slice_set buffers own new) place i j ≡ plane_of new i j =
-          ap (λ n. plane_of_any (slice_get (set buffers own new) n) i j) e ∙ ap (λ o. plane_of_any o i j) (get_changed buffers own new old below) in
+          let same : (place == buffer_index) ≡ true = grind (arith, nat_tests) in
+          let left : planes (slice_set buffers buffer_index new) place i j ≡ plane_of new i j =
+          ap (λ n. plane_of_any (slice_get (set buffers buffer_index new) n) i j) e ∙ ap (λ o. plane_of_any o i j) (get_changed buffers buffer_index new old below) in
           let right : planes buffers place i j ≡ plane_of old i j =
           ap (λ n. plane_of_any (slice_get buffers n) i j) e ∙ ap (λ o. plane_of_any o i j) found in
-          let there : points_of buffers own x y ≡ has_point old x y = ap (λ o. has_point_of_any o x y) found in
+          let there : points_of buffers buffer_index x y ≡ has_point old x y = ap (λ o. has_point_of_any o x y) found in
           left ∙ ap (λ (plane : ℕ → ℕ → ℕ). plane i j) changed ∙ rw (same, right, there) refl
       | inr apart ↦
-          let other : (place == own) ≡ false = grind (arith, nat_tests, apart) in
-          ap (λ o. plane_of_any o i j) (get_other buffers own place new apart) ∙ elsewhere (points_of buffers) own x y pixel (planes buffers) place i j other
+          let other : (place == buffer_index) ≡ false = grind (arith, nat_tests, apart) in
+          ap (λ o. plane_of_any o i j) (get_other buffers buffer_index place new apart) ∙ elsewhere (points_of buffers) buffer_index x y pixel (planes buffers) place i j other
     ]
 
-pub put_one : (buffers : List BufferContents) (own x y pixel : ℕ) (new default : BufferContents) → own < length buffers
-    → plane_of new ≡ (λ i j. if has_point (get_or buffers own default) x y && (i == x && j == y) then pixel else plane_of (get_or buffers own default) i j)
-    → planes (slice_set buffers own new) ≡ put (points_of buffers) own x y pixel (planes buffers)
-put_one buffers own x y pixel new default below changed =
-    fun_ext (λ place. fun_ext (λ i. fun_ext (λ j. put_at buffers own x y pixel new default below changed place i j)))
+pub put_one : (buffers : List BufferContents) (buffer_index x y pixel : ℕ) (new default : BufferContents)
+    → buffer_index < length buffers
+    → plane_of new ≡ (λ i j. if has_point (get_or buffers buffer_index default) x y && (i == x && j == y) then pixel else plane_of (get_or buffers buffer_index default) i j)
+    → planes (slice_set buffers buffer_index new) ≡ put (points_of buffers) buffer_index x y pixel (planes buffers)
+put_one buffers buffer_index x y pixel new default below changed =
+    fun_ext (λ place. fun_ext (λ i. fun_ext (λ j. put_at buffers buffer_index x y pixel new default below changed place
+    i j)))
 
-pub put_none : (buffers : List BufferContents) (own x y pixel : ℕ) → length buffers ≤ own
-    → planes buffers ≡ put (points_of buffers) own x y pixel (planes buffers)
-put_none buffers own x y pixel above =
-    let missing : points_of buffers own x y ≡ false = ap (λ o. has_point_of_any o x y) (slice_get_past buffers own above) in
+pub put_none : (buffers : List BufferContents) (buffer_index x y pixel : ℕ) → length buffers ≤ buffer_index
+    → planes buffers ≡ put (points_of buffers) buffer_index x y pixel (planes buffers)
+put_none buffers buffer_index x y pixel above =
+    let missing : points_of buffers buffer_index x y ≡ false = ap (λ o. has_point_of_any o x y) (slice_get_past buffers buffer_index above) in
     fun_ext (λ place. fun_ext (λ i. fun_ext (λ j. rw missing refl)))
 
-pub points_stay : (buffers : List BufferContents) (own : ℕ) (new default : BufferContents) → own < length buffers
-    → has_point new ≡ has_point (get_or buffers own default)
-    → points_of (slice_set buffers own new) ≡ points_of buffers
-points_stay buffers own new default below same = fun_ext (λ place. elim (cases_eq place own) [
+pub points_stay : (buffers : List BufferContents) (buffer_index : ℕ) (new default : BufferContents)
+    → buffer_index < length buffers
+    → has_point new ≡ has_point (get_or buffers buffer_index default)
+    → points_of (slice_set buffers buffer_index new) ≡ points_of buffers
+points_stay buffers buffer_index new default below same = fun_ext (λ place. elim (cases_eq place buffer_index) [
   | inl e ↦
-      ap (λ n. has_point_of_any (slice_get (set buffers own new) n)) e ∙ ap has_point_of_any (get_changed buffers own new new below)
-      ∙ same ∙ sym (ap (λ n. has_point_of_any (slice_get buffers n)) e ∙ ap has_point_of_any (slice_get-get_or buffers own default below))
-  | inr apart ↦ ap has_point_of_any (get_other buffers own place new apart)
+      ap (λ n. has_point_of_any (slice_get (set buffers buffer_index new) n)) e ∙ ap has_point_of_any (get_changed buffers buffer_index new new below)
+      ∙ same ∙ sym (ap (λ n. has_point_of_any (slice_get buffers n)) e ∙ ap has_point_of_any (slice_get-get_or buffers buffer_index default below))
+  | inr apart ↦ ap has_point_of_any (get_other buffers buffer_index place new apart)
 ])

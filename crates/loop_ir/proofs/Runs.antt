@@ -20,28 +20,29 @@ use Rattle.loop_ir.specs.Soundness.{every, is_sound, is_sound_at}
 
 -- ---- which Func a statement is about
 
-module _ (place : ℕ) where
+module _ (buffer_index : ℕ) where
   abbrev about : Stmt → Bool
-  about = is_about place
+  about = is_about buffer_index
 
-  pub about_store : (store : Store) → is_about place (s.Store store) ≡ (store.func == place)
+  pub about_store : (store : Store) → is_about buffer_index (s.Store store) ≡ (store.func == buffer_index)
   unfolding is_about
-  about_store store = ap about (sym (rolls-Store store)) ∙ fold-roll-Stmt Bool (is_about_at place) (layer.Store store)
+  about_store store = ap about (sym (rolls-Store store)) ∙ fold-roll-Stmt Bool (is_about_at buffer_index)
+      (layer.Store store)
 
-  pub about_sequence : (first second : Stmt) → is_about place (s.Sequence first second) ≡ (is_about place first && is_about place second)
+  pub about_sequence : (first second : Stmt) → is_about buffer_index (s.Sequence first second) ≡ (is_about buffer_index first && is_about buffer_index second)
   unfolding is_about
-  about_sequence first second = ap about (sym (rolls-Sequence first second)) ∙ fold-roll-Stmt Bool (is_about_at place) (layer.Sequence first second)
+  about_sequence first second = ap about (sym (rolls-Sequence first second)) ∙ fold-roll-Stmt Bool (is_about_at buffer_index) (layer.Sequence first second)
 
-  pub about_for : (counter : Counter) (count : ℕ) (kind : LoopKind) (body : Stmt) → is_about place (s.For counter count kind body) ≡ (counter.func == place
-      && is_about place body)
+  pub about_for : (counter : Counter) (count : ℕ) (kind : LoopKind) (body : Stmt) → is_about buffer_index (s.For counter count kind body) ≡ (counter.func == buffer_index
+      && is_about buffer_index body)
   unfolding is_about
   about_for counter count kind body = ap about (sym (rolls-For counter count kind body))
-      ∙ fold-roll-Stmt Bool (is_about_at place) (layer.For counter count kind body)
+      ∙ fold-roll-Stmt Bool (is_about_at buffer_index) (layer.For counter count kind body)
 
-  pub about_bind : (counter : Counter) (whole : Whole) (extent : ℕ) (body : Stmt) → is_about place (s.Bind counter whole extent body) ≡ is_about place body
+  pub about_bind : (counter : Counter) (whole : Whole) (extent : ℕ) (body : Stmt) → is_about buffer_index (s.Bind counter whole extent body) ≡ is_about buffer_index body
   unfolding is_about
   about_bind counter whole extent body = ap about (sym (rolls-Bind counter whole extent body))
-      ∙ fold-roll-Stmt Bool (is_about_at place) (layer.Bind counter whole extent body)
+      ∙ fold-roll-Stmt Bool (is_about_at buffer_index) (layer.Bind counter whole extent body)
 
 -- ---- runs
 
@@ -131,19 +132,19 @@ module _ (reads : Reads) (func x y : ℕ) (expected : Values → Bool) where
   every_true zero test each = refl
   every_true (suc n) test each = and_from (every n test) (test n) (every_true n test each) (each n)
 
-  module _ (place : ℕ) (differ : func ≢ place) where
+  module _ (buffer_index : ℕ) (differ : func ≢ buffer_index) where
     abbrev Avoids : Stmt → Type 0
-    Avoids statement = is_about place statement ≡ true → (values : Values) → stores_in_runs reads func x y expected statement values ≡ true
+    Avoids statement = is_about buffer_index statement ≡ true → (values : Values) → stores_in_runs reads func x y expected statement values ≡ true
 
-    other : (own : ℕ) → (own == place) ≡ true → (own == func) ≡ false
-    other own e = ne_eqb own func (λ (same : own ≡ func). differ (sym same ∙ eqb-true own place e))
+    other : (own : ℕ) → (own == buffer_index) ≡ true → (own == func) ≡ false
+    other own e = ne_eqb own func (λ (same : own ≡ func). differ (sym same ∙ eqb-true own buffer_index e))
 
     store_avoids : (store : Store) → Avoids (s.Store store)
-    store_avoids store is values = ap (λ (own : Runs). own.are_runs values) (runs_store store) ∙ ap not (other store.func (sym (about_store place store) ∙ is))
+    store_avoids store is values = ap (λ (own : Runs). own.are_runs values) (runs_store store) ∙ ap not (other store.func (sym (about_store buffer_index store) ∙ is))
 
     sequence_avoids : (first second : Stmt) → Avoids first → Avoids second → Avoids (s.Sequence first second)
     sequence_avoids first second one two is values =
-        let parts = and_parts (is_about place first) (is_about place second) (sym (about_sequence place first second) ∙ is) in
+        let parts = and_parts (is_about buffer_index first) (is_about buffer_index second) (sym (about_sequence buffer_index first second) ∙ is) in
         ap (λ (own : Runs). own.are_runs values) (runs_sequence first second)
         ∙ and_from (stores_in_runs reads func x y expected first values) (stores_in_runs reads func x y expected second values) (one parts.0 values)
         (two parts.1 values)
@@ -154,7 +155,7 @@ module _ (reads : Reads) (func x y : ℕ) (expected : Values → Bool) where
 
     for_avoids : (counter : Counter) (count : ℕ) (kind : LoopKind) (body : Stmt) → Avoids body → Avoids (s.For counter count kind body)
     for_avoids counter count kind body avoids is values =
-        let parts = and_parts (counter.func == place) (is_about place body) (sym (about_for place counter count kind body) ∙ is) in
+        let parts = and_parts (counter.func == buffer_index) (is_about buffer_index body) (sym (about_for buffer_index counter count kind body) ∙ is) in
         ap (λ (own : Runs). own.are_runs values) (runs_for counter count kind body)
         ∙ ap (λ (b : Bool). cond (is_vectorized kind && b) (are_same_run counter count body values) (every count (λ iteration. stores_in_runs reads func x y expected
         body (with counter iteration values)))) (other counter.func parts.0)
@@ -169,7 +170,8 @@ module _ (reads : Reads) (func x y : ℕ) (expected : Values → Bool) where
     bind_avoids : (counter : Counter) (whole : Whole) (extent : ℕ) (body : Stmt) → Avoids body → Avoids (s.Bind counter whole extent body)
     bind_avoids counter whole extent body avoids is values =
         ap (λ (own : Runs). own.are_runs values) (runs_bind counter whole extent body)
-        ∙ by_test (nat_lt (whole_value whole values) extent) (avoids (sym (about_bind place counter whole extent body)
+        ∙ by_test (nat_lt (whole_value whole values) extent) (avoids
+        (sym (about_bind buffer_index counter whole extent body)
         ∙ is) (with counter (whole_value whole values) values))
       where
         by_test : (test : Bool) {b : Bool} → b ≡ true → cond test b true ≡ true

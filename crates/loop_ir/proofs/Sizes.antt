@@ -22,9 +22,9 @@ pub size_number : (n : ℕ) → size_of (e.Number n) ≡ leaf 0
 unfolding size_of
 size_number n = at_number Size size_at n
 
-pub size_linear : (own : Linear) → size_of (e.Linear own) ≡ leaf (length own.terms)
+pub size_linear : (sum : Linear) → size_of (e.Linear sum) ≡ leaf (length sum.terms)
 unfolding size_of
-size_linear own = at_linear Size size_at own
+size_linear sum = at_linear Size size_at sum
 
 pub size_binary : (o : Operation) (a b : Expr) → size_of (e.Binary o a b) ≡ of_parts (size a + size b + kept (size_of b) + 4)
 unfolding size_of

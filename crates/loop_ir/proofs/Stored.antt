@@ -50,16 +50,17 @@ module _ (points : Points) (inputs : Planes) (func x y : ℕ) where
   moved before after other left run_left e f goes = subst (λ (t : Trace). Goes before t run_left) (sym e) (subst (λ (p : Planes). Goes before after p) (sym f)
       goes)
 
-  missed : (own a b pixel : ℕ) (all : Planes) → (own == func && (a == x && b == y)) ≡ false → put points own a b pixel all func x y ≡ all func x y
-  missed own a b pixel all none = by_test (points own a b && (func == own && (x == a && y == b))) refl
+  missed : (buffer_index a b pixel : ℕ) (all : Planes) → (buffer_index == func && (a == x && b == y)) ≡ false → put points buffer_index a b pixel all func x y ≡ all func x y
+  missed buffer_index a b pixel all none = by_test (points buffer_index a b &&
+      (func == buffer_index && (x == a && y == b))) refl
     where
-      by_test : (test : Bool) → (points own a b && (func == own && (x == a && y == b))) ≡ test → cond test pixel (all func x y) ≡ all func x y
+      by_test : (test : Bool) → (points buffer_index a b && (func == buffer_index && (x == a && y == b))) ≡ test → cond test pixel (all func x y) ≡ all func x y
       by_test false e = refl
       by_test true e =
-          let p = and_parts (points own a b) (func == own && (x == a && y == b)) e in
-          let q = and_parts (func == own) (x == a && y == b) p.1 in
+          let p = and_parts (points buffer_index a b) (func == buffer_index && (x == a && y == b)) e in
+          let q = and_parts (func == buffer_index) (x == a && y == b) p.1 in
           let r = and_parts (x == a) (y == b) q.1 in
-          let hit = and_from (own == func) (a == x && b == y) (eq-eqb own func (sym (eqb-true func own q.0))) (and_from (a == x) (b == y)
+          let hit = and_from (buffer_index == func) (a == x && b == y) (eq-eqb buffer_index func (sym (eqb-true func buffer_index q.0))) (and_from (a == x) (b == y)
           (eq-eqb a x (sym (eqb-true x a r.0))) (eq-eqb b y (sym (eqb-true y b r.1)))) in
           absurd (true≢false (sym hit ∙ none))
 

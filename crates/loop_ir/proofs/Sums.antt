@@ -49,14 +49,14 @@ merged v s n rest =
     let same : v * (s + n) + rest ≡ (v * s + rest) + v * n = omega (arith, parts) in
     in_sum (v * ((s + n) % 2 ^ 32)) (v * (s + n)) rest (mul-mod_second v (s + n) (2 ^ 32)) ∙ ap (λ (k : ℕ). k % 2 ^ 32) same
 
-get_none : (place : ℕ) → slice_get {X = Term} [] place ≡ None
+get_none : (buffer_index : ℕ) → slice_get {X = Term} [] buffer_index ≡ None
 get_none zero = refl
-get_none (suc place) = refl
+get_none (suc buffer_index) = refl
 
-pub sum_set : (values : Values) (terms : List Term) (place s n : ℕ) (counter : Counter)
-    → slice_get terms place ≡ Some (record { counter = counter; stride = s })
-    → sum_of values (slice_set terms place (record { counter = counter; stride = word.add s n })) % 2 ^ 32 ≡ (sum_of values terms + values counter * n) % 2 ^ 32
-sum_set values [] place s n counter is = let none = get_none place in absurd (no_some none is)
+pub sum_set : (values : Values) (terms : List Term) (buffer_index s n : ℕ) (counter : Counter)
+    → slice_get terms buffer_index ≡ Some (record { counter = counter; stride = s })
+    → sum_of values (slice_set terms buffer_index (record { counter = counter; stride = word.add s n })) % 2 ^ 32 ≡ (sum_of values terms + values counter * n) % 2 ^ 32
+sum_set values [] buffer_index s n counter is = let none = get_none buffer_index in absurd (no_some none is)
   where
     no_some : {x : Option Term} {t : Term} → x ≡ None → x ≡ Some t → ⊥
     no_some e f = cc
@@ -64,13 +64,13 @@ sum_set values (first ∷ terms) zero s n counter is =
     let e : first ≡ record { counter = counter; stride = s } = cc in
     merged (values counter) s n (sum_of values terms)
     ∙ ap (λ (t : Term). ((values t.counter * t.stride + sum_of values terms) + values counter * n) % 2 ^ 32) (sym e)
-sum_set values (first ∷ terms) (suc place) s n counter is =
+sum_set values (first ∷ terms) (suc buffer_index) s n counter is =
     let own = values first.counter * first.stride in
-    let rest = sum_of values (slice_set terms place (record { counter = counter; stride = word.add s n })) in
+    let rest = sum_of values (slice_set terms buffer_index (record { counter = counter; stride = word.add s n })) in
     let more = sum_of values terms + values counter * n in
     let swap : own + rest ≡ rest + own = omega arith in
     let back : more + own ≡ (own + sum_of values terms) + values counter * n = omega arith in
-    ap (λ (k : ℕ). k % 2 ^ 32) swap ∙ in_sum rest more own (sum_set values terms place s n counter is) ∙ ap (λ (k : ℕ). k % 2 ^ 32) back
+    ap (λ (k : ℕ). k % 2 ^ 32) swap ∙ in_sum rest more own (sum_set values terms buffer_index s n counter is) ∙ ap (λ (k : ℕ). k % 2 ^ 32) back
 
 pub sum_push : (values : Values) (terms : List Term) (term : Term) → sum_of values (terms ++ term ∷ []) ≡ sum_of values terms + values term.counter
     * term.stride
@@ -130,22 +130,26 @@ difference : (a b : ℕ) → a < 2 ^ 32 → b < 2 ^ 32 → (word.subtract a b + 
 unfolding word.subtract
 difference a b la lb = omega (arith, la, lb)
 
-pub number_added : (own sum n : ℕ) → (word.add own n + sum) % 2 ^ 32 ≡ word.add ((own + sum) % 2 ^ 32) n
+pub number_added : (buffer_index sum n : ℕ) → (word.add buffer_index n + sum) % 2 ^ 32 ≡ word.add
+    ((buffer_index + sum) % 2 ^ 32) n
 unfolding word.add
-number_added own sum n =
-    let e : (own + n) + sum ≡ (own + sum) + n = omega arith in
-    mod-add-mod (own + n) (2 ^ 32) sum ∙ ap (λ (k : ℕ). k % 2 ^ 32) e ∙ sym (mod-add-mod (own + sum) (2 ^ 32) n)
+number_added buffer_index sum n =
+    let e : (buffer_index + n) + sum ≡ (buffer_index + sum) + n = omega arith in
+    mod-add-mod (buffer_index + n) (2 ^ 32) sum ∙ ap (λ (k : ℕ). k % 2 ^ 32) e ∙ sym
+    (mod-add-mod (buffer_index + sum) (2 ^ 32) n)
 
-pub sums_apart : (own other old others new : ℕ) → own < 2 ^ 32 → other < 2 ^ 32 → (new + others) % 2 ^ 32 ≡ old % 2 ^ 32
-    → (word.subtract own other + new) % 2 ^ 32 ≡ word.subtract ((own + old) % 2 ^ 32) ((other + others) % 2 ^ 32)
-sums_apart own other old others new lo lt e =
-    let d = word.subtract own other in
+pub sums_apart : (buffer_index other old others new : ℕ) → buffer_index < 2 ^ 32 → other < 2 ^ 32
+    → (new + others) % 2 ^ 32 ≡ old % 2 ^ 32
+    → (word.subtract buffer_index other + new) % 2 ^ 32 ≡ word.subtract ((buffer_index + old) % 2 ^ 32)
+    ((other + others) % 2 ^ 32)
+sums_apart buffer_index other old others new lo lt e =
+    let d = word.subtract buffer_index other in
     let same : (d + new) + (other + others) ≡ (d + other) + (new + others) = omega arith in
-    let swapped : own + (new + others) ≡ (new + others) + own = omega arith in
-    let back : old + own ≡ own + old = omega arith in
-    let own_is : own % 2 ^ 32 ≡ own = mod-eq_of_lt {n = own} {m = 2 ^ 32} lo in
-    let whole : ((d + new) % 2 ^ 32 + (other + others) % 2 ^ 32) % 2 ^ 32 ≡ (own + old) % 2 ^ 32 =
+    let swapped : buffer_index + (new + others) ≡ (new + others) + buffer_index = omega arith in
+    let back : old + buffer_index ≡ buffer_index + old = omega arith in
+    let own_is : buffer_index % 2 ^ 32 ≡ buffer_index = mod-eq_of_lt {n = buffer_index} {m = 2 ^ 32} lo in
+    let whole : ((d + new) % 2 ^ 32 + (other + others) % 2 ^ 32) % 2 ^ 32 ≡ (buffer_index + old) % 2 ^ 32 =
     both (d + new) (other + others) ∙ ap (λ (k : ℕ). k % 2 ^ 32) same
-    ∙ in_sum (d + other) own (new + others) (difference own other lo lt ∙ sym own_is)
-    ∙ ap (λ (k : ℕ). k % 2 ^ 32) swapped ∙ in_sum (new + others) old own e ∙ ap (λ (k : ℕ). k % 2 ^ 32) back in
-    remains ((d + new) % 2 ^ 32) ((own + old) % 2 ^ 32) ((other + others) % 2 ^ 32) (omega arith) (omega arith) (omega arith) whole
+    ∙ in_sum (d + other) buffer_index (new + others) (difference buffer_index other lo lt ∙ sym own_is)
+    ∙ ap (λ (k : ℕ). k % 2 ^ 32) swapped ∙ in_sum (new + others) old buffer_index e ∙ ap (λ (k : ℕ). k % 2 ^ 32) back in
+    remains ((d + new) % 2 ^ 32) ((buffer_index + old) % 2 ^ 32) ((other + others) % 2 ^ 32) (omega arith) (omega arith) (omega arith) whole

@@ -36,7 +36,7 @@ abbrev pub put_effect : Points → Option Effect → Planes → Planes
 put_effect points None funcs = funcs
 put_effect points (Some own) funcs = put points own.func own.x own.y own.pixel funcs
 
--- so many lanes, of which each has its own values of counters
+-- this many lanes, of which each has its own values of counters
 abbrev pub at_once : Points → Planes → Stmt → (ℕ → Values) → ℕ → Planes → Planes
 at_once points inputs body at count funcs = iterated count (λ lane. put_effect points (effect (reads_of inputs funcs) body (at lane))) funcs
 

@@ -12,17 +12,18 @@ pub record BufferContents : Type 0 where
   pub pixels : List ℕ
 
 -- what every buffer keeps
-pub record IsBuffer (own : BufferContents) : Type 0 where
+pub record IsBuffer (buffer_contents : BufferContents) : Type 0 where
   -- a pixel for each point
-  pub full : length own.pixels ≡ own.width * own.height
-  pub words : All (λ pixel. pixel < 2 ^ 32) own.pixels
+  pub full : length buffer_contents.pixels ≡ buffer_contents.width * buffer_contents.height
+  pub words : All (λ pixel. pixel < 2 ^ 32) buffer_contents.pixels
 
 abbrev pub has_point : BufferContents → ℕ → ℕ → Bool
-has_point own x y = nat_lt x own.width && nat_lt y own.height
+has_point buffer_contents x y = nat_lt x buffer_contents.width && nat_lt y buffer_contents.height
 
 -- 0 outside
 abbrev pub plane_of : BufferContents → Plane
-plane_of own x y = if has_point own x y then slice_index own.pixels (y * own.width + x) else 0
+plane_of buffer_contents x y = if has_point buffer_contents x y then slice_index buffer_contents.pixels
+    (y * buffer_contents.width + x) else 0
 
 abbrev pub plane_of_any : Option BufferContents → Plane
 plane_of_any None x y = 0
@@ -45,4 +46,4 @@ points_of all place = has_point_of_any (slice_get all place)
 
 -- one point with another number, where there is that point
 abbrev pub put : Points → ℕ → ℕ → ℕ → ℕ → Planes → Planes
-put points own x y value all place i j = if points own x y && (place == own && (i == x && j == y)) then value else all place i j
+put points buffer_index x y value all place i j = if points buffer_index x y && (place == buffer_index && (i == x && j == y)) then value else all place i j

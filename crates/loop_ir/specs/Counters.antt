@@ -17,11 +17,11 @@ Values = Counter → ℕ
 abbrev pub no_values : Values
 no_values counter = 0
 
--- one counter stands at a value, the others where they stood
+-- one counter is at a value, the others where they were
 abbrev pub with : Counter → ℕ → Values → Values
-with own value values counter = if same_counter counter own then value else values counter
+with loop_counter value values counter = if same_counter counter loop_counter then value else values counter
 
--- the latest stands first
+-- the latest is first
 abbrev pub values_at : Bindings-F Values → Values
 values_at layer.Empty = no_values
 values_at (layer.Bound counter value outer) = with counter value outer.now

@@ -19,7 +19,7 @@ sum_of values [] = 0
 sum_of values (first ∷ others) = values first.counter * first.stride + sum_of values others
 
 unfoldable pub linear_value : Values → Linear → ℕ
-linear_value values own = (own.number + sum_of values own.terms) % 2 ^ 32
+linear_value values sum = (sum.number + sum_of values sum.terms) % 2 ^ 32
 
 abbrev pub value_at : Reads → Values → Expr-F ℕ → ℕ
 value_at reads values (layer.Number n) = n
@@ -35,7 +35,7 @@ value reads values e = fold-Expr ℕ (value_at reads values) e
 
 -- ---- loads
 
--- Both arms of a select are evaluated. A load stands after those of its indexes.
+-- Both arms of a select are evaluated. A load is after those of its indexes.
 abbrev pub loads_at : Expr-F Seen → List Point
 loads_at (layer.Number n) = []
 loads_at (layer.Linear own) = []

@@ -58,7 +58,7 @@ pub record LoopLanes : Type 0 where
 
 -- Where all loads are answered so, one statement doesn't store at the point.
 abbrev pub misses : LoopLanes → Values → Point → Bool
-misses own values point = own.touches (all_but point) all_points values
+misses own_loop_lanes values point = own_loop_lanes.touches (all_but point) all_points values
 
 -- no load of one lane is of a point at which an earlier lane stores
 abbrev pub are_apart : LoopLanes → (ℕ → Values) → ℕ → Bool
@@ -94,7 +94,7 @@ at_once_at (layer.Bind counter whole extent body) values =
 
 -- what statements inside touch
 abbrev pub touched_at : Points → (Point → Bool) → LoopLanes → Values → Bool
-touched_at written loaded own = own.touches written loaded
+touched_at written loaded own_loop_lanes = own_loop_lanes.touches written loaded
 
 abbrev pub lanes_at : Reads → Stmt-F LoopLanes → LoopLanes
 lanes_at reads own = record {

@@ -24,7 +24,7 @@ of_parts count = record { is_leaf = false; count = count }
 
 -- A second operand waits for the first, but a leaf needs no register beside it.
 abbrev pub beside_first : Need → ℕ
-beside_first own = if own.is_leaf then 0 else 1 + own.count
+beside_first own_need = if own_need.is_leaf then 0 else 1 + own_need.count
 
 -- A divisor is a second operand. No registers suffice for a quotient by 0.
 abbrev pub divisor_need : ℕ → ℕ

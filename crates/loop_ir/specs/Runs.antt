@@ -18,14 +18,14 @@ use Rattle.loop_ir.specs.Soundness.{every, is_sound, is_sound_at}
 -- ---- statements of one Func
 
 abbrev pub is_about_at : ℕ → Stmt-F Bool → Bool
-is_about_at place (layer.Store store) = store.func == place
-is_about_at place (layer.Sequence first second) = first && second
-is_about_at place (layer.For counter count kind body) = counter.func == place && body
-is_about_at place (layer.Bind counter whole extent body) = body
+is_about_at buffer_index (layer.Store store) = store.func == buffer_index
+is_about_at buffer_index (layer.Sequence first second) = first && second
+is_about_at buffer_index (layer.For counter count kind body) = counter.func == buffer_index && body
+is_about_at buffer_index (layer.Bind counter whole extent body) = body
 
 -- All its loops are the Func's, and all its stores go to the Func's buffer.
 unfoldable pub is_about : ℕ → Stmt → Bool
-is_about place statement = fold-Stmt Bool (is_about_at place) statement
+is_about buffer_index statement = fold-Stmt Bool (is_about_at buffer_index) statement
 
 -- ---- runs
 
@@ -38,7 +38,7 @@ abbrev pub are_same : Bool → Bool → Bool
 are_same a b = if a then b else not b
 
 abbrev pub missed_by : Runs → Values → Bool
-missed_by own = own.misses
+missed_by own_runs = own_runs.misses
 
 abbrev pub point_of : ℕ → ℕ → ℕ → Point
 point_of func x y = record { source = sources.Func func; x = x; y = y }
@@ -76,5 +76,6 @@ RunsMissWhatIsSound = (reads : Reads) (func x y : ℕ) (expected : Values → Bo
 
 -- A statement of another Func stores in no run of this one, and nowhere else in it.
 abbrev pub OthersStoreInNoRun : Type 0
-OthersStoreInNoRun = (reads : Reads) (func x y : ℕ) (expected : Values → Bool) (place : ℕ) (statement : Stmt) (values : Values)
-    → func ≢ place → is_about place statement ≡ true → stores_in_runs reads func x y expected statement values ≡ true
+OthersStoreInNoRun = (reads : Reads) (func x y : ℕ) (expected : Values → Bool) (buffer_index : ℕ) (statement : Stmt) (values : Values)
+    → func ≢ buffer_index → is_about buffer_index statement ≡ true
+    → stores_in_runs reads func x y expected statement values ≡ true

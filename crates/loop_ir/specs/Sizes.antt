@@ -61,7 +61,7 @@ is_laid_out kinds.Vectorized = false
 abbrev pub are_copies : Bool → ℕ → Bool
 are_copies is_laid count = is_laid && nat_lt 0 count
 
--- of a loop in so many iterations, with a body of so many words: one that is laid out asks for a word at first and another one after each copy
+-- of a loop in this many iterations, with a body of this many words: one that is laid out asks for a word at first and another one after each copy
 abbrev pub loop_size : Bool → ℕ → ℕ → ℕ
 loop_size is_laid count body = if are_copies is_laid count then count * (body + 1) + 1 else body + 7
 

@@ -22,7 +22,6 @@ impl Model for Buffer {
     ghost invariant = { λ b. IsBuffer (record { width = b.width; height = b.height; pixels = b.pixels.items }) };
 }
 
-/// Written out, so that a check sees a call wherever one is dropped, and not the drops of its parts.
 impl Drop for Buffer {
     fn drop(self) {
         let Buffer {

@@ -43,7 +43,6 @@ pub struct Linear {
     pub terms: Items<Term>,
 }
 
-/// Written out, so that a check sees a call wherever one is dropped, and not the drops of its parts.
 impl Drop for Linear {
     fn drop(self) {
         let Linear { terms, number: _ } = self;
@@ -132,7 +131,6 @@ pub enum Expr {
     Load(Source, Boxed<Expr>, Boxed<Expr>),
 }
 
-/// Written out, so that a check sees a call wherever one is dropped, and not the drops of its parts.
 impl Drop for Expr {
     fn drop(self) {
         match self {

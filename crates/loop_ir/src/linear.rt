@@ -10,7 +10,7 @@ use halide_pipeline::words;
 use sqlite_items::Items;
 use std::alloc::AllocError;
 
-/// Where a counter stands in a sum, and its stride there.
+/// Where a counter is in a sum, and its stride there.
 fn place_of(terms: &[Term], counter: Counter) -> Option<(usize, u32)>
     ensures { IfSome result (λ found. slice_get terms.now found.0
         ≡ Some (record { counter = counter; stride = found.1 })) }

@@ -12,7 +12,7 @@ use crate::expressions::{Counter, Expr, Linear, Term, same_counter};
 use crate::statements::{Phase, Stmt, Store, Whole};
 use halide_pipeline::{Source, words};
 
-/// Which values counters have, of which the latest stands first. It stands on the call stack, and takes no memory.
+/// Which values counters have, of which the latest is first. It is on the call stack, and takes no memory.
 #[derive(Clone, Copy)]
 pub enum Bindings<'a> {
     Empty,
@@ -37,10 +37,10 @@ fn bound_value(bindings: &Bindings, counter: Counter) -> u32
 }
 
 /// What the buffer at a place holds at a point; 0 where there is none.
-fn pixel_of(buffers: &[Buffer], place: usize, x: u32, y: u32) -> u32
-    ensures { result ≡ planes buffers.now place x y }
+fn pixel_of(buffers: &[Buffer], buffer_index: usize, x: u32, y: u32) -> u32
+    ensures { result ≡ planes buffers.now buffer_index x y }
 {
-    match buffers.get(place) {
+    match buffers.get(buffer_index) {
         Some(buffer) => buffer.get(x, y),
         None => 0,
     }
@@ -61,10 +61,10 @@ fn sum_of(terms: &[Term], bindings: &Bindings) -> u32
 
 /// The value of a linear expression.
 #[tactic(auto, unfolding(crate::specs::Expressions::linear_value))]
-fn linear_value(own: &Linear, bindings: &Bindings) -> u32
-    ensures { result ≡ expression.linear_value (values_of bindings.now) own.now }
+fn linear_value(sum: &Linear, bindings: &Bindings) -> u32
+    ensures { result ≡ expression.linear_value (values_of bindings.now) sum.now }
 {
-    words::add(own.number, sum_of(own.terms.as_slice(), bindings))
+    words::add(sum.number, sum_of(sum.terms.as_slice(), bindings))
 }
 
 /// The value of an expression.
@@ -107,12 +107,12 @@ fn evaluate(expr: &Expr, inputs: &[Buffer], funcs: &[Buffer], bindings: &Binding
 }
 
 /// Writes a pixel of the buffer at a place, where there is that point.
-fn write(buffers: &mut [Buffer], place: usize, x: u32, y: u32, pixel: u32)
+fn write(buffers: &mut [Buffer], buffer_index: usize, x: u32, y: u32, pixel: u32)
     ensures points { points_of buffers.new ≡ points_of buffers.old }
-    ensures after { planes buffers.new ≡ put (points_of buffers.old) place x y pixel (planes buffers.old) }
+    ensures after { planes buffers.new ≡ put (points_of buffers.old) buffer_index x y pixel (planes buffers.old) }
 {
-    if place < buffers.len() {
-        buffers[place].set(x, y, pixel);
+    if buffer_index < buffers.len() {
+        buffers[buffer_index].set(x, y, pixel);
     }
 }
 

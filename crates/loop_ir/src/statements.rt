@@ -25,7 +25,6 @@ pub struct Store {
     pub value: Expr,
 }
 
-/// Written out, so that a check sees a call wherever one is dropped, and not the drops of its parts.
 impl Drop for Store {
     fn drop(self) {
         let Store {
@@ -72,7 +71,6 @@ pub enum Stmt {
     Bind(Counter, Whole, u32, Boxed<Stmt>),
 }
 
-/// Written out, so that a check sees a call wherever one is dropped, and not the drops of its parts.
 impl Drop for Stmt {
     fn drop(self) {
         match self {
@@ -101,11 +99,11 @@ impl Stmt {
     }
 }
 
-/// A statement that is run once for each of so many tasks.
+/// A statement that is run once for each of this many tasks.
 #[derive(Debug)]
 pub struct Phase {
     pub tasks: u32,
-    /// What stands at the task's number, from 0, where anything does.
+    /// What is at the task's number, from 0, where anything does.
     pub counter: Option<Counter>,
     pub body: Stmt,
     /// Funcs whose buffers each hart has for itself: before a task they hold anything, and what they hold after it
@@ -115,7 +113,6 @@ pub struct Phase {
     pub bytes: Items<usize>,
 }
 
-/// Written out, so that a check sees a call wherever one is dropped, and not the drops of its parts.
 impl Drop for Phase {
     fn drop(self) {
         let Phase {

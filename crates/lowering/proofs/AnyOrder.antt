@@ -43,8 +43,8 @@ of_order count order is =
     (λ n. elim (cases_lt n count) [ inl l ↦ omega (arith, is.once n l) | inr l ↦ omega (arith, is.no_other n l) ])
     is.no_other
 
-module _ (points : Points) (is_private : ℕ → Bool) (own : ℕ) (start result : Planes) (count : ℕ) (owns : ℕ → ℕ → ℕ → Bool) (tasks : ℕ → Planes → Planes)
-    (phase : DoesPhase points is_private own start result count owns tasks) where
+module _ (points : Points) (is_private : ℕ → Bool) (func_index : ℕ) (start result : Planes) (count : ℕ) (owns : ℕ → ℕ → ℕ → Bool) (tasks : ℕ → Planes → Planes)
+    (phase : DoesPhase points is_private func_index start result count owns tasks) where
   -- one of the tasks of a list owns the point
   owned_by : List ℕ → ℕ → ℕ → Bool
   owned_by [] x y = false
@@ -60,7 +60,7 @@ module _ (points : Points) (is_private : ℕ → Bool) (own : ℕ) (start result
 
   -- the tasks that are still to be done find the start at their points, and at those of other Funcs
   abbrev Ready : List ℕ → Planes → Type 0
-  Ready order funcs = Hold points is_private own (owned_by order) start funcs
+  Ready order funcs = Hold points is_private func_index (owned_by order) start funcs
 
   differs : (first second : ℕ) (others : List ℕ) → first < count → times first (second ∷ others) ≡ 0 → AreApart count (second ∷ others) → (x y : ℕ)
       → owned_by (second ∷ others) x y ≡ true
@@ -85,8 +85,8 @@ module _ (points : Points) (is_private : ℕ → Bool) (own : ℕ) (start result
 
   abbrev Leaves : List ℕ → Planes → Planes → Type 0
   Leaves order funcs after =
-      ((x y : ℕ) → owned_by order x y ≡ true → after own x y ≡ result own x y)
-      × ((place x y : ℕ) → is_private place ≡ false → (place ≡ own → owned_by order x y ≡ false) → after place x y ≡ funcs place x y)
+      ((x y : ℕ) → owned_by order x y ≡ true → after func_index x y ≡ result func_index x y)
+      × ((place x y : ℕ) → is_private place ≡ false → (place ≡ func_index → owned_by order x y ≡ false) → after place x y ≡ funcs place x y)
 
   step : (first : ℕ) (others : List ℕ) (funcs before after : Planes) → AreApart count (first ∷ others) → ((place x y : ℕ) → is_private place ≡ false
       → before place x y ≡ funcs place x y)
@@ -94,38 +94,38 @@ module _ (points : Points) (is_private : ℕ → Bool) (own : ℕ) (start result
   unfolding owned_by
   step first others funcs before after are same ready next = (does, keeps)
     where
-      task : DoesTask points is_private own start result (owns first) (tasks first)
+      task : DoesTask points is_private func_index start result (owns first) (tasks first)
       task = phase.each first are.0
 
-      found : Hold points is_private own (owns first) start before
+      found : Hold points is_private func_index (owns first) start before
       found place x y public_so at passes = same place x y public_so
           ∙ ready place x y public_so at (λ e. or_left (owns first x y) (owned_by others x y) (passes e))
 
       ready_next : Ready others (tasks first before)
       ready_next place x y public_so at passes =
-          let free : place ≡ own → owns first x y ≡ false = λ e. others_differ first others are.0 are.1.0 are.1.1 x y (passes e) in
+          let free : place ≡ func_index → owns first x y ≡ false = λ e. others_differ first others are.0 are.1.0 are.1.1 x y (passes e) in
           task.keeps before found place x y public_so free ∙ same place x y public_so
           ∙ ready place x y public_so at (λ e. or_right (owns first x y) (owned_by others x y) (passes e))
 
       left : Leaves others (tasks first before) after
       left = next ready_next
 
-      does_by : (b : Bool) (x y : ℕ) → owned_by others x y ≡ b → (owns first x y || owned_by others x y) ≡ true → after own x y ≡ result own x y
+      does_by : (b : Bool) (x y : ℕ) → owned_by others x y ≡ b → (owns first x y || owned_by others x y) ≡ true → after func_index x y ≡ result func_index x y
       does_by true x y later e = left.0 x y later
       does_by false x y later e =
           let own_now : owns first x y ≡ true = or_false (owns first x y) (owned_by others x y) later e in
-          left.1 own x y phase.not_private (λ s. later) ∙ task.does before found x y own_now
+          left.1 func_index x y phase.not_private (λ s. later) ∙ task.does before found x y own_now
         where
           or_false : (a b : Bool) → b ≡ false → (a || b) ≡ true → a ≡ true
           or_false true b f g = refl
           or_false false b f g = absurd (true≢false (sym g ∙ f))
 
-      does : (x y : ℕ) → (owns first x y || owned_by others x y) ≡ true → after own x y ≡ result own x y
+      does : (x y : ℕ) → (owns first x y || owned_by others x y) ≡ true → after func_index x y ≡ result func_index x y
       does x y e = does_by (owned_by others x y) x y refl e
 
-      keeps : (place x y : ℕ) → is_private place ≡ false → (place ≡ own → (owns first x y || owned_by others x y) ≡ false) → after place x y ≡ funcs place x y
+      keeps : (place x y : ℕ) → is_private place ≡ false → (place ≡ func_index → (owns first x y || owned_by others x y) ≡ false) → after place x y ≡ funcs place x y
       keeps place x y public_so free =
-          let parts : place ≡ own → (owns first x y ≡ false) × (owned_by others x y ≡ false) = λ e. or_parts (owns first x y) (owned_by others x y) (free e) in
+          let parts : place ≡ func_index → (owns first x y ≡ false) × (owned_by others x y ≡ false) = λ e. or_parts (owns first x y) (owned_by others x y) (free e) in
           left.1 place x y public_so (λ e. (parts e).1) ∙ task.keeps before found place x y public_so (λ e. (parts e).0) ∙ same place x y public_so
 
   leaves : (order : List ℕ) (funcs after : Planes) → AreApart count order → Ready order funcs → Done is_private tasks order funcs after
@@ -135,7 +135,7 @@ module _ (points : Points) (is_private : ℕ → Bool) (own : ℕ) (start result
   leaves _ funcs after are ready (Task first others _ before _ same done) =
       step first others funcs before after are same ready (λ ready_next. leaves others (tasks first before) after are.1.1 ready_next done)
 
-  -- a task that stands in the list owns what the list owns
+  -- a task that is in the list owns what the list owns
   owned_in : (order : List ℕ) (number x y : ℕ) → 1 ≤ times number order → owns number x y ≡ true → owned_by order x y ≡ true
   unfolding owned_by
   owned_in [] number x y there e = absurd (omega (arith, there))
@@ -153,10 +153,11 @@ module _ (points : Points) (is_private : ℕ → Bool) (own : ℕ) (start result
     left : Leaves order funcs after
     left = leaves order funcs after (of_order count order is) (λ p a b public_there there passes. holds p a b public_there there) done
 
-    own_left : (x y : ℕ) → points own x y ≡ true → (b : Bool) → owned_by order x y ≡ b → after own x y ≡ result own x y
+    own_left : (x y : ℕ) → points func_index x y ≡ true → (b : Bool) → owned_by order x y ≡ b
+        → after func_index x y ≡ result func_index x y
     own_left x y at true e = left.0 x y e
     own_left x y at false e =
-        left.1 own x y phase.not_private (λ s. e) ∙ holds own x y phase.not_private at
+        left.1 func_index x y phase.not_private (λ s. e) ∙ holds func_index x y phase.not_private at
         ∙ sym (phase.unowned x y at (λ number below. none number below (owns number x y) refl))
       where
         none : (number : ℕ) → number < count → (b : Bool) → owns number x y ≡ b → owns number x y ≡ false
@@ -166,7 +167,7 @@ module _ (points : Points) (is_private : ℕ → Bool) (own : ℕ) (start result
             absurd (true≢false (sym (owned_in order number x y (omega (arith, one)) f) ∙ e))
 
     pub whole : (place x y : ℕ) → is_private place ≡ false → points place x y ≡ true → after place x y ≡ result place x y
-    whole place x y public_so at = elim (cases_eq place own) [
+    whole place x y public_so at = elim (cases_eq place func_index) [
       | inl same ↦
           subst (λ (p : ℕ). after p x y ≡ result p x y) (sym same) (own_left x y (subst (λ (p : ℕ). points p x y ≡ true) same at) (owned_by order x y) refl)
       | inr other ↦ left.1 place x y public_so (λ e. absurd (other e)) ∙ holds place x y public_so at ∙ sym (phase.others place x y other)

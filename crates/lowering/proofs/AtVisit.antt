@@ -1,4 +1,4 @@
--- Where one visit of an update stands: the point that its variables stand for, in the box and in its slice.
+-- Where one visit of an update is: the point that its variables stand for, in the box and in its slice.
 use Rattle.std.proofs.Common.{◌≡◌, ℕ, ◌+◌, ◌*◌, ◌/◌, ◌%◌, ◌^◌, ◌<◌, ◌≤◌, Bool, true, false, cond, List, Option, Some, None, refl, sym, ap, subst, ◌∙◌, arith}
 use Rattle.std.specs.Prelude.{◌==◌, nat_lt, slice_get, Ok}
 use Rattle.std.proofs.lemmas.Bool.{and_parts, and_from, lt-ltb, ltb-true, eq-eqb}
@@ -58,22 +58,22 @@ same_point a b c d x y z w ea eb ec ed =
     ap (λ (n : ℕ). point_of n b c d) ea ∙ ap (λ (n : ℕ). point_of x n c d) eb ∙ ap (λ (n : ℕ). point_of x y n d) ec ∙ ap (λ (n : ℕ). point_of x y z n) ed
 
 module _ (pipeline : Pipeline) (schedule : Schedule) (boxes : Boxes) (rules : IsWellFormed pipeline) (is : inferred pipeline schedule ≡ Ok boxes)
-    (place : ℕ) (func : Func) (own : SourceBox) (func_is : slice_get pipeline.funcs place ≡ Some func) (box_is : slice_get boxes.funcs place ≡ Some (Some own))
-    (standing : FuncPlacement) (there : IsReached schedule.standings place standing) (computed : IsComputed place standing.place)
+    (func_index : ℕ) (func : Func) (source_box : SourceBox) (func_is : slice_get pipeline.funcs func_index ≡ Some func) (box_is : slice_get boxes.funcs func_index ≡ Some (Some source_box))
+    (placement : FuncPlacement) (there : IsReached schedule.standings func_index placement) (computed : IsComputed func_index placement.place)
     (at : ℕ) (update : Update) (update_is : slice_get func.updates at ≡ Some update)
-    (iterations : List ℕ) (below : Below (produced_iterations schedule boxes standing iterations) (lasts_of (consumer_at schedule boxes standing)))
-    (begin : BoxCorner) (begins : IsBegin (produced_iterations schedule boxes standing iterations) own begin)
-    (before : Values) (corner : Corner) (corner_is : IsCornerAt place before corner begin) where
+    (iterations : List ℕ) (below : Below (produced_iterations schedule boxes placement iterations) (lasts_of (consumer_at schedule boxes placement)))
+    (begin : BoxCorner) (begins : IsBegin (produced_iterations schedule boxes placement iterations) source_box begin)
+    (before : Values) (corner : Corner) (corner_is : IsCornerAt func_index before corner begin) where
   abbrev values : List ℕ
-  values = produced_iterations schedule boxes standing iterations
+  values = produced_iterations schedule boxes placement iterations
 
   abbrev extents : Extents
-  extents = update_extents own update
+  extents = update_extents source_box update
 
-  pub produced : IsProduced (consumer_at schedule boxes standing) own
-  produced = boxes_are_produced pipeline schedule boxes is place standing there.standing there.reached computed own box_is
+  pub produced : IsProduced (consumer_at schedule boxes placement) source_box
+  produced = boxes_are_produced pipeline schedule boxes is func_index placement there.standing there.reached computed source_box box_is
 
-  pub below_own : Below values own.lasts
+  pub below_own : Below values source_box.lasts
   below_own = subst (λ (l : List ℕ). Below values l) (sym produced.lasts) below
 
   abbrev column_in : ℕ → ℕ
@@ -88,7 +88,7 @@ module _ (pipeline : Pipeline) (schedule : Schedule) (boxes : Boxes) (rules : Is
     visit = visit_of extents inner
 
     abbrev now : Values
-    now = put_loops place inner before
+    now = put_loops func_index inner before
 
     abbrev pub x : ℕ
     x = word.add visit.x begin.x
@@ -107,51 +107,51 @@ module _ (pipeline : Pipeline) (schedule : Schedule) (boxes : Boxes) (rules : Is
     below_by true n far some e = ltb-true far n e
     below_by false n far some e = omega (arith, ltb-true far 1 e, some)
 
-    across : visit.x < extent own.x
-    across = below_by (has_variable variables.FirstArgument (first_loops func (Some update))) (extent own.x) visit.x (omega (arith, produced.box.x.ordered))
+    across : visit.x < extent source_box.x
+    across = below_by (has_variable variables.FirstArgument (first_loops func (Some update))) (extent source_box.x) visit.x (omega (arith, produced.box.x.ordered))
         parts.0
 
-    down : visit.y < extent own.y
-    down = below_by (has_variable variables.SecondArgument (first_loops func (Some update))) (extent own.y) visit.y (omega (arith, produced.box.y.ordered))
+    down : visit.y < extent source_box.y
+    down = below_by (has_variable variables.SecondArgument (first_loops func (Some update))) (extent source_box.y) visit.y (omega (arith, produced.box.y.ordered))
         parts.1
 
     -- what isn't in place stays 0
     no_column : is_first_in_place update ≡ false → visit.x ≡ 0
     no_column e =
-        let l : nat_lt visit.x (cond false (extent own.x) 1) ≡ true = ap (λ (b : Bool). nat_lt visit.x (cond b (extent own.x) 1)) (sym (has_first func update
+        let l : nat_lt visit.x (cond false (extent source_box.x) 1) ≡ true = ap (λ (b : Bool). nat_lt visit.x (cond b (extent source_box.x) 1)) (sym (has_first func update
         ∙ e)) ∙ parts.0 in
         omega (arith, ltb-true visit.x 1 l)
 
     no_row : is_second_in_place update ≡ false → visit.y ≡ 0
     no_row e =
-        let l : nat_lt visit.y (cond false (extent own.y) 1) ≡ true = ap (λ (b : Bool). nat_lt visit.y (cond b (extent own.y) 1))
+        let l : nat_lt visit.y (cond false (extent source_box.y) 1) ≡ true = ap (λ (b : Bool). nat_lt visit.y (cond b (extent source_box.y) 1))
         (sym (no_second func update e)) ∙ parts.1 in
         omega (arith, ltb-true visit.y 1 l)
 
-    pub wide : extent own.x ≤ 2 ^ 32
+    pub wide : extent source_box.x ≤ 2 ^ 32
     wide = omega (arith, produced.box.x.low, produced.box.x.high)
 
-    pub high : extent own.y ≤ 2 ^ 32
+    pub high : extent source_box.y ≤ 2 ^ 32
     high = omega (arith, produced.box.y.low, produced.box.y.high)
 
-    pub lies : LiesIn values own x y
+    pub lies : LiesIn values source_box x y
     lies =
-        visits_lie func (Some update) own produced.box values below_own extents refl refl visit v x y
-        (on_from own.lasts values below_own own.x produced.box.x begin.x begins.x visit.x across)
-        (on_from own.lasts values below_own own.y produced.box.y begin.y begins.y visit.y down)
+        visits_lie func (Some update) source_box produced.box values below_own extents refl refl visit v x y
+        (on_from source_box.lasts values below_own source_box.x produced.box.x begin.x begins.x visit.x across)
+        (on_from source_box.lasts values below_own source_box.y produced.box.y begin.y begins.y visit.y down)
 
     pub few_points : visit.number < points update
-    few_points = subst (λ (n : ℕ). visit.number < n) (points_are func update own) v.number
+    few_points = subst (λ (n : ℕ). visit.number < n) (points_are func update source_box) v.number
 
     -- ---- what variables stand for
 
-    stands_now : (variable : Variable) → inner (ids.Whole variable) < 2 ^ 32 → whole_at now place variable ≡ inner (ids.Whole variable)
+    stands_now : (variable : Variable) → inner (ids.Whole variable) < 2 ^ 32 → whole_at now func_index variable ≡ inner (ids.Whole variable)
     stands_now variable few =
-        ap (λ (b : Bool). cond b (inner (ids.Whole variable)) (before (record { func = place; id = ids.Whole variable })) % 2 ^ 32) (eq-eqb place place refl)
+        ap (λ (b : Bool). cond b (inner (ids.Whole variable)) (before (record { func = func_index; id = ids.Whole variable })) % 2 ^ 32) (eq-eqb func_index func_index refl)
         ∙ mod-eq_of_lt {n = inner (ids.Whole variable)} {m = 2 ^ 32} few
 
     box_rule : is_box update ≡ true
-    box_rule = ((rules.funcs place func func_is).updates at update update_is).box
+    box_rule = ((rules.funcs func_index func func_is).updates at update update_is).box
 
     first_few : (1 ≤ update.first.extent) × (update.first.extent ≤ 65536)
     first_few = first_extent update box_rule
@@ -163,25 +163,25 @@ module _ (pipeline : Pipeline) (schedule : Schedule) (boxes : Boxes) (rules : Is
     second_whole = whole_small (inner (ids.Whole variables.SecondReduction)) update.first.extent (inner (ids.Whole variables.FirstReduction))
         (second_extent update.second) first_few.0 first_few.1 second_most.1 few_points
 
-    second_is : (second : Option Reduction) → second_reduced now place second ≡ second_value second (visit.number / update.first.extent)
+    second_is : (second : Option Reduction) → second_reduced now func_index second ≡ second_value second (visit.number / update.first.extent)
     second_is None = refl
     second_is (Some reduction) =
-        add_swapped (whole_at now place variables.SecondReduction) reduction.minimum
+        add_swapped (whole_at now func_index variables.SecondReduction) reduction.minimum
         ∙ ap (word.add reduction.minimum)
         (stands_now variables.SecondReduction second_whole
         ∙ sym (quotient_is update box_rule (inner (ids.Whole variables.FirstReduction)) (inner (ids.Whole variables.SecondReduction)) reduced))
 
-    pub point_is : visited_point now place corner update ≡ at_reduction update visit.number x y
+    pub point_is : visited_point now func_index corner update ≡ at_reduction update visit.number x y
     point_is =
-        same_point (word.add (whole_at now place variables.FirstArgument) (linear_value now corner.x)) (word.add (whole_at now place variables.SecondArgument)
+        same_point (word.add (whole_at now func_index variables.FirstArgument) (linear_value now corner.x)) (word.add (whole_at now func_index variables.SecondArgument)
         (linear_value now corner.y))
-        (word.add (whole_at now place variables.FirstReduction) update.first.minimum) (second_reduced now place update.second)
+        (word.add (whole_at now func_index variables.FirstReduction) update.first.minimum) (second_reduced now func_index update.second)
         x y (word.add update.first.minimum (visit.number % update.first.extent)) (second_value update.second (visit.number / update.first.extent))
         (ap (λ (n : ℕ). word.add n (linear_value now corner.x)) (stands_now variables.FirstArgument (omega (arith, across, wide)))
         ∙ ap (word.add visit.x) (corner_is inner).0)
         (ap (λ (n : ℕ). word.add n (linear_value now corner.y)) (stands_now variables.SecondArgument (omega (arith, down, high)))
         ∙ ap (word.add visit.y) (corner_is inner).1)
-        (add_swapped (whole_at now place variables.FirstReduction) update.first.minimum
+        (add_swapped (whole_at now func_index variables.FirstReduction) update.first.minimum
         ∙ ap (word.add update.first.minimum)
         (stands_now variables.FirstReduction (omega (arith, reduced, first_few.1))
         ∙ sym (remainder_is update box_rule (inner (ids.Whole variables.FirstReduction)) (inner (ids.Whole variables.SecondReduction)) reduced)))
@@ -202,18 +202,19 @@ module _ (pipeline : Pipeline) (schedule : Schedule) (boxes : Boxes) (rules : Is
     row_of : (b : ℕ) → (is_second_in_place update ≡ true → b ≡ y) → row_in (word.subtract b begin.y) ≡ visit.y
     row_of b same = in_slice (is_second_in_place update) y b begin.y visit.y same refl no_row (omega (arith, down, high)) begins.y.word
 
-    pub on_slice : (a b : ℕ) → IsInPlace update x y (record { source = sources.Func place; x = a; y = b })
+    pub on_slice : (a b : ℕ) → IsInPlace update x y (record { source = sources.Func func_index; x = a; y = b })
         → is_visited update (word.subtract a begin.x) (word.subtract b begin.y) visit ≡ true
     on_slice a b stays =
         and_from (visit.x == column_in (word.subtract a begin.x)) (visit.y == row_in (word.subtract b begin.y))
         (eq-eqb visit.x (column_in (word.subtract a begin.x)) (sym (column_of a stays.first))) (eq-eqb visit.y (row_in (word.subtract b begin.y))
         (sym (row_of b stays.second)))
 
-    pub boxed_at : (a b : ℕ) → LiesIn values own a b → has_point (Some own) (word.subtract a begin.x) (word.subtract b begin.y) ≡ true
+    pub boxed_at : (a b : ℕ) → LiesIn values source_box a b → has_point (Some source_box) (word.subtract a begin.x) (word.subtract b begin.y) ≡ true
     boxed_at a b inside_it =
-        and_from (nat_lt (word.subtract a begin.x) (extent own.x)) (nat_lt (word.subtract b begin.y) (extent own.y))
-        (lt-ltb (word.subtract a begin.x) (extent own.x) (offset_in own.lasts values below_own own.x produced.box.x begin.x begins.x a inside_it.first))
-        (lt-ltb (word.subtract b begin.y) (extent own.y) (offset_in own.lasts values below_own own.y produced.box.y begin.y begins.y b inside_it.second))
+        and_from (nat_lt (word.subtract a begin.x) (extent source_box.x))
+        (nat_lt (word.subtract b begin.y) (extent source_box.y))
+        (lt-ltb (word.subtract a begin.x) (extent source_box.x) (offset_in source_box.lasts values below_own source_box.x produced.box.x begin.x begins.x a inside_it.first))
+        (lt-ltb (word.subtract b begin.y) (extent source_box.y) (offset_in source_box.lasts values below_own source_box.y produced.box.y begin.y begins.y b inside_it.second))
 
     pub near : IsNear x × IsNear y
-    near = points_are_near own produced.box values below_own x y lies
+    near = points_are_near source_box produced.box values below_own x y lies

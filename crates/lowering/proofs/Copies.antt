@@ -1,4 +1,4 @@
--- How many copies loops make of what stands inside: an unrolled loop has no more iterations than its copies count in the weight, and what loops
+-- How many copies loops make of what is inside: an unrolled loop has no more iterations than its copies count in the weight, and what loops
 -- around a body ask for is paid by all copies.
 use Rattle.std.proofs.Common.{◌≡◌, ℕ, zero, suc, ◌+◌, ◌*◌, ◌-◌, ◌≤◌, Bool, true, false, cond, List, [], ◌∷◌, ◌++◌, length, take, Option, Some, None, refl, sym}
 use Rattle.std.proofs.Common.{ap, subst, ◌∙◌, arith, inl, inr, true≢false}
@@ -41,7 +41,7 @@ is-none (Some zero) = 1
 is-none (Some (suc n)) = 0
 
 abbrev is-void : Loop → ℕ
-is-void own = is-none own.inner_of
+is-void stage_loop = is-none stage_loop.inner_of
 
 record Solid (loops : List Loop) (splits : List Split) : Type 0 where
   pub none : total is-void loops ≡ 0
@@ -101,26 +101,26 @@ spread : (c body : ℕ) → c * (body + 39) ≡ c * (body + 1) + c * 38
 spread c body = ap (λ (z : ℕ). c * z) (let g : body + 39 ≡ body + 1 + 38 = omega arith in g) ∙ mul-add c (body + 1) 38
 
 -- one more loop outside
-outside-paid : (nest size body count own outside : ℕ) → 1 ≤ own → nest ≤ outside * (size + 39 * count) → size ≤ own * (body + 39)
-    → nest ≤ own * outside * (body + 39 * suc count)
-outside-paid nest size body count own outside some r l =
-    let t = times-some own (39 * count) some in
-    let d = mul-add own (body + 39) (39 * count) in
-    let k = times-most (size + 39 * count) (own * (body + 39 + 39 * count)) outside (omega (arith, l, t, d)) in
+outside-paid : (nest size body count func_index outside : ℕ) → 1 ≤ func_index → nest ≤ outside * (size + 39 * count) → size ≤ func_index * (body + 39)
+    → nest ≤ func_index * outside * (body + 39 * suc count)
+outside-paid nest size body count func_index outside some r l =
+    let t = times-some func_index (39 * count) some in
+    let d = mul-add func_index (body + 39) (39 * count) in
+    let k = times-most (size + 39 * count) (func_index * (body + 39 + 39 * count)) outside (omega (arith, l, t, d)) in
     let c1 = mul_comm outside (size + 39 * count) in
-    let c2 = mul_right_comm own (body + 39 + 39 * count) outside in
-    let c3 = ap (λ (z : ℕ). own * outside * z) (let g : body + 39 + 39 * count ≡ body + 39 * suc count = omega arith in g) in
+    let c2 = mul_right_comm func_index (body + 39 + 39 * count) outside in
+    let c3 = ap (λ (z : ℕ). func_index * outside * z) (let g : body + 39 + 39 * count ≡ body + 39 * suc count = omega arith in g) in
     omega (arith, r, k, c1, c2, c3)
 
 -- ---- what is known of each loop
 
 -- it counts at least once, and where it is laid out, as often as it has iterations
-pub record Paid (counts : loops.Values) (own : Loop) : Type 0 where
-  pub some : 1 ≤ copies own
-  pub most : is_marked marks.Unrolled own ≡ true → counts own.id ≤ copies own
+pub record Paid (counts : loops.Values) (stage_loop : Loop) : Type 0 where
+  pub some : 1 ≤ copies stage_loop
+  pub most : is_marked marks.Unrolled stage_loop ≡ true → counts stage_loop.id ≤ copies stage_loop
 
 abbrev pub ArePaid : loops.Values → List Loop → Type 0
-ArePaid counts own = AllByRecursion (Paid counts) own
+ArePaid counts stage_loops = AllByRecursion (Paid counts) stage_loops
 
 one-copy : (unrolled : Bool) (inner : Option ℕ) → is-none inner ≡ 0 → 1 ≤ (if unrolled then factor_of inner else 1)
 one-copy true None none = omega arith
@@ -205,9 +205,9 @@ module _ (counts : loops.Values) where
   first-paid (suc n) [] paid = tt
   first-paid (suc n) (own ∷ others) paid = (paid.0, first-paid n others paid.1)
 
-  -- what stands in a task's loops is paid by all copies
-  pub task-paid : (found : Option Loop) (own : List Loop) (body : ℕ) → ArePaid counts own
-      → nest_size counts (inside_of found own) body ≤ all_copies own * (body + 39 * length own)
+  -- what is in a task's loops is paid by all copies
+  pub task-paid : (stage_loop : Option Loop) (own : List Loop) (body : ℕ) → ArePaid counts own
+      → nest_size counts (inside_of stage_loop own) body ≤ all_copies own * (body + 39 * length own)
   task-paid None own body paid = nest-paid own body paid
   task-paid (Some other) own body paid =
       let inside = take (length own - 1) own in
@@ -236,29 +236,31 @@ module _ (counts : loops.Values) where
   paid-at (first ∷ inside) own outside paid = paid-at inside own outside paid.1
 
 -- the copies of a loop and those outside of it
-pub copies-at : (inside : List Loop) (own : Loop) (outside : List Loop) → Unique (inside ++ own ∷ outside) → copies_from own.id (inside ++ own ∷ outside)
-    ≡ all_copies (own ∷ outside)
-copies-at [] own outside unique = ap (λ (t : Bool). if t then copies own * all_copies outside else copies_from own.id outside) (same_id-self own.id)
-copies-at (first ∷ inside) own outside unique =
-    elim (cases_id first.id own.id) [
+pub copies-at : (inside : List Loop) (stage_loop : Loop) (outside : List Loop) → Unique (inside ++ stage_loop ∷ outside) → copies_from stage_loop.id (inside ++ stage_loop ∷ outside)
+    ≡ all_copies (stage_loop ∷ outside)
+copies-at [] stage_loop outside unique = ap (λ (t : Bool). if t then copies stage_loop * all_copies outside else copies_from stage_loop.id outside) (same_id-self stage_loop.id)
+copies-at (first ∷ inside) stage_loop outside unique =
+    elim (cases_id first.id stage_loop.id) [
       | inl e ↦
-          let a : has_id own.id own ≡ 1 = ap (λ (t : Bool). cond {A = ℕ} t 1 0) (same_id-self own.id) in
-          let b : has_id own.id first ≡ 1 = ap (λ (i : LoopId). cond {A = ℕ} (same_id i own.id) 1 0) e ∙ a in
-          let u : total (has_id own.id) (first ∷ (inside ++ own ∷ outside)) ≤ 1 = unique own.id in
-          let p = total-append (has_id own.id) inside (own ∷ outside) in
+          let a : has_id stage_loop.id stage_loop ≡ 1 = ap (λ (t : Bool). cond {A = ℕ} t 1 0)
+          (same_id-self stage_loop.id) in
+          let b : has_id stage_loop.id first ≡ 1 = ap (λ (i : LoopId). cond {A = ℕ} (same_id i stage_loop.id) 1 0) e ∙ a
+          in
+          let u : total (has_id stage_loop.id) (first ∷ (inside ++ stage_loop ∷ outside)) ≤ 1 = unique stage_loop.id in
+          let p = total-append (has_id stage_loop.id) inside (stage_loop ∷ outside) in
           absurd (omega (arith, a, b, u, p))
       | inr d ↦
-          ap (λ (t : Bool). if t then copies first * all_copies (inside ++ own ∷ outside) else copies_from own.id (inside ++ own ∷ outside)) d
-          ∙ copies-at inside own outside (λ id. let u : total (has_id id) (first ∷ (inside ++ own ∷ outside)) ≤ 1 = unique id in omega (arith, u))
+          ap (λ (t : Bool). if t then copies first * all_copies (inside ++ stage_loop ∷ outside) else copies_from stage_loop.id (inside ++ stage_loop ∷ outside)) d
+          ∙ copies-at inside stage_loop outside (λ id. let u : total (has_id id) (first ∷ (inside ++ stage_loop ∷ outside)) ≤ 1 = unique id in omega (arith, u))
     ]
 
 -- ---- stages
 
-pub same-nest : (extents : Extents) (splits others : List Split) (own all : List Loop) (whole store : ℕ) → splits ≡ others → own ≡ all
-    → whole ≡ nest_size (loops.counts extents splits) own (25 * length splits + store)
+pub same-nest : (extents : Extents) (splits others : List Split) (stage_loops all : List Loop) (whole store : ℕ) → splits ≡ others → stage_loops ≡ all
+    → whole ≡ nest_size (loops.counts extents splits) stage_loops (25 * length splits + store)
     → whole ≡ nest_size (loops.counts extents others) all (25 * length others + store)
-same-nest extents splits others own all whole store es el is =
-    is ∙ ap (λ (l : List Split). nest_size (loops.counts extents l) own (25 * length l + store)) es
+same-nest extents splits others stage_loops all whole store es el is =
+    is ∙ ap (λ (l : List Split). nest_size (loops.counts extents l) stage_loops (25 * length l + store)) es
     ∙ ap (λ (ls : List Loop). nest_size (loops.counts extents others) ls (25 * length others + store)) el
 
 -- 64 words for each unit of the weight, with 24 to spare
@@ -280,11 +282,11 @@ module _ (func : Func) (update : Option Update) (extents : Extents) (stage : Sta
   some : 1 ≤ all_copies stage.loops
   some = copies-some counted stage.loops (stage-paid func update extents stage is)
 
-  -- what stands in a task's loops
-  pub task-light : (found : Option Loop) (whole : ℕ) → whole ≡ nest_size counted (inside_of found stage.loops) (25 * length stage.splits + store)
+  -- what is in a task's loops
+  pub task-light : (stage_loop : Option Loop) (whole : ℕ) → whole ≡ nest_size counted (inside_of stage_loop stage.loops) (25 * length stage.splits + store)
       → whole + 24 ≤ 64 * stage_weight nodes stage
-  task-light found whole e =
-      let p = task-paid counted found stage.loops (25 * length stage.splits + store) (stage-paid func update extents stage is) in
+  task-light stage_loop whole e =
+      let p = task-paid counted stage_loop stage.loops (25 * length stage.splits + store) (stage-paid func update extents stage is) in
       let l = is-light whole (all_copies stage.loops) (length stage.splits) store nodes (length stage.loops) 0 some more given (omega (arith, p, e)) in
       omega (arith, l)
 

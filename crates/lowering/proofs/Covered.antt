@@ -46,49 +46,52 @@ one_without func = by_second func.second_argument refl
 
 module _ (pipeline : Pipeline) (schedule : Schedule) (boxes : Boxes) (rules : IsWellFormed pipeline) (accepted : IsAccepted pipeline schedule)
     (is : inferred pipeline schedule ≡ Ok boxes)
-    (placed_at : ComputeLevel) (place : ℕ) (func : Func) (plan : FuncPlan) (own : SourceBox) (here : IsComputed place placed_at) (at : IsComputedAt pipeline schedule
-    boxes placed_at place func plan own) where
+    (placed_at : ComputeLevel) (func_index : ℕ) (func : Func) (plan : FuncPlan) (source_box : SourceBox) (here : IsComputed func_index placed_at) (at : IsComputedAt pipeline schedule
+    boxes placed_at func_index func plan source_box) where
   abbrev extents : Extents
-  extents = extents_of own
+  extents = extents_of source_box
 
   abbrev points : ℕ → ℕ → ℕ → Bool
   points = box_points boxes.funcs
 
-  box_facts : IsBox own
-  box_facts = is_box pipeline schedule boxes place func plan own accepted is placed_at here at
+  box_facts : IsBox source_box
+  box_facts = is_box pipeline schedule boxes func_index func plan source_box accepted is placed_at here at
 
-  wide : 1 ≤ extent own.x
+  wide : 1 ≤ extent source_box.x
   wide = omega (arith, box_facts.x.ordered)
 
-  high : 1 ≤ extent own.y
+  high : 1 ≤ extent source_box.y
   high = omega (arith, box_facts.y.ordered)
 
-  pub parts_of : (visit : Visit) → IsVisitOf func None extents visit → (visit.x < extent own.x) × (visit.y < extent own.y)
+  pub parts_of : (visit : Visit) → IsVisitOf func None extents visit → (visit.x < extent source_box.x) × (visit.y < extent source_box.y)
   parts_of visit v =
       let p = and_parts (nat_lt visit.x (extent_in func None extents variables.FirstArgument))
       (nat_lt visit.y (extent_in func None extents variables.SecondArgument)) v.slice in (
-        below_extent (has_variable variables.FirstArgument (first_loops func None)) (extent own.x) visit.x wide p.0,
-        below_extent (has_variable variables.SecondArgument (first_loops func None)) (extent own.y) visit.y high p.1,
+        below_extent (has_variable variables.FirstArgument (first_loops func None)) (extent source_box.x) visit.x wide
+            p.0,
+        below_extent (has_variable variables.SecondArgument (first_loops func None)) (extent source_box.y) visit.y high
+            p.1,
       )
 
-  pub point_there : (x y : ℕ) → x < extent own.x → y < extent own.y → points place x y ≡ true
-  point_there x y lx ly = rw at.box_is (and_from (nat_lt x (extent own.x)) (nat_lt y (extent own.y)) (lt-ltb x (extent own.x) lx) (lt-ltb y (extent own.y) ly))
+  pub point_there : (x y : ℕ) → x < extent source_box.x → y < extent source_box.y → points func_index x y ≡ true
+  point_there x y lx ly = rw at.box_is (and_from (nat_lt x (extent source_box.x)) (nat_lt y (extent source_box.y)) (lt-ltb x (extent source_box.x) lx) (lt-ltb y (extent source_box.y) ly))
 
-  pub there_parts : (x y : ℕ) → points place x y ≡ true → (nat_lt x (extent own.x) && nat_lt y (extent own.y)) ≡ true
+  pub there_parts : (x y : ℕ) → points func_index x y ≡ true →
+      (nat_lt x (extent source_box.x) && nat_lt y (extent source_box.y)) ≡ true
   there_parts x y e = ap (λ (o : Option (Option SourceBox)). has_point (box_in o) x y) (sym at.box_is) ∙ e
 
-  second_by : (y : ℕ) → nat_lt y (extent own.y) ≡ true → (has : Bool) → has_variable variables.SecondArgument (first_loops func None) ≡ has
-      → nat_lt y (cond has (extent own.y) 1) ≡ true
+  second_by : (y : ℕ) → nat_lt y (extent source_box.y) ≡ true → (has : Bool) → has_variable variables.SecondArgument (first_loops func None) ≡ has
+      → nat_lt y (cond has (extent source_box.y) 1) ≡ true
   second_by y l true e = l
   second_by y l false e =
-      let row = one_row_boxes pipeline schedule boxes rules accepted is place func own at.func_is (one_without func e) at.box_is in
+      let row = one_row_boxes pipeline schedule boxes rules accepted is func_index func source_box at.func_is (one_without func e) at.box_is in
       let low = ap (λ (r : Range). r.low) row in
       let top = ap (λ (r : Range). r.high) row in
-      lt-ltb y 1 (omega (arith, ltb-true y (extent own.y) l, low, top))
+      lt-ltb y 1 (omega (arith, ltb-true y (extent source_box.y) l, low, top))
 
-  pub slice_there : (x y : ℕ) → points place x y ≡ true → is_slice_of func None extents x y ≡ true
+  pub slice_there : (x y : ℕ) → points func_index x y ≡ true → is_slice_of func None extents x y ≡ true
   slice_there x y e =
-      let p = and_parts (nat_lt x (extent own.x)) (nat_lt y (extent own.y)) (there_parts x y e) in
+      let p = and_parts (nat_lt x (extent source_box.x)) (nat_lt y (extent source_box.y)) (there_parts x y e) in
       and_from (nat_lt x (extent_in func None extents variables.FirstArgument)) (nat_lt y (extent_in func None extents variables.SecondArgument))
-      (ap (λ (has : Bool). nat_lt x (cond has (extent own.x) 1)) (has_first func) ∙ p.0)
+      (ap (λ (has : Bool). nat_lt x (cond has (extent source_box.x) 1)) (has_first func) ∙ p.0)
       (second_by y p.1 (has_variable variables.SecondArgument (first_loops func None)) refl)

@@ -13,7 +13,7 @@ use Rattle.halide_pipeline.specs.Points.{Point}
 use Rattle.schedule_lines.specs.declared.stages.LoopId.TheVariants as ids
 use Rattle.schedule.specs.declared.plans.FuncPlan.{FuncPlan}
 use Rattle.schedule.specs.declared.schedules.Schedule.{Schedule}
-use Rattle.schedule.specs.declared.placements.LoopPlace.{LoopPlace}
+use Rattle.schedule.specs.declared.placements.LoopPosition.{LoopPosition}
 use Rattle.schedule.specs.declared.placements.ComputeLevel.TheVariants as places
 use Rattle.schedule.specs.Accepted.{IsAccepted}
 use Rattle.schedule_loops.specs.declared.extents.Extents.{Extents}
@@ -57,32 +57,33 @@ pub no_other_loops : (consumer other : ℕ) (in_task : loops.Values) → (other 
 no_other_loops consumer other in_task d = fun_ext (λ id. ap (λ (b : Bool). cond b (in_task id) 0) (ne_eqb other consumer d))
 
 -- loops of one Func are put, and those of another stay
-pub loops_put_other : (own other : ℕ) (inner : loops.Values) (values : Values) → (other ≡ own → ⊥) → loops_of other (put_loops own inner values)
+pub loops_put_other : (func_index other : ℕ) (inner : loops.Values) (values : Values) → (other ≡ func_index → ⊥) → loops_of other (put_loops func_index inner values)
     ≡ loops_of other values
-loops_put_other own other inner values d = fun_ext (λ id. ap (λ (b : Bool). cond b (inner id) (values (record { func = other; id = id }))) (ne_eqb other own d))
+loops_put_other func_index other inner values d = fun_ext (λ id. ap (λ (b : Bool). cond b (inner id) (values (record { func = other; id = id }))) (ne_eqb other func_index d))
 
-pub iterations_by : (loop : LoopPlace) (plan : Option FuncPlan) (one other : Values) → loops_of loop.func one ≡ loops_of loop.func other
+pub iterations_by : (loop : LoopPosition) (plan : Option FuncPlan) (one other : Values) → loops_of loop.func one ≡ loops_of loop.func other
     → iterations_at loop plan one ≡ iterations_at loop plan other
 iterations_by loop None one other e = refl
 iterations_by loop (Some plan) one other e = ap (values_in plan loop.inside) e
 
 module _ (pipeline : Pipeline) (schedule : Schedule) (boxes : Boxes) (rules : IsWellFormed pipeline) (accepted : IsAccepted pipeline schedule)
     (is : inferred pipeline schedule ≡ Ok boxes)
-    (loop : LoopPlace) (place : ℕ) (func : Func) (plan : FuncPlan) (own : SourceBox) (at : IsComputedAt pipeline schedule boxes (places.At loop) place func plan
-    own)
-    (store : Stmt) (store_of : IsStoreOf pipeline schedule boxes (places.At loop) place func own store)
-    (made : Stmt) (repeats : Repeats place made store (wholes (extents_of own) plan.pure.splits plan.pure.loops)) where
-  pub here : place < loop.func
-  here = produced_before pipeline schedule accepted place at.standing at.there loop at.placed_is
+    (loop : LoopPosition) (func_index : ℕ) (func : Func) (plan : FuncPlan) (source_box : SourceBox) (at : IsComputedAt pipeline schedule boxes (places.At loop) func_index func plan
+    source_box)
+    (store : Stmt) (store_of : IsStoreOf pipeline schedule boxes (places.At loop) func_index func source_box store)
+    (statement : Stmt) (repeats : Repeats func_index statement store
+    (wholes (extents_of source_box) plan.pure.splits plan.pure.loops)) where
+  pub here : func_index < loop.func
+  here = produced_before pipeline schedule accepted func_index at.standing at.there loop at.placed_is
 
   abbrev extents : Extents
-  extents = extents_of own
+  extents = extents_of source_box
 
   abbrev points : ℕ → ℕ → ℕ → Bool
   points = box_points boxes.funcs
 
   stage_facts : IsStageOf func None plan.pure × KeepsRules plan.pure
-  stage_facts = staged pipeline schedule boxes place func plan own accepted is (places.At loop) here at
+  stage_facts = staged pipeline schedule boxes func_index func plan source_box accepted is (places.At loop) here at
 
   abbrev iterations : List loops.Values
   iterations = wholes extents plan.pure.splits plan.pure.loops zeros
@@ -97,96 +98,97 @@ module _ (pipeline : Pipeline) (schedule : Schedule) (boxes : Boxes) (rules : Is
     abbrev values : List ℕ
     values = iterations_for schedule.funcs (places.At loop) counters
 
-    iterations_same : (inner : loops.Values) → iterations_for schedule.funcs (places.At loop) (put_loops place inner counters) ≡ values
-    iterations_same inner = iterations_by loop (slice_get schedule.funcs loop.func) (put_loops place inner counters) counters (loops_put_other place loop.func inner
+    iterations_same : (inner : loops.Values) → iterations_for schedule.funcs (places.At loop) (put_loops func_index inner counters) ≡ values
+    iterations_same inner = iterations_by loop (slice_get schedule.funcs loop.func) (put_loops func_index inner counters) counters (loops_put_other func_index loop.func inner
         counters (λ e. omega (arith, e, here)))
 
-    module _ (below : Below values own.lasts) (funcs : Planes) (answered : IsAnswered pipeline schedule boxes loop.func place func own values inputs in_task
+    module _ (below : Below values source_box.lasts) (funcs : Planes) (answered : IsAnswered pipeline schedule boxes loop.func func_index func source_box values inputs in_task
         funcs) where
       abbrev plane : Plane
-      plane = writing.plane pipeline schedule boxes rules accepted is (places.At loop) place func plan own here at store store_of inputs values below counters
+      plane = writing.plane pipeline schedule boxes rules accepted is (places.At loop) func_index func plan source_box here at store store_of inputs values below counters
           iterations_same
 
       abbrev step : loops.Values → Planes → Planes
-      step = writing.step pipeline schedule boxes rules accepted is (places.At loop) place func plan own here at store store_of inputs values below counters
+      step = writing.step pipeline schedule boxes rules accepted is (places.At loop) func_index func plan source_box here at store store_of inputs values below counters
           iterations_same
 
       abbrev x_of : loops.Values → ℕ
-      x_of = writing.x_of pipeline schedule boxes rules accepted is (places.At loop) place func plan own here at store store_of inputs values below counters
+      x_of = writing.x_of pipeline schedule boxes rules accepted is (places.At loop) func_index func plan source_box here at store store_of inputs values below counters
           iterations_same
 
       abbrev y_of : loops.Values → ℕ
-      y_of = writing.y_of pipeline schedule boxes rules accepted is (places.At loop) place func plan own here at store store_of inputs values below counters
+      y_of = writing.y_of pipeline schedule boxes rules accepted is (places.At loop) func_index func plan source_box here at store store_of inputs values below counters
           iterations_same
 
       abbrev Ready : Planes → Type 0
-      Ready now = Keeps place funcs now
+      Ready now = Keeps func_index funcs now
 
-      stays : (now after : Planes) → Keeps place now after → Ready now → Ready after
+      stays : (now after : Planes) → Keeps func_index now after → Ready now → Ready after
       stays now later keeps ready other x y d = keeps other x y d ∙ ready other x y d
 
-      writes : (inner : loops.Values) → IsVisitOf func None extents (visit_of extents inner) → Writes points place plane Ready stays x_of y_of step inner
+      writes : (inner : loops.Values) → IsVisitOf func None extents (visit_of extents inner) → Writes points func_index plane Ready stays x_of y_of step inner
       writes inner v =
-          writing.writes pipeline schedule boxes rules accepted is (places.At loop) place func plan own here at store store_of inputs values below counters
+          writing.writes pipeline schedule boxes rules accepted is (places.At loop) func_index func plan source_box here at store store_of inputs values below counters
           iterations_same inner v Ready stays
-          (λ now ready. answered store_of.corners store_of.are_corners (put_loops place inner counters)
-          (loops_put_other place loop.func inner counters (λ e. omega (arith, e, here)) ∙ loops_consuming loop.func in_task) now ready
-          (writing.across pipeline schedule boxes rules accepted is (places.At loop) place func plan own here at store store_of inputs values below counters
+          (λ now ready. answered store_of.corners store_of.are_corners (put_loops func_index inner counters)
+          (loops_put_other func_index loop.func inner counters (λ e. omega (arith, e, here)) ∙ loops_consuming loop.func in_task) now ready
+          (writing.across pipeline schedule boxes rules accepted is (places.At loop) func_index func plan source_box here at store store_of inputs values below counters
           iterations_same inner)
-          (writing.down pipeline schedule boxes rules accepted is (places.At loop) place func plan own here at store store_of inputs values below counters
+          (writing.down pipeline schedule boxes rules accepted is (places.At loop) func_index func plan source_box here at store store_of inputs values below counters
           iterations_same inner)
-          (writing.lies pipeline schedule boxes rules accepted is (places.At loop) place func plan own here at store store_of inputs values below counters
+          (writing.lies pipeline schedule boxes rules accepted is (places.At loop) func_index func plan source_box here at store store_of inputs values below counters
           iterations_same inner v))
 
-      all_write : AllByRecursion (Writes points place plane Ready stays x_of y_of step) iterations
+      all_write : AllByRecursion (Writes points func_index plane Ready stays x_of y_of step) iterations
       all_write =
-          all_map (IsVisitOf func None extents) (Writes points place plane Ready stays x_of y_of step) (visit_of extents) writes iterations
+          all_map (IsVisitOf func None extents) (Writes points func_index plane Ready stays x_of y_of step) (visit_of extents) writes iterations
           (subst (λ (l : List Visit). AllByRecursion (IsVisitOf func None extents) l) visits_are (visits_within func None extents plan.pure stage_facts.0))
 
-      painted : Paints points place plane Ready stays x_of y_of step iterations funcs (all step iterations funcs)
-      painted = paints points place plane Ready stays x_of y_of step iterations funcs all_write (λ other x y d. refl)
+      painted : Paints points func_index plane Ready stays x_of y_of step iterations funcs (all step iterations funcs)
+      painted = paints points func_index plane Ready stays x_of y_of step iterations funcs all_write
+          (λ other x y d. refl)
 
-      no_iterations : loops_of place counters ≡ zeros
-      no_iterations = no_other_loops loop.func place in_task (λ e. omega (arith, e, here))
+      no_iterations : loops_of func_index counters ≡ zeros
+      no_iterations = no_other_loops loop.func func_index in_task (λ e. omega (arith, e, here))
 
-      small : AreSmall (loops_of place counters)
+      small : AreSmall (loops_of func_index counters)
       small = subst AreSmall (sym no_iterations) (λ id. omega arith)
 
-      ran : run points inputs made counters funcs ≡ all step iterations funcs
+      ran : run points inputs statement counters funcs ≡ all step iterations funcs
       ran = repeats.runs points inputs counters funcs small ∙ ap (λ (t : loops.Values). all step (wholes extents plan.pure.splits plan.pure.loops t) funcs)
           no_iterations
 
       -- each point of the box is visited
-      reached_by : (x y : ℕ) → x < extent own.x → y < extent own.y → (test : Bool) → list_any (is_slice x y) (visits extents plan.pure) ≡ test → test ≡ true
+      reached_by : (x y : ℕ) → x < extent source_box.x → y < extent source_box.y → (test : Bool) → list_any (is_slice x y) (visits extents plan.pure) ≡ test → test ≡ true
       reached_by x y lx ly true e = refl
       reached_by x y lx ly false e =
-          let there = slice_there pipeline schedule boxes rules accepted is (places.At loop) place func plan own here at x y (point_there pipeline schedule
-          boxes rules accepted is (places.At loop) place func plan own here at x y lx ly) in
-          let contains = visited func extents x y there plan.pure stage_facts.0 (fits pipeline schedule boxes place func plan own accepted is (places.At loop)
+          let there = slice_there pipeline schedule boxes rules accepted is (places.At loop) func_index func plan source_box here at x y (point_there pipeline schedule
+          boxes rules accepted is (places.At loop) func_index func plan source_box here at x y lx ly) in
+          let contains = visited func extents x y there plan.pure stage_facts.0 (fits pipeline schedule boxes func_index func plan source_box accepted is (places.At loop)
           here at) in
           let not_here = of_all (λ (v : Visit). is_slice x y v ≡ false) (visits extents plan.pure) (none_passes (is_slice x y) (visits extents plan.pure) e)
           (record { x = x; y = y; number = 0 }) contains in
           absurd (true≢false (sym (and_from (x == x) (y == y) (eq-eqb x x refl) (eq-eqb y y refl)) ∙ not_here))
 
-      is_reached : (x y : ℕ) → x < extent own.x → y < extent own.y → list_any (is_at points place plane Ready stays x_of y_of step x y) iterations ≡ true
+      is_reached : (x y : ℕ) → x < extent source_box.x → y < extent source_box.y → list_any (is_at points func_index plane Ready stays x_of y_of step x y) iterations ≡ true
       is_reached x y lx ly =
           sym (ap (list_any (is_slice x y)) visits_are ∙ any_map (is_slice x y) (visit_of extents) iterations)
           ∙ reached_by x y lx ly (list_any (is_slice x y) (visits extents plan.pure)) refl
 
-      leaves : Leaves place own values (stage place func inputs (pixels pipeline.funcs inputs place) 0) funcs (run points inputs made counters funcs)
+      leaves : Leaves func_index source_box values (stage func_index func inputs (pixels pipeline.funcs inputs func_index) 0) funcs (run points inputs statement counters funcs)
       leaves = record {
-        holds = λ x y lx ly. ap (λ (f : Planes). f place x y) ran ∙ painted.there x y (is_reached x y lx ly);
+        holds = λ x y lx ly. ap (λ (f : Planes). f func_index x y) ran ∙ painted.there x y (is_reached x y lx ly);
         keeps = λ other x y d. ap (λ (f : Planes). f other x y) ran ∙ painted.keeps other x y (λ e. absurd (d e));
       }
 
-  pub fills : DoesNest pipeline schedule boxes loop place func own 0 made
+  pub fills : DoesNest pipeline schedule boxes loop func_index func source_box 0 statement
   fills inputs in_task below funcs answered = leaves inputs in_task below funcs answered
 
   -- ---- what it touches
 
   module _ (reads : Reads) (words : AnswerWords pipeline.inputs reads) (written : Points) (loaded : Point → Bool) (in_task : loops.Values)
-      (below : Below (iterations_for schedule.funcs (places.At loop) (consuming loop.func in_task)) own.lasts)
-      (may : MayTouch pipeline schedule boxes loop.func place func own (iterations_for schedule.funcs (places.At loop) (consuming loop.func in_task)) reads written
+      (below : Below (iterations_for schedule.funcs (places.At loop) (consuming loop.func in_task)) source_box.lasts)
+      (may : MayTouch pipeline schedule boxes loop.func func_index func source_box (iterations_for schedule.funcs (places.At loop) (consuming loop.func in_task)) reads written
       loaded in_task) where
     dark : Planes
     dark other x y = 0
@@ -198,36 +200,36 @@ module _ (pipeline : Pipeline) (schedule : Schedule) (boxes : Boxes) (rules : Is
     values_now = iterations_for schedule.funcs (places.At loop) now
 
     abbrev IsSoundAt : loops.Values → Type 0
-    IsSoundAt inner = is_sound reads written loaded store (put_loops place inner now) ≡ true
+    IsSoundAt inner = is_sound reads written loaded store (put_loops func_index inner now) ≡ true
 
     step_sound : (inner : loops.Values) → IsVisitOf func None extents (visit_of extents inner) → IsSoundAt inner
     step_sound inner v =
         let x = inner (ids.Whole variables.FirstArgument) in
         let y = inner (ids.Whole variables.SecondArgument) in
-        let p = parts_of pipeline schedule boxes rules accepted is (places.At loop) place func plan own here at (visit_of extents inner) v in
-        writing.sound pipeline schedule boxes rules accepted is (places.At loop) place func plan own here at store store_of dark values_now below now
+        let p = parts_of pipeline schedule boxes rules accepted is (places.At loop) func_index func plan source_box here at (visit_of extents inner) v in
+        writing.sound pipeline schedule boxes rules accepted is (places.At loop) func_index func plan source_box here at store store_of dark values_now below now
         (iterations_same dark in_task) inner v reads written loaded
-        (may.writes x y (and_from (nat_lt x (extent own.x)) (nat_lt y (extent own.y)) (lt-ltb x (extent own.x) p.0) (lt-ltb y (extent own.y) p.1)))
-        (may.pure store_of.corners store_of.are_corners (put_loops place inner now) (loops_put_other place loop.func inner now (λ e. omega (arith, e, here))
+        (may.writes x y (and_from (nat_lt x (extent source_box.x)) (nat_lt y (extent source_box.y)) (lt-ltb x (extent source_box.x) p.0) (lt-ltb y (extent source_box.y) p.1)))
+        (may.pure store_of.corners store_of.are_corners (put_loops func_index inner now) (loops_put_other func_index loop.func inner now (λ e. omega (arith, e, here))
         ∙ loops_consuming loop.func in_task)
-        (writing.across pipeline schedule boxes rules accepted is (places.At loop) place func plan own here at store store_of dark values_now below now
+        (writing.across pipeline schedule boxes rules accepted is (places.At loop) func_index func plan source_box here at store store_of dark values_now below now
         (iterations_same dark in_task) inner)
-        (writing.down pipeline schedule boxes rules accepted is (places.At loop) place func plan own here at store store_of dark values_now below now
+        (writing.down pipeline schedule boxes rules accepted is (places.At loop) func_index func plan source_box here at store store_of dark values_now below now
         (iterations_same dark in_task) inner)
-        (writing.lies pipeline schedule boxes rules accepted is (places.At loop) place func plan own here at store store_of dark values_now below now
+        (writing.lies pipeline schedule boxes rules accepted is (places.At loop) func_index func plan source_box here at store store_of dark values_now below now
         (iterations_same dark in_task) inner v))
 
-    no_iterations_now : loops_of place now ≡ zeros
-    no_iterations_now = no_other_loops loop.func place in_task (λ e. omega (arith, e, here))
+    no_iterations_now : loops_of func_index now ≡ zeros
+    no_iterations_now = no_other_loops loop.func func_index in_task (λ e. omega (arith, e, here))
 
-    pub sound_nest : is_sound reads written loaded made now ≡ true
+    pub sound_nest : is_sound reads written loaded statement now ≡ true
     sound_nest =
         repeats.sound reads written loaded now (subst AreSmall (sym no_iterations_now) (λ id. omega arith))
-        ∙ ap (λ (t : loops.Values). list_all (λ inner. is_sound reads written loaded store (put_loops place inner now)) (wholes extents plan.pure.splits
+        ∙ ap (λ (t : loops.Values). list_all (λ inner. is_sound reads written loaded store (put_loops func_index inner now)) (wholes extents plan.pure.splits
         plan.pure.loops t)) no_iterations_now
-        ∙ all_pass (λ inner. is_sound reads written loaded store (put_loops place inner now)) iterations
+        ∙ all_pass (λ inner. is_sound reads written loaded store (put_loops func_index inner now)) iterations
         (all_map (IsVisitOf func None extents) IsSoundAt (visit_of extents) step_sound iterations
         (subst (λ (l : List Visit). AllByRecursion (IsVisitOf func None extents) l) visits_are (visits_within func None extents plan.pure stage_facts.0)))
 
-  pub touches : IsSoundNest pipeline schedule boxes loop place func own made
+  pub touches : IsSoundNest pipeline schedule boxes loop func_index func source_box statement
   touches reads words written loaded in_task below may = sound_nest reads words written loaded in_task below may

@@ -1,4 +1,4 @@
--- Lanes of a vectorized loop of an update are apart: in each the loop's argument, which is in place, stands elsewhere.
+-- Lanes of a vectorized loop of an update are apart: in each the loop's argument, which is in place, occurs elsewhere.
 use Rattle.std.proofs.Common.{◌≡◌, ℕ, zero, suc, ◌+◌, ◌*◌, ◌/◌, ◌%◌, ◌^◌, ◌<◌, ◌≤◌, Bool, true, false, cond, List, [], ◌∷◌, ◌++◌, inl, inr, Option, Some, None}
 use Rattle.std.proofs.Common.{refl, sym, ap, subst, ◌∙◌, arith, true≢false}
 use Rattle.std.specs.Prelude.{slice_get}
@@ -78,13 +78,14 @@ base_other splits v id n iterations (own ∷ outside) none = elim (cases_id own.
       ∙ ap (λ (k : ℕ). cond {A = ℕ} (same_variable own.variable v) (strides splits own.id * iterations own.id) 0 + k) rest
 ]
 
-base_own : (splits : List Split) (own : Loop) (n : ℕ) (iterations : loops.Values) (outside : List Loop) → total (has_id own.id) outside ≡ 0
-    → base splits own.variable (loops.with own.id n iterations) (own ∷ outside) ≡ strides splits own.id * n + base splits own.variable iterations outside
-base_own splits own n iterations outside none =
-    ap (λ (b : Bool). cond {A = ℕ} b (strides splits own.id * loops.with own.id n iterations own.id) 0 + base splits own.variable (loops.with own.id n iterations)
-    outside) (same_variable-self own.variable)
-    ∙ ap (λ (k : ℕ). strides splits own.id * k + base splits own.variable (loops.with own.id n iterations) outside) (with_same own.id n iterations)
-    ∙ ap (λ (k : ℕ). strides splits own.id * n + k) (base_other splits own.variable own.id n iterations outside none)
+base_own : (splits : List Split) (stage_loop : Loop) (n : ℕ) (iterations : loops.Values) (outside : List Loop) → total (has_id stage_loop.id) outside ≡ 0
+    → base splits stage_loop.variable (loops.with stage_loop.id n iterations) (stage_loop ∷ outside) ≡ strides splits stage_loop.id * n + base splits stage_loop.variable iterations outside
+base_own splits stage_loop n iterations outside none =
+    ap (λ (b : Bool). cond {A = ℕ} b (strides splits stage_loop.id * loops.with stage_loop.id n iterations stage_loop.id) 0 + base splits stage_loop.variable (loops.with stage_loop.id n iterations)
+    outside) (same_variable-self stage_loop.variable)
+    ∙ ap (λ (k : ℕ). strides splits stage_loop.id * k + base splits stage_loop.variable (loops.with stage_loop.id n iterations) outside) (with_same stage_loop.id n iterations)
+    ∙ ap (λ (k : ℕ). strides splits stage_loop.id * n + k) (base_other splits stage_loop.variable stage_loop.id n
+    iterations outside none)
 
 agree_even : (splits : List Split) (all : List Loop) (one other : loops.Values) → ((id : LoopId) → is_uneven splits id ≡ false)
     → AgreeWhereUneven splits all one other
@@ -115,32 +116,32 @@ module _ (func : Func) (update : Update) where
   second_there true e there = refl
   second_there false e there = absurd (true≢false (sym there ∙ no_second func update e))
 
-module _ (pipeline : Pipeline) (schedule : Schedule) (rules : IsWellFormed pipeline) (place : ℕ) (func : Func) (func_is : slice_get pipeline.funcs place
+module _ (pipeline : Pipeline) (schedule : Schedule) (rules : IsWellFormed pipeline) (func_index : ℕ) (func : Func) (func_is : slice_get pipeline.funcs func_index
     ≡ Some func)
     (at : ℕ) (update : Update) (update_is : slice_get func.updates at ≡ Some update) (box : SourceBox) (few : AreFew (update_extents box update))
-    (stage : Stage) (is : IsStageOf func (Some update) stage) (corners : List Corner) (corner : Corner) (counted : AreCounted corners place corner)
-    (store : Stmt) (sound : IsSoundUpdate corners (flags pipeline schedule) pipeline.funcs place corner update store) where
+    (stage : Stage) (is : IsStageOf func (Some update) stage) (corners : List Corner) (corner : Corner) (counted : AreCounted corners func_index corner)
+    (store : Stmt) (sound : IsSoundUpdate corners (flags pipeline schedule) pipeline.funcs func_index corner update store) where
   abbrev extents : Extents
   extents = update_extents box update
 
   box_rule : is_box update ≡ true
-  box_rule = ((rules.funcs place func func_is).updates at update update_is).box
+  box_rule = ((rules.funcs func_index func func_is).updates at update update_is).box
 
   -- ---- a lane
 
   module _ (values : Values) (iterations : loops.Values) (are : AreIterations (counts extents stage.splits) stage.loops iterations) (inner : loops.Values)
       (inner_is : wholes extents stage.splits [] iterations ≡ inner ∷ []) where
     abbrev now : Values
-    now = put_loops place inner values
+    now = put_loops func_index inner values
 
     below : (v : Variable) → has_variable v (first_loops func (Some update)) ≡ true → inner (ids.Whole v) < extent_of extents v
     below v there =
         (subst (λ (list : List loops.Values). AllByRecursion (λ whole. whole (ids.Whole v) < extent_of extents v) list) inner_is
         (within func (Some update) extents stage [] stage.loops v iterations is refl there are)).0
 
-    stands : (v : Variable) → has_variable v (first_loops func (Some update)) ≡ true → whole_at now place v ≡ inner (ids.Whole v)
+    stands : (v : Variable) → has_variable v (first_loops func (Some update)) ≡ true → whole_at now func_index v ≡ inner (ids.Whole v)
     stands v there =
-        ap (λ (b : Bool). cond b (inner (ids.Whole v)) (values (record { func = place; id = ids.Whole v })) % 2 ^ 32) (eq-eqb place place refl)
+        ap (λ (b : Bool). cond b (inner (ids.Whole v)) (values (record { func = func_index; id = ids.Whole v })) % 2 ^ 32) (eq-eqb func_index func_index refl)
         ∙ mod-eq_of_lt {n = inner (ids.Whole v)} {m = 2 ^ 32} (omega (arith, below v there, few v))
 
     abbrev first : ℕ
@@ -155,49 +156,49 @@ module _ (pipeline : Pipeline) (schedule : Schedule) (rules : IsWellFormed pipel
     reduced : first < update.first.extent
     reduced = below variables.FirstReduction (has_reduction func update)
 
-    second_is : (own : Option Reduction) → update.second ≡ own → second_reduced now place own ≡ second_value own (number / update.first.extent)
+    second_is : (own : Option Reduction) → update.second ≡ own → second_reduced now func_index own ≡ second_value own (number / update.first.extent)
     unfolding number
     second_is None e = refl
     second_is (Some reduction) e =
-        add_swapped (whole_at now place variables.SecondReduction) reduction.minimum
+        add_swapped (whole_at now func_index variables.SecondReduction) reduction.minimum
         ∙ ap (word.add reduction.minimum) (stands variables.SecondReduction (has_second_reduction func update reduction e)
         ∙ sym (quotient_is update box_rule first second reduced))
 
-    first_is : word.add (whole_at now place variables.FirstReduction) update.first.minimum ≡ word.add update.first.minimum (number % update.first.extent)
+    first_is : word.add (whole_at now func_index variables.FirstReduction) update.first.minimum ≡ word.add update.first.minimum (number % update.first.extent)
     unfolding number
     first_is =
-        add_swapped (whole_at now place variables.FirstReduction) update.first.minimum
+        add_swapped (whole_at now func_index variables.FirstReduction) update.first.minimum
         ∙ ap (word.add update.first.minimum) (stands variables.FirstReduction (has_reduction func update)
         ∙ sym (remainder_is update box_rule first second reduced))
 
     abbrev x : ℕ
-    x = word.add (whole_at now place variables.FirstArgument) (linear_value now corner.x)
+    x = word.add (whole_at now func_index variables.FirstArgument) (linear_value now corner.x)
 
     abbrev y : ℕ
-    y = word.add (whole_at now place variables.SecondArgument) (linear_value now corner.y)
+    y = word.add (whole_at now func_index variables.SecondArgument) (linear_value now corner.y)
 
-    is_at : (reads : Reads) → IsAt pipeline schedule rules place func func_is at update update_is corners corner counted store sound reads now number
+    is_at : (reads : Reads) → IsAt pipeline schedule rules func_index func func_is at update update_is corners corner counted store sound reads now number
     is_at reads =
-        same_point x y (word.add (whole_at now place variables.FirstReduction) update.first.minimum) (second_reduced now place update.second)
+        same_point x y (word.add (whole_at now func_index variables.FirstReduction) update.first.minimum) (second_reduced now func_index update.second)
         x y (word.add update.first.minimum (number % update.first.extent)) (second_value update.second (number / update.first.extent))
         refl refl first_is (second_is update.second refl)
 
   -- ---- two lanes
 
   module _ (own : Loop) (outside : List Loop) (loops_are : stage.loops ≡ own ∷ outside) (vector : IsVectorized func (Some update) extents stage is own outside)
-      (reads : Reads) (values : Values) (are : AreIterations (counts extents stage.splits) outside (loops_of place values))
+      (reads : Reads) (values : Values) (are : AreIterations (counts extents stage.splits) outside (loops_of func_index values))
       (earlier later : ℕ) (before : earlier < later) (last : later < counts extents stage.splits own.id) (one other : loops.Values)
-      (one_is : wholes extents stage.splits [] (loops.with own.id earlier (loops_of place values)) ≡ one ∷ []) (other_is : wholes extents stage.splits []
-      (loops.with own.id later (loops_of place values)) ≡ other ∷ []) where
+      (one_is : wholes extents stage.splits [] (loops.with own.id earlier (loops_of func_index values)) ≡ one ∷ []) (other_is : wholes extents stage.splits []
+      (loops.with own.id later (loops_of func_index values)) ≡ other ∷ []) where
     abbrev in_task : ℕ → loops.Values
-    in_task n = loops.with own.id n (loops_of place values)
+    in_task n = loops.with own.id n (loops_of func_index values)
 
     abbrev v : Variable
     v = own.variable
 
     are_iterations : (n : ℕ) → n < counts extents stage.splits own.id → AreIterations (counts extents stage.splits) stage.loops (in_task n)
     are_iterations n l = subst (λ (ls : List Loop). AreIterations (counts extents stage.splits) ls (in_task n)) (sym loops_are) (iterations_more (counts extents stage.splits)
-        own n l outside (loops_of place values) are)
+        own n l outside (loops_of func_index values) are)
 
     none : total (has_id own.id) outside ≡ 0
     none =
@@ -205,8 +206,8 @@ module _ (pipeline : Pipeline) (schedule : Schedule) (rules : IsWellFormed pipel
         extents stage is own.id) in
         omega (arith, u, has_same own)
 
-    base_of : (n : ℕ) → base stage.splits v (in_task n) stage.loops ≡ strides stage.splits own.id * n + base stage.splits v (loops_of place values) outside
-    base_of n = ap (base stage.splits v (in_task n)) loops_are ∙ base_own stage.splits own n (loops_of place values) outside none
+    base_of : (n : ℕ) → base stage.splits v (in_task n) stage.loops ≡ strides stage.splits own.id * n + base stage.splits v (loops_of func_index values) outside
+    base_of n = ap (base stage.splits v (in_task n)) loops_are ∙ base_own stage.splits own n (loops_of func_index values) outside none
 
     step : one (ids.Whole v) + base stage.splits v (in_task later) stage.loops ≡ other (ids.Whole v) + base stage.splits v (in_task earlier) stage.loops
     step =
@@ -218,42 +219,42 @@ module _ (pipeline : Pipeline) (schedule : Schedule) (rules : IsWellFormed pipel
     elsewhere e = further (strides stage.splits own.id) earlier later vector.stride before (omega (arith, step, base_of later, base_of earlier, e))
 
     abbrev earlier_now : Values
-    earlier_now = put_loops place one values
+    earlier_now = put_loops func_index one values
 
     abbrev later_now : Values
-    later_now = put_loops place other values
+    later_now = put_loops func_index other values
 
-    stood : whole_at later_now place v ≡ whole_at earlier_now place v → ⊥
+    stood : whole_at later_now func_index v ≡ whole_at earlier_now func_index v → ⊥
     stood e =
         elsewhere (sym (stands values (in_task later) (are_iterations later last) other other_is v vector.there) ∙ e
         ∙ stands values (in_task earlier) (are_iterations earlier (omega (arith, before, last))) one one_is v vector.there)
 
-    differ_by : (w : Variable) → v ≡ w → Differ pipeline schedule rules place func func_is at update update_is corners corner counted store sound reads
+    differ_by : (w : Variable) → v ≡ w → Differ pipeline schedule rules func_index func func_is at update update_is corners corner counted store sound reads
         earlier_now later_now
     differ_by variables.FirstArgument e =
         inl (
           sym (has_first func update) ∙ ap (λ (u : Variable). has_variable u (first_loops func (Some update))) (sym e) ∙ vector.there,
-          subst (λ (u : Variable). whole_at later_now place u ≡ whole_at earlier_now place u → ⊥) e stood,
+          subst (λ (u : Variable). whole_at later_now func_index u ≡ whole_at earlier_now func_index u → ⊥) e stood,
         )
     differ_by variables.SecondArgument e =
         inr (
           second_there func update (is_second_in_place update) refl (ap (λ (u : Variable). has_variable u (first_loops func (Some update))) (sym e)
               ∙ vector.there),
-          subst (λ (u : Variable). whole_at later_now place u ≡ whole_at earlier_now place u → ⊥) e stood,
+          subst (λ (u : Variable). whole_at later_now func_index u ≡ whole_at earlier_now func_index u → ⊥) e stood,
         )
     differ_by variables.FirstReduction e = absurd (true≢false (ap is_reduction (sym e) ∙ vector.argument))
     differ_by variables.SecondReduction e = absurd (true≢false (ap is_reduction (sym e) ∙ vector.argument))
 
     apart : LoadsNoneOf reads store earlier_now later_now
     apart =
-        loads_none pipeline schedule rules place func func_is at update update_is corners corner counted store sound reads earlier_now later_now
+        loads_none pipeline schedule rules func_index func func_is at update update_is corners corner counted store sound reads earlier_now later_now
         (number values (in_task earlier) (are_iterations earlier (omega (arith, before, last))) one one_is) (number values (in_task later) (are_iterations later last) other
         other_is)
         (is_at values (in_task earlier) (are_iterations earlier (omega (arith, before, last))) one one_is reads) (is_at values (in_task later) (are_iterations later last)
         other other_is reads) (differ_by v refl)
 
   pub update_under : (kept : KeepsRules stage) (inside outside : List Loop) → stage.loops ≡ inside ++ outside
-      → MayBeUnder place extents stage.splits inside outside store
+      → MayBeUnder func_index extents stage.splits inside outside store
   update_under kept [] outside loops_are = tt
   update_under kept (own ∷ inside) outside loops_are = (
     λ e. let vector = vectorized func (Some update) extents stage is kept own (inside ++ outside) loops_are e in record {
@@ -271,10 +272,10 @@ module _ (pipeline : Pipeline) (schedule : Schedule) (rules : IsWellFormed pipel
 
 -- ---- the corner of a Func at root
 
-pub counted_at_root : (schedule : Schedule) (boxes : Boxes) (corners : List Corner) (corner : Corner) (place : ℕ) (own : SourceBox) (standing : FuncPlacement)
+pub counted_at_root : (schedule : Schedule) (boxes : Boxes) (corners : List Corner) (corner : Corner) (func_index : ℕ) (source_box : SourceBox) (placement : FuncPlacement)
     → AreCorners schedule.funcs boxes.funcs schedule.standings corners
-    → slice_get boxes.funcs place ≡ Some (Some own) → slice_get schedule.standings place ≡ Some standing → standing.place ≡ places.Root
-    → IsCorner schedule.funcs places.Root own corner → AreCounted corners place corner
-counted_at_root schedule boxes corners corner place own standing are there stands root is values a b =
-    let c = root_corner_at schedule boxes corners place own standing are there stands root in
-    rw (c.there, (c.is values).0 ∙ sym ((is values).0 ∙ first_none own.x), (c.is values).1 ∙ sym ((is values).1 ∙ first_none own.y)) refl
+    → slice_get boxes.funcs func_index ≡ Some (Some source_box) → slice_get schedule.standings func_index ≡ Some placement → placement.place ≡ places.Root
+    → IsCorner schedule.funcs places.Root source_box corner → AreCounted corners func_index corner
+counted_at_root schedule boxes corners corner func_index source_box placement are there stands root is values a b =
+    let c = root_corner_at schedule boxes corners func_index source_box placement are there stands root in
+    rw (c.there, (c.is values).0 ∙ sym ((is values).0 ∙ first_none source_box.x), (c.is values).1 ∙ sym ((is values).1 ∙ first_none source_box.y)) refl

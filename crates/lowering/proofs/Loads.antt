@@ -19,7 +19,7 @@ use Rattle.halide_pipeline.specs.Points.{Point, Hold}
 use Rattle.schedule_lines.specs.declared.stages.LoopId.{LoopId}
 use Rattle.schedule.specs.declared.plans.FuncPlan.{FuncPlan}
 use Rattle.schedule.specs.declared.schedules.Schedule.{Schedule}
-use Rattle.schedule.specs.declared.placements.LoopPlace.{LoopPlace}
+use Rattle.schedule.specs.declared.placements.LoopPosition.{LoopPosition}
 use Rattle.schedule.specs.declared.placements.ComputeLevel.{ComputeLevel}
 use Rattle.schedule.specs.declared.placements.ComputeLevel.TheVariants as places
 use Rattle.schedule.specs.declared.placements.FuncPlacement.{FuncPlacement}
@@ -69,7 +69,7 @@ subtract_small a b = omega arith
 
 -- Buffers that answer words answer words from wherever they are counted.
 module _ (pipeline : Pipeline) (corners : List Corner) (counters : Values) (reads : Reads) (words : AnswerWords pipeline.inputs reads) where
-  words_by : (found : Option Corner) (s : Source) (x y : ℕ) → x < 2 ^ 32 → y < 2 ^ 32 → answered_at reads (from_corner counters found x y s) < 2 ^ 32
+  words_by : (found_corner : Option Corner) (s : Source) (x y : ℕ) → x < 2 ^ 32 → y < 2 ^ 32 → answered_at reads (from_corner counters found_corner x y s) < 2 ^ 32
   words_by None s x y lx ly = words.words s x y lx ly
   words_by (Some corner) s x y lx ly = words.words s _ _ (subtract_small x _) (subtract_small y _)
 
@@ -89,22 +89,22 @@ module _ (pipeline : Pipeline) (corners : List Corner) (counters : Values) (read
 
 module _ (pipeline : Pipeline) (schedule : Schedule) (boxes : Boxes) (rules : IsWellFormed pipeline) (accepted : IsAccepted pipeline schedule)
     (is : inferred pipeline schedule ≡ Ok boxes)
-    (placed_at : ComputeLevel) (reader : ℕ) (func : Func) (plan : FuncPlan) (own : SourceBox) (here : IsComputed reader placed_at) (at : IsComputedAt pipeline schedule
-    boxes placed_at reader func plan own)
+    (placed_at : ComputeLevel) (reader : ℕ) (func : Func) (plan : FuncPlan) (source_box : SourceBox) (here : IsComputed reader placed_at) (at : IsComputedAt pipeline schedule
+    boxes placed_at reader func plan source_box)
     (consumer : ℕ) (consumer_func : Func) (consumer_plan : FuncPlan) (consuming : SourceBox) (consumer_at : IsAtRoot pipeline schedule boxes consumer
     consumer_func consumer_plan consuming) (in_task : loops.Values)
-    (of_consumer : (k : ℕ) (w : IsReadWithin schedule reader k) (loop : LoopPlace) → w.own.place ≡ places.At loop → loop.func ≡ consumer)
+    (of_consumer : (k : ℕ) (w : IsReadWithin schedule reader k) (loop : LoopPosition) → w.own.place ≡ places.At loop → loop.func ≡ consumer)
     (counters : Values) (counters_are : (id : LoopId) → values_in consumer_plan id (loops_of consumer counters) ≡ values_in consumer_plan id in_task)
     (corners : List Corner) (are : AreCorners schedule.funcs boxes.funcs schedule.standings corners)
     (reads : Reads) (words : AnswerWords pipeline.inputs reads) (loaded : Point → Bool)
     (inputs_load : (k x y : ℕ) → is_within (slice_get pipeline.inputs k) x y ≡ true → loaded (record { source = sources.Input k; x = x; y = y }) ≡ true)
-    (roots_load : (k : ℕ) (standing : FuncPlacement) → k < reader → IsReached schedule.standings k standing → standing.place ≡ places.Root
+    (roots_load : (k : ℕ) (placement : FuncPlacement) → k < reader → IsReached schedule.standings k placement → placement.place ≡ places.Root
     → (x y : ℕ) → box_points boxes.funcs k x y ≡ true → loaded (record { source = sources.Func k; x = x; y = y }) ≡ true)
-    (produced_load : (k : ℕ) (w : IsReadWithin schedule reader k) (loop : LoopPlace) → w.own.place ≡ places.At loop
+    (produced_load : (k : ℕ) (w : IsReadWithin schedule reader k) (loop : LoopPosition) → w.own.place ≡ places.At loop
     → (x y : ℕ) → box_points boxes.funcs k x y ≡ true → loaded (record { source = sources.Func k; x = x; y = y }) ≡ true)
-    (values : List ℕ) (below : Below values own.lasts) (x y : ℕ) (lies : LiesIn values own x y)
-    (may_be : (k : ℕ) (w : IsReadWithin schedule reader k) (loop : LoopPlace) → w.own.place ≡ places.At loop
-    → MayBeArguments consumer_func consumer_plan consuming loop.inside in_task placed_at own x y) where
+    (values : List ℕ) (below : Below values source_box.lasts) (x y : ℕ) (lies : LiesIn values source_box x y)
+    (may_be : (k : ℕ) (w : IsReadWithin schedule reader k) (loop : LoopPosition) → w.own.place ≡ places.At loop
+    → MayBeArguments consumer_func consumer_plan consuming loop.inside in_task placed_at source_box x y) where
   abbrev found : Reads
   found = placed corners counters reads
 
@@ -122,24 +122,24 @@ module _ (pipeline : Pipeline) (schedule : Schedule) (boxes : Boxes) (rules : Is
   reader_computed : IsComputed reader at.standing.place
   reader_computed = subst (λ (p : ComputeLevel). IsComputed reader p) (sym at.placed_is) here
 
-  somewhere : (k : ℕ) → k < reader → (standing : FuncPlacement) → IsReached schedule.standings k standing → is_nowhere standing.place ≡ false
-  somewhere k before standing there =
+  somewhere : (k : ℕ) → k < reader → (placement : FuncPlacement) → IsReached schedule.standings k placement → is_nowhere placement.place ≡ false
+  somewhere k before placement there =
       let f = some_before pipeline.funcs reader k func at.func_is before in
       let p = pair_there IsPlan pipeline.funcs schedule.funcs k f.value accepted.plans f.is in
-      (pair_at IsLegal schedule.funcs schedule.standings k p.value standing accepted.legal p.is there.standing there.reached).somewhere
+      (pair_at IsLegal schedule.funcs schedule.standings k p.value placement accepted.legal p.is there.standing there.reached).somewhere
 
   -- ---- a point that is read
 
-  loads_in : (k a b : ℕ) (box : SourceBox) (iterations : List ℕ) (standing : FuncPlacement) → IsReached schedule.standings k standing → IsComputed k standing.place
+  loads_in : (k a b : ℕ) (box : SourceBox) (iterations : List ℕ) (placement : FuncPlacement) → IsReached schedule.standings k placement → IsComputed k placement.place
       → slice_get boxes.funcs k ≡ Some (Some box)
-      → iterations_for schedule.funcs standing.place counters ≡ iterations → LiesIn iterations box a b → ((i j : ℕ) → box_points boxes.funcs k i j ≡ true
+      → iterations_for schedule.funcs placement.place counters ≡ iterations → LiesIn iterations box a b → ((i j : ℕ) → box_points boxes.funcs k i j ≡ true
       → loaded (point_at (sources.Func k) i j) ≡ true)
       → IsLoaded (point_at (sources.Func k) a b)
-  loads_in k a b box iterations standing there computed box_is iterations_are inside all_load =
-      let c = corner_at schedule.funcs boxes.funcs schedule.standings corners k (Some box) standing are box_is there.standing in
+  loads_in k a b box iterations placement there computed box_is iterations_are inside all_load =
+      let c = corner_at schedule.funcs boxes.funcs schedule.standings corners k (Some box) placement are box_is there.standing in
       let i = word.subtract a (first_of box.x iterations) in
       let j = word.subtract b (first_of box.y iterations) in
-      let o = (boxes_are_produced pipeline schedule boxes is k standing there.standing there.reached computed box box_is).box in
+      let o = (boxes_are_produced pipeline schedule boxes is k placement there.standing there.reached computed box box_is).box in
       let x_is = (c.is counters).0 ∙ ap (first_of box.x) iterations_are in
       let y_is = (c.is counters).1 ∙ ap (first_of box.y) iterations_are in
       let lies_at : place_in corners counters (point_at (sources.Func k) a b) ≡ point_at (sources.Func k) i j = rw (c.there, x_is, y_is) refl in
@@ -148,7 +148,7 @@ module _ (pipeline : Pipeline) (schedule : Schedule) (boxes : Boxes) (rules : Is
       o.x.ordered)) (lt-ltb j (extent box.y) (offset_within box.lasts iterations box.y b inside.second o.y.ordered))) in
       ap loaded lies_at ∙ all_load i j there_so
 
-  iterations_are : (p : ComputeLevel) (loop : LoopPlace) → p ≡ places.At loop → loop.func ≡ consumer
+  iterations_are : (p : ComputeLevel) (loop : LoopPosition) → p ≡ places.At loop → loop.func ≡ consumer
       → iterations_for schedule.funcs p counters ≡ values_in consumer_plan loop.inside in_task
   iterations_are p loop e same =
       ap (λ (q : ComputeLevel). iterations_for schedule.funcs q counters) e
@@ -159,9 +159,9 @@ module _ (pipeline : Pipeline) (schedule : Schedule) (boxes : Boxes) (rules : Is
   -- what is known of points that are read
   record AreRead (count : ℕ) (list : List Point) : Type 0 where
     inputs : (k : ℕ) → AreBoxed no_loops (sources.Input k) (slice_get boxes.inputs k) list
-    roots : (k : ℕ) (standing : FuncPlacement) → k < reader → IsReached schedule.standings k standing → standing.place ≡ places.Root
+    roots : (k : ℕ) (placement : FuncPlacement) → k < reader → IsReached schedule.standings k placement → placement.place ≡ places.Root
         → AreBoxed no_loops (sources.Func k) (slice_get boxes.funcs k) list
-    produced : (k : ℕ) (w : IsReadWithin schedule reader k) (loop : LoopPlace) → w.own.place ≡ places.At loop
+    produced : (k : ℕ) (w : IsReadWithin schedule reader k) (loop : LoopPosition) → w.own.place ≡ places.At loop
         → AreBoxed (values_in consumer_plan loop.inside in_task) (sources.Func k) (slice_get boxes.funcs k) list
     through : AreReadThrough pipeline schedule.standings reader count list
 
@@ -184,11 +184,11 @@ module _ (pipeline : Pipeline) (schedule : Schedule) (boxes : Boxes) (rules : Is
       by_place w places.Root e =
           by_box w (subst (λ (p : ComputeLevel). IsComputed k p) (sym e) tt) no_loops (ap (λ (p : ComputeLevel). iterations_for schedule.funcs p counters) e)
           (roots_load k w.own w.before w.there e)
-          (slice_get boxes.funcs k) refl (some_before boxes.funcs reader k (Some own) at.box_is w.before) ((r.roots k w.own w.before w.there e).0 (same_self k))
+          (slice_get boxes.funcs k) refl (some_before boxes.funcs reader k (Some source_box) at.box_is w.before) ((r.roots k w.own w.before w.there e).0 (same_self k))
       by_place w (places.At loop) e =
           by_box w (subst (λ (p : ComputeLevel). IsComputed k p) (sym e) (produced_before pipeline schedule accepted k w.own w.there loop e)) (values_in consumer_plan
           loop.inside in_task) (iterations_are w.own.place loop e (of_consumer k w loop e)) (produced_load k w loop e)
-          (slice_get boxes.funcs k) refl (some_before boxes.funcs reader k (Some own) at.box_is w.before) ((r.produced k w loop e).0 (same_self k))
+          (slice_get boxes.funcs k) refl (some_before boxes.funcs reader k (Some source_box) at.box_is w.before) ((r.produced k w loop e).0 (same_self k))
       by_place w places.Inlined e = absurd (true≢false (sym (flag_is schedule.standings k w.own w.there.standing ∙ ap is_inlined e) ∙ plain))
       by_place w places.Nowhere e = absurd (true≢false (sym (ap is_nowhere e) ∙ somewhere k w.before w.own w.there))
 
@@ -196,7 +196,7 @@ module _ (pipeline : Pipeline) (schedule : Schedule) (boxes : Boxes) (rules : Is
       → IsReadThrough pipeline schedule.standings reader count s → same_source s (sources.Func reader) ≡ false
       → IsLoaded (point_at s a b)
   one_loads (sources.Input k) a b count list r some differs =
-      inputs_load k a b (input_held pipeline schedule boxes rules accepted is reader own at.box_is values below x y lies k a b some
+      inputs_load k a b (input_held pipeline schedule boxes rules accepted is reader source_box at.box_is values below x y lies k a b some
       ((r.inputs k).0 (eq-eqb k k refl)))
   one_loads (sources.Func k) a b count list r (plain, (few, inl e)) differs = absurd (true≢false (sym (eq-eqb k reader e) ∙ differs))
   one_loads (sources.Func k) a b count list r (plain, (few, inr through)) differs = func_loads k a b count list r plain through
@@ -208,7 +208,7 @@ module _ (pipeline : Pipeline) (schedule : Schedule) (boxes : Boxes) (rules : Is
     one_loads point.source point.x point.y count list r r.through.0,
     all_load count list (record {
       inputs = λ k. (r.inputs k).1;
-      roots = λ k standing before there root. (r.roots k standing before there root).1;
+      roots = λ k placement before there root. (r.roots k placement before there root).1;
       produced = λ k w loop e. (r.produced k w loop e).1;
       through = r.through.1;
     }),
@@ -228,18 +228,18 @@ module _ (pipeline : Pipeline) (schedule : Schedule) (boxes : Boxes) (rules : Is
 
   pure_read : AreRead reader (pure_points pipeline schedule found reader func x y)
   pure_read = record {
-    inputs = λ k. pure_reads_of_inputs_lie pipeline schedule boxes rules is reader func own at.func_is at.box_is found answers values below x y lies k;
-    roots = λ k standing before there root.
-        pure_reads_of_funcs_lie pipeline schedule boxes rules is reader func own at.func_is at.box_is k standing before there.standing there.reached
+    inputs = λ k. pure_reads_of_inputs_lie pipeline schedule boxes rules is reader func source_box at.func_is at.box_is found answers values below x y lies k;
+    roots = λ k placement before there root.
+        pure_reads_of_funcs_lie pipeline schedule boxes rules is reader func source_box at.func_is at.box_is k placement before there.standing there.reached
         (subst (λ (p : ComputeLevel). IsComputed k p) (sym root) tt)
-        None (ap (λ (p : ComputeLevel). consumer_in schedule boxes.funcs p) root) own refl found answers values below no_below x y lies;
+        None (ap (λ (p : ComputeLevel). consumer_in schedule boxes.funcs p) root) source_box refl found answers values below no_below x y lies;
     produced = λ k w loop e.
         let same = of_consumer k w loop e in
         pure_reads_in_loops_lie pipeline schedule boxes rules accepted is k w.own loop w.there.standing w.there.reached e consumer_func consumer_plan consuming
         (ap (λ (n : ℕ). slice_get pipeline.funcs n) same ∙ consumer_at.func_is) (ap (λ (n : ℕ). slice_get schedule.funcs n) same
         ∙ consumer_at.plan_is) (ap (λ (n : ℕ). slice_get boxes.funcs n) same ∙ consumer_at.box_is)
-        reader func at.standing own w.before at.func_is at.there.standing at.there.reached at.box_is found answers in_task x y
-        (subst (λ (p : ComputeLevel). MayBeArguments consumer_func consumer_plan consuming loop.inside in_task p own x y) (sym at.placed_is) (may_be k w loop e));
+        reader func at.standing source_box w.before at.func_is at.there.standing at.there.reached at.box_is found answers in_task x y
+        (subst (λ (p : ComputeLevel). MayBeArguments consumer_func consumer_plan consuming loop.inside in_task p source_box x y) (sym at.placed_is) (may_be k w loop e));
     through = pure_points_are_read_through pipeline schedule rules reader func at.func_is found x y;
   }
 
@@ -253,7 +253,7 @@ module _ (pipeline : Pipeline) (schedule : Schedule) (boxes : Boxes) (rules : Is
   module _ (number_at : ℕ) (update : Update) (update_is : slice_get func.updates number_at ≡ Some update) (number : ℕ) (few : number < pixel.points update)
     where
       near : IsNear x × IsNear y
-      near = points_are_near own (is_box pipeline schedule boxes reader func plan own accepted is placed_at here at) values below x y lies
+      near = points_are_near source_box (is_box pipeline schedule boxes reader func plan source_box accepted is placed_at here at) values below x y lies
 
       not_inlined : (p : ComputeLevel) → IsComputed reader p → is_inlined p ≡ false
       not_inlined places.Root c = refl
@@ -266,12 +266,12 @@ module _ (pipeline : Pipeline) (schedule : Schedule) (boxes : Boxes) (rules : Is
 
       update_read : AreRead (suc reader) (update_points pipeline schedule found reader update number x y)
       update_read = record {
-        inputs = λ k. update_reads_of_inputs_lie pipeline schedule boxes rules is reader func own at.func_is at.box_is number_at update update_is found answers
+        inputs = λ k. update_reads_of_inputs_lie pipeline schedule boxes rules is reader func source_box at.func_is at.box_is number_at update update_is found answers
             values below x y lies near.0 near.1 number few k;
-        roots = λ k standing before there root.
-            update_reads_of_funcs_lie pipeline schedule boxes rules is reader func own at.func_is at.box_is number_at update update_is k standing before
+        roots = λ k placement before there root.
+            update_reads_of_funcs_lie pipeline schedule boxes rules is reader func source_box at.func_is at.box_is number_at update update_is k placement before
             there.standing there.reached
-            (subst (λ (p : ComputeLevel). IsComputed k p) (sym root) tt) None (ap (λ (p : ComputeLevel). consumer_in schedule boxes.funcs p) root) own refl found answers
+            (subst (λ (p : ComputeLevel). IsComputed k p) (sym root) tt) None (ap (λ (p : ComputeLevel). consumer_in schedule boxes.funcs p) root) source_box refl found answers
             values
             below no_below x y lies near.0 near.1 number few;
         produced = λ k w loop e.
@@ -280,8 +280,8 @@ module _ (pipeline : Pipeline) (schedule : Schedule) (boxes : Boxes) (rules : Is
             consuming
             (ap (λ (n : ℕ). slice_get pipeline.funcs n) same ∙ consumer_at.func_is) (ap (λ (n : ℕ). slice_get schedule.funcs n) same
             ∙ consumer_at.plan_is) (ap (λ (n : ℕ). slice_get boxes.funcs n) same ∙ consumer_at.box_is)
-            reader func at.standing own w.before at.func_is at.there.standing at.there.reached at.box_is number_at update update_is found answers in_task x y
-            (subst (λ (p : ComputeLevel). MayBeArguments consumer_func consumer_plan consuming loop.inside in_task p own x y) (sym at.placed_is) (may_be k w loop e))
+            reader func at.standing source_box w.before at.func_is at.there.standing at.there.reached at.box_is number_at update update_is found answers in_task x y
+            (subst (λ (p : ComputeLevel). MayBeArguments consumer_func consumer_plan consuming loop.inside in_task p source_box x y) (sym at.placed_is) (may_be k w loop e))
             near.0 near.1 number few;
         through = update_points_are_read_through pipeline schedule rules reader func at.func_is unflagged number_at update update_is found number x y;
       }

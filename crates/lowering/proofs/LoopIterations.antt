@@ -29,21 +29,22 @@ use Rattle.lowering.specs.Consuming.{consuming}
 count_by : (test : Bool) (n : ℕ) → test ≡ false → cond test 0 (suc n) ≡ suc n
 count_by test n e = ap (λ (b : Bool). cond b 0 (suc n)) e
 
--- of loops of which no two are one, the one after so many has so many inside
-pub count_at : (inside : List Loop) (own : Loop) (outside : List Loop) → Unique (inside ++ own ∷ outside) → inner_count own.id (inside ++ own ∷ outside)
+-- of loops of which no two are one, the one after this many has this many inside
+pub count_at : (inside : List Loop) (stage_loop : Loop) (outside : List Loop) → Unique (inside ++ stage_loop ∷ outside) → inner_count stage_loop.id (inside ++ stage_loop ∷ outside)
     ≡ length inside
-count_at [] own outside unique = ap (λ (b : Bool). cond b 0 (suc (inner_count own.id outside))) (same_id-self own.id)
-count_at (first ∷ inside) own outside unique = elim (cases_id first.id own.id) [
+count_at [] stage_loop outside unique = ap (λ (b : Bool). cond b 0 (suc (inner_count stage_loop.id outside)))
+    (same_id-self stage_loop.id)
+count_at (first ∷ inside) stage_loop outside unique = elim (cases_id first.id stage_loop.id) [
   | inl e ↦ absurd (omega (
     arith,
-    unique own.id,
+    unique stage_loop.id,
     ap (λ (i : LoopId). has_id i first) e,
     has_same first,
-    total-append (has_id own.id) inside (own ∷ outside),
-    has_same own,
+    total-append (has_id stage_loop.id) inside (stage_loop ∷ outside),
+    has_same stage_loop,
   ))
-  | inr d ↦ count_by (same_id first.id own.id) (inner_count own.id (inside ++ own ∷ outside)) d
-      ∙ ap suc (count_at inside own outside (λ id. omega (arith, unique id)))
+  | inr d ↦ count_by (same_id first.id stage_loop.id) (inner_count stage_loop.id (inside ++ stage_loop ∷ outside)) d
+      ∙ ap suc (count_at inside stage_loop outside (λ id. omega (arith, unique id)))
 ]
 
 first_counts : (test : Bool) (n : ℕ) → cond test 0 (suc n) ≡ 0 → test ≡ true
@@ -54,10 +55,11 @@ later_counts : (test : Bool) (n m : ℕ) → cond test 0 (suc n) ≡ suc m → n
 later_counts true n m e = absurd (omega (arith, e))
 later_counts false n m e = omega (arith, e)
 
--- and no other has so many
-pub counted_is : (inside : List Loop) (own : Loop) (outside : List Loop) (id : LoopId) → inner_count id (inside ++ own ∷ outside) ≡ length inside → own.id ≡ id
-counted_is [] own outside id e = same_id-true own.id id (first_counts (same_id own.id id) (inner_count id outside) e)
-counted_is (first ∷ inside) own outside id e = counted_is inside own outside id (later_counts (same_id first.id id) (inner_count id (inside ++ own ∷ outside))
+-- and no other has this many
+pub counted_is : (inside : List Loop) (stage_loop : Loop) (outside : List Loop) (id : LoopId) → inner_count id (inside ++ stage_loop ∷ outside) ≡ length inside → stage_loop.id ≡ id
+counted_is [] stage_loop outside id e = same_id-true stage_loop.id id
+    (first_counts (same_id stage_loop.id id) (inner_count id outside) e)
+counted_is (first ∷ inside) stage_loop outside id e = counted_is inside stage_loop outside id (later_counts (same_id first.id id) (inner_count id (inside ++ stage_loop ∷ outside))
     (length inside) e)
 
 count_few : (test : Bool) (n m : ℕ) → n < m → cond test 0 (suc n) < suc m
@@ -79,16 +81,16 @@ count_found name (first ∷ others) loop e =
     found_by (same_id first.id loop.id) (bytes_eq first.name name) (inner_count loop.id others) (length others) first loop (find name others) e
     (λ same. ap (λ (l : Loop). same_id l.id loop.id) same ∙ same_id-self loop.id) (λ r. count_found name others loop r)
 
-first_by : (own other rest : Bool) (n m : ℕ) → cond own true (cond other false rest) ≡ true → (rest ≡ true → n ≤ m) → cond own 0 (suc n) ≤ cond other 0 (suc m)
+first_by : (bool other rest : Bool) (n m : ℕ) → cond bool true (cond other false rest) ≡ true → (rest ≡ true → n ≤ m) → cond bool 0 (suc n) ≤ cond other 0 (suc m)
 first_by true other rest n m e l = omega arith
 first_by false true rest n m e l = absurd cc
 first_by false false rest n m e l = let k : n ≤ m = l e in omega (arith, k)
 
-pub count_first : (own other : LoopId) (loops : List Loop) → comes_first own other loops ≡ true → inner_count own loops ≤ inner_count other loops
-count_first own other [] e = absurd cc
-count_first own other (first ∷ outside) e =
-    first_by (same_id first.id own) (same_id first.id other) (comes_first own other outside) (inner_count own outside) (inner_count other outside) e
-    (λ r. count_first own other outside r)
+pub count_first : (loop_id other : LoopId) (loops : List Loop) → comes_first loop_id other loops ≡ true → inner_count loop_id loops ≤ inner_count other loops
+count_first loop_id other [] e = absurd cc
+count_first loop_id other (first ∷ outside) e =
+    first_by (same_id first.id loop_id) (same_id first.id other) (comes_first loop_id other outside) (inner_count loop_id outside) (inner_count other outside) e
+    (λ r. count_first loop_id other outside r)
 
 -- ---- loops outside
 
@@ -118,8 +120,8 @@ iterations_with counts (own ∷ others) iterations id iteration none are = (
   iterations_with counts others iterations id iteration (omega (arith, none)) are.1,
 )
 
-pub none_outside : (inside : List Loop) (own : Loop) (outside : List Loop) → Unique (inside ++ own ∷ outside) → total (has_id own.id) outside ≡ 0
-none_outside inside own outside unique = omega (arith, unique own.id, total-append (has_id own.id) inside (own ∷ outside), has_same own)
+pub none_outside : (inside : List Loop) (stage_loop : Loop) (outside : List Loop) → Unique (inside ++ stage_loop ∷ outside) → total (has_id stage_loop.id) outside ≡ 0
+none_outside inside stage_loop outside unique = omega (arith, unique stage_loop.id, total-append (has_id stage_loop.id) inside (stage_loop ∷ outside), has_same stage_loop)
 
 other_among : (loops : List Loop) (id : LoopId) → total (has_id id) loops ≡ 0 → (at : ℕ) (l : Loop) → slice_get loops at ≡ Some l → same_id l.id id ≡ false
 other_among [] id none at l e = absurd cc
@@ -131,43 +133,46 @@ other_among (first ∷ others) id none zero l e =
     ]
 other_among (first ∷ others) id none (suc at) l e = other_among others id (omega (arith, none)) at l e
 
-other_at : (inside : List Loop) (own : Loop) (outside : List Loop) → Unique (inside ++ own ∷ outside) → (at : ℕ) → length inside < at → (l : Loop)
-    → slice_get (inside ++ own ∷ outside) at ≡ Some l → same_id l.id own.id ≡ false
-other_at [] own outside unique zero few l e = absurd (omega (arith, few))
-other_at [] own outside unique (suc at) few l e = other_among outside own.id (none_outside [] own outside unique) at l e
-other_at (first ∷ inside) own outside unique zero few l e = absurd (omega (arith, few))
-other_at (first ∷ inside) own outside unique (suc at) few l e = other_at inside own outside (λ id. omega (arith, unique id)) at (omega (arith, few)) l e
+other_at : (inside : List Loop) (stage_loop : Loop) (outside : List Loop) → Unique (inside ++ stage_loop ∷ outside) → (at : ℕ) → length inside < at → (l : Loop)
+    → slice_get (inside ++ stage_loop ∷ outside) at ≡ Some l → same_id l.id stage_loop.id ≡ false
+other_at [] stage_loop outside unique zero few l e = absurd (omega (arith, few))
+other_at [] stage_loop outside unique (suc at) few l e = other_among outside stage_loop.id
+    (none_outside [] stage_loop outside unique) at l e
+other_at (first ∷ inside) stage_loop outside unique zero few l e = absurd (omega (arith, few))
+other_at (first ∷ inside) stage_loop outside unique (suc at) few l e = other_at inside stage_loop outside (λ id. omega (arith, unique id)) at (omega (arith, few)) l e
 
-module _ (inside : List Loop) (own : Loop) (outside : List Loop) (unique : Unique (inside ++ own ∷ outside)) (iterations : Values) (iteration n : ℕ)
+module _ (inside : List Loop) (stage_loop : Loop) (outside : List Loop) (unique : Unique (inside ++ stage_loop ∷ outside)) (iterations : Values) (iteration n : ℕ)
     (few : suc (length inside) ≤ n) where
   abbrev loops : List Loop
-  loops = inside ++ own ∷ outside
+  loops = inside ++ stage_loop ∷ outside
 
-  iteration_by : (at : ℕ) (test : Bool) → nat_lt at n ≡ test → (found : Option Loop) → slice_get loops at ≡ found
-      → cond test 0 (iteration_of (with own.id iteration iterations) found) ≡ cond test 0 (iteration_of iterations found)
-  iteration_by at true t found e = refl
+  iteration_by : (at : ℕ) (test : Bool) → nat_lt at n ≡ test → (marked_loop : Option Loop)
+      → slice_get loops at ≡ marked_loop
+      → cond test 0 (iteration_of (with stage_loop.id iteration iterations) marked_loop) ≡ cond test 0 (iteration_of iterations marked_loop)
+  iteration_by at true t marked_loop e = refl
   iteration_by at false t None e = refl
   iteration_by at false t (Some l) e =
       let behind : n ≤ at = ltb-false at n t in
-      with_other own.id iteration iterations l.id (other_at inside own outside unique at (omega (arith, behind, few)) l e)
+      with_other stage_loop.id iteration iterations l.id (other_at inside stage_loop outside unique at (omega (arith, behind, few)) l e)
 
-  same_iteration : (at : ℕ) → iteration_at n (with own.id iteration iterations) loops at ≡ iteration_at n iterations loops at
+  same_iteration : (at : ℕ) → iteration_at n (with stage_loop.id iteration iterations) loops at ≡ iteration_at n iterations loops at
   same_iteration at = iteration_by at (nat_lt at n) refl (slice_get loops at) refl
 
   -- what is counted from a loop further out stays
-  pub iterations_stay : iterations_from n (with own.id iteration iterations) loops ≡ iterations_from n iterations loops
+  pub iterations_stay : iterations_from n (with stage_loop.id iteration iterations) loops ≡ iterations_from n iterations
+      loops
   iterations_stay = rw (same_iteration 0, same_iteration 1, same_iteration 2, same_iteration 3, same_iteration 4) refl
 
 -- ---- values of counters
 
 pub consuming_with : (consumer : ℕ) (id : LoopId) (iteration : ℕ) (iterations : Values)
     → counters.with (record { func = consumer; id = id }) iteration (consuming consumer iterations) ≡ consuming consumer (with id iteration iterations)
-consuming_with consumer id iteration iterations = fun_ext (λ own. by_test own (own.func == consumer))
+consuming_with consumer id iteration iterations = fun_ext (λ counter. by_test counter (counter.func == consumer))
   where
-    by_test : (own : Counter) (b : Bool) → cond (b && same_id own.id id) iteration (cond b (iterations own.id) 0) ≡ cond b (cond (same_id own.id id) iteration (iterations own.id))
+    by_test : (counter : Counter) (b : Bool) → cond (b && same_id counter.id id) iteration (cond b (iterations counter.id) 0) ≡ cond b (cond (same_id counter.id id) iteration (iterations counter.id))
         0
-    by_test own true = refl
-    by_test own false = refl
+    by_test counter true = refl
+    by_test counter false = refl
 
 pub consuming_none : (consumer : ℕ) → counters.no_values ≡ consuming consumer (λ id. 0)
 consuming_none consumer = fun_ext (λ own. by_test (own.func == consumer))

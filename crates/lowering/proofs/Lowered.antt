@@ -57,17 +57,21 @@ module _ (points : Points) (is_private : ℕ → Bool) where
   same_behind _ _ _ result (None_left start) agree = Same [] start result result agree (None_left result)
   same_behind _ _ _ result (Same phases one other between like rest) agree = Same phases one other result like (same_behind phases other between result rest
       agree)
-  same_behind _ _ _ result (One_more first others own owns start middle between phase rest) agree =
-      One_more first others own owns start middle result phase (same_behind others middle between result rest agree)
+  same_behind _ _ _ result (One_more first others func_index owns start middle between phase rest) agree =
+      One_more first others func_index owns start middle result phase
+      (same_behind others middle between result rest agree)
 
-  one_behind : (phases : List Tasks) (last : Tasks) (own : ℕ) (owns : ℕ → ℕ → ℕ → Bool) (start between result : Planes)
+  one_behind : (phases : List Tasks) (last : Tasks) (func_index : ℕ) (owns : ℕ → ℕ → ℕ
+      → Bool) (start between result : Planes)
       → DoPhases points is_private phases start between
-      → DoesPhase points is_private own between result last.count owns last.run → DoPhases points is_private (phases ++ last ∷ []) start result
-  one_behind _ last own owns _ _ result (None_left start) phase = One_more last [] own owns start result result phase (None_left result)
-  one_behind _ last own owns _ _ result (Same phases one other between like rest) phase =
-      Same (phases ++ last ∷ []) one other result like (one_behind phases last own owns other between result rest phase)
-  one_behind _ last own owns _ _ result (One_more first others mine theirs start middle between before rest) phase =
-      One_more first (others ++ last ∷ []) mine theirs start middle result before (one_behind others last own owns middle between result rest phase)
+      → DoesPhase points is_private func_index between result last.count owns last.run → DoPhases points is_private (phases ++ last ∷ []) start result
+  one_behind _ last func_index owns _ _ result (None_left start) phase = One_more last [] func_index owns start result result phase (None_left result)
+  one_behind _ last func_index owns _ _ result (Same phases one other between like rest) phase =
+      Same (phases ++ last ∷ []) one other result like (one_behind phases last func_index owns other between result rest
+      phase)
+  one_behind _ last func_index owns _ _ result (One_more first others mine theirs start middle between before rest)
+      phase =
+      One_more first (others ++ last ∷ []) mine theirs start middle result before (one_behind others last func_index owns middle between result rest phase)
 
 map_behind : {A B : Type 0} (f : A → B) (xs : List A) (last : A) → map f (xs ++ last ∷ []) ≡ map f xs ++ f last ∷ []
 map_behind f [] last = refl
@@ -89,49 +93,52 @@ module _ (pipeline : Pipeline) (schedule : Schedule) (boxes : Boxes) (accepted :
 
   -- ---- the phases of a Func
 
-  record Goes (place : ℕ) (func : Func) (number : ℕ) (phase : Phase) : Type 0 where
+  record Goes (func_index : ℕ) (func : Func) (number : ℕ) (phase : Phase) : Type 0 where
     owned : ℕ → ℕ → ℕ → Bool
-    does : DoesStage pipeline schedule boxes place func number owned phase
+    does : DoesStage pipeline schedule boxes func_index func number owned phase
 
-  goes : (place : ℕ) (func : Func) (plan : FuncPlan) (own : SourceBox) (number : ℕ) (phase : Phase)
-      → IsStagePhase pipeline schedule boxes place func plan own number phase → Goes place func number phase
-  goes place func plan own _ _ (Pure phase tasks private_is bytes does touches few stores loop_lanes in_runs) = record {
-    owned = owns (extents_of own) plan.pure;
-    does = does;
-  }
-  goes place func plan own _ _ (Updating at update stage phase it tasks private_is bytes does touches few stores loop_lanes) =
+  goes : (func_index : ℕ) (func : Func) (plan : FuncPlan) (own : SourceBox) (number : ℕ) (phase : Phase)
+      → IsStagePhase pipeline schedule boxes func_index func plan own number phase → Goes func_index func number phase
+  goes func_index func plan own _ _ (Pure phase tasks private_is bytes does touches few stores loop_lanes in_runs) =
+      record {
+        owned = owns (extents_of own) plan.pure;
+        does = does;
+      }
+  goes func_index func plan own _ _ (Updating at update stage phase it tasks private_is bytes does touches few stores loop_lanes) =
       record { owned = owns_update own update stage; does = does }
 
-  stages_do : (place : ℕ) (func : Func) (plan : FuncPlan) (own : SourceBox) (others phases : List Phase) (number : ℕ)
-      → ArePhasesOf pipeline schedule boxes place func plan own others number phases
-      → DoPhases points private (do_tasks others) (before 0) (before place)
-      → DoPhases points private (do_tasks phases) (before 0) (held boxes.funcs (after_stages pipeline.funcs inputs place func number))
-  stages_do place func plan own others _ _ None_yet start = start
-  stages_do place func plan own others _ _ (lowered.One_more number phases phase rest one) start =
-      let g = goes place func plan own number phase one in
-      subst (λ l. DoPhases points private l (before 0) (held boxes.funcs (after_stages pipeline.funcs inputs place func (suc number))))
+  stages_do : (func_index : ℕ) (func : Func) (plan : FuncPlan) (own : SourceBox) (others phases : List Phase)
+      (number : ℕ)
+      → ArePhasesOf pipeline schedule boxes func_index func plan own others number phases
+      → DoPhases points private (do_tasks others) (before 0) (before func_index)
+      → DoPhases points private (do_tasks phases) (before 0) (held boxes.funcs (after_stages pipeline.funcs inputs func_index func number))
+  stages_do func_index func plan own others _ _ None_yet start = start
+  stages_do func_index func plan own others _ _ (lowered.One_more number phases phase rest one) start =
+      let g = goes func_index func plan own number phase one in
+      subst (λ l. DoPhases points private l (before 0) (held boxes.funcs (after_stages pipeline.funcs inputs func_index func (suc number))))
       (sym (map_behind (tasks_of pipeline schedule boxes inputs) phases phase))
-      (one_behind points private (do_tasks phases) (tasks_of pipeline schedule boxes inputs phase) place g.owned (before 0)
-      (held boxes.funcs (after_stages pipeline.funcs inputs place func number)) (held boxes.funcs (after_stages pipeline.funcs inputs place func (suc number)))
-      (stages_do place func plan own others phases number rest start) (g.does inputs begun))
+      (one_behind points private (do_tasks phases) (tasks_of pipeline schedule boxes inputs phase) func_index g.owned (before 0)
+      (held boxes.funcs (after_stages pipeline.funcs inputs func_index func number)) (held boxes.funcs (after_stages pipeline.funcs inputs func_index func (suc number)))
+      (stages_do func_index func plan own others phases number rest start) (g.does inputs begun))
 
   -- ---- the step from the pixels of some Funcs to those of one more
 
-  same_elsewhere : (place k x y : ℕ) → (k ≡ place → ⊥) → before place k x y ≡ before (suc place) k x y
+  same_elsewhere : (func_index k x y : ℕ) → (k ≡ func_index → ⊥)
+      → before func_index k x y ≡ before (suc func_index) k x y
   unfolding pixels
-  same_elsewhere place k x y d =
+  same_elsewhere func_index k x y d =
       let corner = corner_of (box_in (slice_get boxes.funcs k)) in
-      sym (ap (λ (b : Bool). cond b (func_plane place (slice_get pipeline.funcs place) inputs (pixels pipeline.funcs inputs place))
-      (pixels pipeline.funcs inputs place k) (word.add corner.x x) (word.add corner.y y)) (ne_eqb k place d))
+      sym (ap (λ (b : Bool). cond b (func_plane func_index (slice_get pipeline.funcs func_index) inputs (pixels pipeline.funcs inputs func_index))
+      (pixels pipeline.funcs inputs func_index k) (word.add corner.x x) (word.add corner.y y)) (ne_eqb k func_index d))
 
   -- no point that is shared is of a Func that has no phase
-  nothing_shared : (place : ℕ) → IsNotAtRoot pipeline schedule boxes place → (x y : ℕ) → private place ≡ false → points place x y ≡ true → ⊥
-  nothing_shared place not_root x y shared there = by_entry (slice_get boxes.funcs place) refl
+  nothing_shared : (func_index : ℕ) → IsNotAtRoot pipeline schedule boxes func_index → (x y : ℕ) → private func_index ≡ false → points func_index x y ≡ true → ⊥
+  nothing_shared func_index not_root x y shared there = by_entry (slice_get boxes.funcs func_index) refl
     where
-      by_place : (own : SourceBox) → slice_get boxes.funcs place ≡ Some (Some own) → (b : HasBox pipeline schedule boxes place own) → (where_ : ComputeLevel)
-          → b.standing.place ≡ where_ → IsComputed place where_ → ⊥
+      by_place : (own : SourceBox) → slice_get boxes.funcs func_index ≡ Some (Some own) → (b : HasBox pipeline schedule boxes func_index own) → (where_ : ComputeLevel)
+          → b.standing.place ≡ where_ → IsComputed func_index where_ → ⊥
       by_place own e b places.Root w c =
-          let plan = pair_there IsPlan pipeline.funcs schedule.funcs place b.func accepted.plans b.func_is in
+          let plan = pair_there IsPlan pipeline.funcs schedule.funcs func_index b.func accepted.plans b.func_is in
           not_root b.func plan.value own (record { func_is = b.func_is; plan_is = plan.is; box_is = e; standing = b.standing; there = b.there; placed_is = w })
       by_place own e b (places.At at) w c =
           true≢false (sym (ap is_private_in b.there.standing ∙ (ap (λ (r : Bool). r && is_at_loop b.standing.place) b.there.reached ∙ ap is_at_loop w))
@@ -139,30 +146,30 @@ module _ (pipeline : Pipeline) (schedule : Schedule) (boxes : Boxes) (accepted :
       by_place own e b places.Inlined w c = c
       by_place own e b places.Nowhere w c = c
 
-      by_entry : (entry : Option (Option SourceBox)) → slice_get boxes.funcs place ≡ entry → ⊥
+      by_entry : (entry : Option (Option SourceBox)) → slice_get boxes.funcs func_index ≡ entry → ⊥
       by_entry None e = true≢false (sym there ∙ ap (λ (o : Option (Option SourceBox)). has_point (box_in o) x y) e)
       by_entry (Some None) e = true≢false (sym there ∙ ap (λ (o : Option (Option SourceBox)). has_point (box_in o) x y) e)
-      by_entry (Some (Some own)) e = let b = has_box pipeline schedule boxes accepted is place own e in by_place own e b b.standing.place refl b.computed
+      by_entry (Some (Some own)) e = let b = has_box pipeline schedule boxes accepted is func_index own e in by_place own e b b.standing.place refl b.computed
 
-  passed_agree : (place : ℕ) → IsNotAtRoot pipeline schedule boxes place → AgreeThere points private (before place) (before (suc place))
-  passed_agree place not_root k x y shared there = elim (cases_eq k place) [
-    | inl same ↦ absurd (nothing_shared place not_root x y (ap private (sym same) ∙ shared) (ap (λ (n : ℕ). points n x y) (sym same) ∙ there))
-    | inr other ↦ same_elsewhere place k x y other
+  passed_agree : (func_index : ℕ) → IsNotAtRoot pipeline schedule boxes func_index → AgreeThere points private (before func_index) (before (suc func_index))
+  passed_agree func_index not_root k x y shared there = elim (cases_eq k func_index) [
+    | inl same ↦ absurd (nothing_shared func_index not_root x y (ap private (sym same) ∙ shared) (ap (λ (n : ℕ). points n x y) (sym same) ∙ there))
+    | inr other ↦ same_elsewhere func_index k x y other
   ]
 
-  done_agree : (place : ℕ) (func : Func) → slice_get pipeline.funcs place ≡ Some func
-      → AgreeThere points private (held boxes.funcs (after_stages pipeline.funcs inputs place func (suc (length func.updates)))) (before (suc place))
+  done_agree : (func_index : ℕ) (func : Func) → slice_get pipeline.funcs func_index ≡ Some func
+      → AgreeThere points private (held boxes.funcs (after_stages pipeline.funcs inputs func_index func (suc (length func.updates)))) (before (suc func_index))
   unfolding pixels
-  done_agree place func found k x y shared there =
+  done_agree func_index func found k x y shared there =
       let corner = corner_of (box_in (slice_get boxes.funcs k)) in
-      let earlier = pixels pipeline.funcs inputs place in
-      let mine : Option Func → ℕ = λ (own : Option Func). cond (k == place) (func_plane place own inputs earlier) (earlier k) (word.add corner.x x)
+      let earlier = pixels pipeline.funcs inputs func_index in
+      let mine : Option Func → ℕ = λ (own : Option Func). cond (k == func_index) (func_plane func_index own inputs earlier) (earlier k) (word.add corner.x x)
       (word.add corner.y y) in
-      by_test (k == place) (word.add corner.x x) (word.add corner.y y) ∙ sym (ap mine found)
+      by_test (k == func_index) (word.add corner.x x) (word.add corner.y y) ∙ sym (ap mine found)
     where
-      by_test : (test : Bool) (a b : ℕ) → cond test (stage place func inputs (pixels pipeline.funcs inputs place) (length func.updates))
-          (pixels pipeline.funcs inputs place k) a b
-          ≡ cond test (func_plane place (Some func) inputs (pixels pipeline.funcs inputs place)) (pixels pipeline.funcs inputs place k) a b
+      by_test : (test : Bool) (a b : ℕ) → cond test (stage func_index func inputs (pixels pipeline.funcs inputs func_index) (length func.updates))
+          (pixels pipeline.funcs inputs func_index k) a b
+          ≡ cond test (func_plane func_index (Some func) inputs (pixels pipeline.funcs inputs func_index)) (pixels pipeline.funcs inputs func_index k) a b
       by_test true a b = refl
       by_test false a b = refl
 
@@ -171,12 +178,12 @@ module _ (pipeline : Pipeline) (schedule : Schedule) (boxes : Boxes) (accepted :
   funcs_do : (count : ℕ) (phases : List Phase) → AreLowered pipeline schedule boxes count phases
       → DoPhases points private (do_tasks phases) (before 0) (before count)
   funcs_do _ _ No_func = None_left (before 0)
-  funcs_do _ _ (Passed place phases rest not_root) =
-      same_behind points private (do_tasks phases) (before 0) (before place) (before (suc place)) (funcs_do place phases rest) (passed_agree place not_root)
-  funcs_do _ _ (Computed place others phases func plan own rest at stages) =
-      same_behind points private (do_tasks phases) (before 0) (held boxes.funcs (after_stages pipeline.funcs inputs place func (suc (length func.updates))))
-      (before (suc place))
-      (stages_do place func plan own others phases (suc (length func.updates)) stages (funcs_do place others rest)) (done_agree place func at.func_is)
+  funcs_do _ _ (Passed func_index phases rest not_root) =
+      same_behind points private (do_tasks phases) (before 0) (before func_index) (before (suc func_index)) (funcs_do func_index phases rest) (passed_agree func_index not_root)
+  funcs_do _ _ (Computed func_index others phases func plan own rest at stages) =
+      same_behind points private (do_tasks phases) (before 0) (held boxes.funcs (after_stages pipeline.funcs inputs func_index func (suc (length func.updates))))
+      (before (suc func_index))
+      (stages_do func_index func plan own others phases (suc (length func.updates)) stages (funcs_do func_index others rest)) (done_agree func_index func at.func_is)
 
 pub phases_do_pixels : PhasesDoPixels
 phases_do_pixels pipeline schedule boxes accepted is phases are inputs begun = funcs_do pipeline schedule boxes accepted is inputs begun (length pipeline.funcs)
@@ -185,56 +192,62 @@ phases_do_pixels pipeline schedule boxes accepted is phases are inputs begun = f
 -- ---- the parts of a list of phases
 
 module _ (pipeline : Pipeline) (schedule : Schedule) (boxes : Boxes) where
-  module _ (place : ℕ) (func : Func) (plan : FuncPlan) (own : SourceBox) (others : List Phase) where
-    pub one_stage : (phases more : List Phase) (number : ℕ) (phase : Phase) → ArePhasesOf pipeline schedule boxes place func plan own others number phases
-        → IsStagePhase pipeline schedule boxes place func plan own number phase
-        → more ≡ phases ++ phase ∷ [] → ArePhasesOf pipeline schedule boxes place func plan own others (suc number) more
+  module _ (func_index : ℕ) (func : Func) (plan : FuncPlan) (own : SourceBox) (others : List Phase) where
+    pub one_stage : (phases more : List Phase) (number : ℕ) (phase : Phase) → ArePhasesOf pipeline schedule boxes func_index func plan own others number phases
+        → IsStagePhase pipeline schedule boxes func_index func plan own number phase
+        → more ≡ phases ++ phase ∷ [] → ArePhasesOf pipeline schedule boxes func_index func plan own others (suc number)
+        more
     one_stage phases more number phase before one e =
-        subst (λ l. ArePhasesOf pipeline schedule boxes place func plan own others (suc number) l) (sym e) (lowered.One_more number phases phase before one)
+        subst (λ l. ArePhasesOf pipeline schedule boxes func_index func plan own others (suc number) l) (sym e) (lowered.One_more number phases phase before one)
 
-    pub nothing_yet : (phases : List Phase) (number : ℕ) → number ≡ 0 → phases ≡ others → ArePhasesOf pipeline schedule boxes place func plan own others number
+    pub nothing_yet : (phases : List Phase) (number : ℕ) → number ≡ 0 → phases ≡ others → ArePhasesOf pipeline schedule boxes func_index func plan own others number
         phases
     nothing_yet phases number none same =
-        subst (λ (n : ℕ). ArePhasesOf pipeline schedule boxes place func plan own others n phases) (sym none)
-        (subst (λ l. ArePhasesOf pipeline schedule boxes place func plan own others 0 l) (sym same) None_yet)
+        subst (λ (n : ℕ). ArePhasesOf pipeline schedule boxes func_index func plan own others n phases) (sym none)
+        (subst (λ l. ArePhasesOf pipeline schedule boxes func_index func plan own others 0 l) (sym same) None_yet)
 
-    pub stages_so : (phases more : List Phase) (number last : ℕ) → ArePhasesOf pipeline schedule boxes place func plan own others number phases → number ≡ last
+    pub stages_so : (phases more : List Phase) (number last : ℕ) → ArePhasesOf pipeline schedule boxes func_index func plan own others number phases → number ≡ last
         → more ≡ phases
-        → ArePhasesOf pipeline schedule boxes place func plan own others last more
+        → ArePhasesOf pipeline schedule boxes func_index func plan own others last more
     stages_so phases more number last before e same =
-        subst (λ (n : ℕ). ArePhasesOf pipeline schedule boxes place func plan own others n more) e (subst (λ l. ArePhasesOf pipeline schedule boxes place func
+        subst (λ (n : ℕ). ArePhasesOf pipeline schedule boxes func_index func plan own others n more) e (subst (λ l. ArePhasesOf pipeline schedule boxes func_index func
         plan own others number l) (sym same) before)
 
   pub nothing_lowered : (count : ℕ) (phases : List Phase) → count ≡ 0 → phases ≡ [] → AreLowered pipeline schedule boxes count phases
   nothing_lowered count phases none empty =
       subst (λ (n : ℕ). AreLowered pipeline schedule boxes n phases) (sym none) (subst (λ l. AreLowered pipeline schedule boxes 0 l) (sym empty) No_func)
 
-  pub pure_is : (place : ℕ) (func : Func) (plan : FuncPlan) (own : SourceBox) (number : ℕ) (phase : Phase) → number ≡ 0
-      → IsStagePhase pipeline schedule boxes place func plan own 0 phase
-      → IsStagePhase pipeline schedule boxes place func plan own number phase
-  pure_is place func plan own number phase none is = subst (λ (n : ℕ). IsStagePhase pipeline schedule boxes place func plan own n phase) (sym none) is
+  pub pure_is : (func_index : ℕ) (func : Func) (plan : FuncPlan) (own : SourceBox) (number : ℕ) (phase : Phase)
+      → number ≡ 0
+      → IsStagePhase pipeline schedule boxes func_index func plan own 0 phase
+      → IsStagePhase pipeline schedule boxes func_index func plan own number phase
+  pure_is func_index func plan own number phase none is = subst (λ (n : ℕ). IsStagePhase pipeline schedule boxes func_index func plan own n phase) (sym none) is
 
   root_passes : (own : FuncPlacement) (where_ : ComputeLevel) → own.place ≡ where_ → where_ ≡ places.Root → own.is_reached ≡ true → is_at_root own ≡ true
   root_passes own where_ p r reached = ap (λ (b : Bool). b && is_root own.place) reached ∙ (ap is_root p ∙ ap is_root r)
 
   -- no phase is of a Func that isn't known to stand at root
-  pub not_standing : (place : ℕ) → slice_get schedule.standings place ≡ None → IsNotAtRoot pipeline schedule boxes place
-  not_standing place none func plan own at = let found = at.there.standing in cc
+  pub not_standing : (func_index : ℕ) → slice_get schedule.standings func_index ≡ None
+      → IsNotAtRoot pipeline schedule boxes func_index
+  not_standing func_index none func plan own at = let found = at.there.standing in cc
 
-  pub not_root : (place : ℕ) (standing : FuncPlacement) → slice_get schedule.standings place ≡ Some standing → is_at_root standing ≡ false
-      → IsNotAtRoot pipeline schedule boxes place
-  not_root place standing found fails func plan own at =
-      let same : at.standing ≡ standing = let p = at.there.standing in cc in
+  pub not_root : (func_index : ℕ) (placement : FuncPlacement) → slice_get schedule.standings func_index ≡ Some placement → is_at_root placement ≡ false
+      → IsNotAtRoot pipeline schedule boxes func_index
+  not_root func_index placement found fails func plan own at =
+      let same : at.standing ≡ placement = let p = at.there.standing in cc in
       true≢false (sym (ap is_at_root (sym same) ∙ root_passes at.standing at.standing.place refl at.placed_is at.there.reached) ∙ fails)
 
-  pub no_func : (place : ℕ) → slice_get pipeline.funcs place ≡ None → IsNotAtRoot pipeline schedule boxes place
-  no_func place none func plan own at = let found = at.func_is in cc
+  pub no_func : (func_index : ℕ) → slice_get pipeline.funcs func_index ≡ None
+      → IsNotAtRoot pipeline schedule boxes func_index
+  no_func func_index none func plan own at = let found = at.func_is in cc
 
-  pub no_plan : (place : ℕ) → slice_get schedule.funcs place ≡ None → IsNotAtRoot pipeline schedule boxes place
-  no_plan place none func plan own at = let found = at.plan_is in cc
+  pub no_plan : (func_index : ℕ) → slice_get schedule.funcs func_index ≡ None
+      → IsNotAtRoot pipeline schedule boxes func_index
+  no_plan func_index none func plan own at = let found = at.plan_is in cc
 
-  pub no_box : (place : ℕ) → box_in (slice_get boxes.funcs place) ≡ None → IsNotAtRoot pipeline schedule boxes place
-  no_box place none func plan own at = let found : box_in (slice_get boxes.funcs place) ≡ Some own = ap box_in at.box_is in cc
+  pub no_box : (func_index : ℕ) → box_in (slice_get boxes.funcs func_index) ≡ None
+      → IsNotAtRoot pipeline schedule boxes func_index
+  no_box func_index none func plan own at = let found : box_in (slice_get boxes.funcs func_index) ≡ Some own = ap box_in at.box_is in cc
 
 pub past_end : {A : Type 0} (xs : List A) (k : ℕ) → slice_get xs k ≡ None → length xs ≤ k
 past_end [] k none = omega arith
@@ -242,19 +255,19 @@ past_end (x ∷ xs) zero none = absurd cc
 past_end (x ∷ xs) (suc k) none = omega (arith, past_end xs k none)
 
 pub no_stage : (pipeline : Pipeline) (schedule : Schedule) (boxes : Boxes) → IsAccepted pipeline schedule
-    → (place : ℕ) (func : Func) (plan : FuncPlan) (own : SourceBox) → IsAtRoot pipeline schedule boxes place func plan own
+    → (func_index : ℕ) (func : Func) (plan : FuncPlan) (source_box : SourceBox) → IsAtRoot pipeline schedule boxes func_index func plan source_box
     → (at : ℕ) (update : Update) → slice_get func.updates at ≡ Some update → slice_get plan.updates at ≡ None → ⊥
-no_stage pipeline schedule boxes accepted place func plan own root at update found none =
-    let planned : IsPlan func plan = pair_at IsPlan pipeline.funcs schedule.funcs place func plan accepted.plans root.func_is root.plan_is in
+no_stage pipeline schedule boxes accepted func_index func plan source_box root at update found none =
+    let planned : IsPlan func plan = pair_at IsPlan pipeline.funcs schedule.funcs func_index func plan accepted.plans root.func_is root.plan_is in
     let stage = pair_there (IsUpdateStage func) func.updates plan.updates at update planned.updates found in
     let is = stage.is in
     cc
 
 -- ---- the output
 
-zero_pixels : (funcs : List Func) (inputs : Planes) (place x y : ℕ) → pixels funcs inputs 0 place x y ≡ 0
+zero_pixels : (funcs : List Func) (inputs : Planes) (func_index x y : ℕ) → pixels funcs inputs 0 func_index x y ≡ 0
 unfolding pixels
-zero_pixels funcs inputs place x y = refl
+zero_pixels funcs inputs func_index x y = refl
 
 record BoxOf (entry : Option (Option SourceBox)) : Type 0 where
   own : SourceBox
@@ -265,9 +278,9 @@ boxed_one None x y e = absurd cc
 boxed_one (Some None) x y e = absurd cc
 boxed_one (Some (Some own)) x y e = record { own = own; is = refl }
 
-drawn_func : (own : Option Func) (n : ℕ) → is_func_of own n ≡ true → IsSome own
+drawn_func : (func : Option Func) (n : ℕ) → is_func_of func n ≡ true → IsSome func
 drawn_func None n e = absurd cc
-drawn_func (Some own) n e = record { value = own; is = refl }
+drawn_func (Some func) n e = record { value = func; is = refl }
 
 or_second : (a b : Bool) → a ≡ false → (a || b) ≡ true → b ≡ true
 or_second true b f e = absurd cc

@@ -10,57 +10,58 @@ use Rattle.lowering.specs.Consuming.{Keeps}
 
 -- ---- one point written
 
-pub put_there : (points : Points) (own x y value : ℕ) (funcs : Planes) → points own x y ≡ true → put points own x y value funcs own x y ≡ value
-put_there points own x y value funcs there =
-    ap (λ (b : Bool). cond b value (funcs own x y))
-    (and_from (points own x y) (own == own && (x == x && y == y)) there (and_from (own == own) (x == x && y == y) (eq-eqb own own refl)
+pub put_there : (points : Points) (func_index x y value : ℕ) (funcs : Planes) → points func_index x y ≡ true → put points func_index x y value funcs func_index x y ≡ value
+put_there points func_index x y value funcs there =
+    ap (λ (b : Bool). cond b value (funcs func_index x y))
+    (and_from (points func_index x y) (func_index == func_index && (x == x && y == y)) there (and_from (func_index == func_index) (x == x && y == y) (eq-eqb func_index func_index refl)
     (and_from (x == x) (y == y) (eq-eqb x x refl) (eq-eqb y y refl))))
 
-pub put_other : (points : Points) (own x y value : ℕ) (funcs : Planes) (place i j : ℕ) → (place ≡ own → (x == i && y == j) ≡ false)
-    → put points own x y value funcs place i j ≡ funcs place i j
-put_other points own x y value funcs place i j free = by_test (points own x y && (place == own && (i == x && j == y))) refl
+pub put_other : (points : Points) (func_index x y value : ℕ) (funcs : Planes) (place i j : ℕ) → (place ≡ func_index → (x == i && y == j) ≡ false)
+    → put points func_index x y value funcs place i j ≡ funcs place i j
+put_other points func_index x y value funcs place i j free = by_test (points func_index x y && (place == func_index && (i == x && j == y))) refl
   where
-    by_test : (test : Bool) → (points own x y && (place == own && (i == x && j == y))) ≡ test → cond test value (funcs place i j) ≡ funcs place i j
+    by_test : (test : Bool) → (points func_index x y && (place == func_index && (i == x && j == y))) ≡ test → cond test value (funcs place i j) ≡ funcs place i j
     by_test false e = refl
     by_test true e =
-        let a = and_parts (points own x y) (place == own && (i == x && j == y)) e in
-        let b = and_parts (place == own) (i == x && j == y) a.1 in
+        let a = and_parts (points func_index x y) (place == func_index && (i == x && j == y)) e in
+        let b = and_parts (place == func_index) (i == x && j == y) a.1 in
         let c = and_parts (i == x) (j == y) b.1 in
         let here : (x == i && y == j) ≡ true = and_from (x == i) (y == j) (eq-eqb x i (sym (eqb-true i x c.0))) (eq-eqb y j (sym (eqb-true j y c.1))) in
-        absurd (true≢false (sym here ∙ free (eqb-true place own b.0)))
+        absurd (true≢false (sym here ∙ free (eqb-true place func_index b.0)))
 
 -- ---- many
 
 -- The steps want something of the buffers that holds of them as long as all but the own Func's is kept.
-module _ (points : Points) (own : ℕ) (plane : Plane) (Ready : Planes → Type 0) (stays : (funcs after : Planes) → Keeps own funcs after → Ready funcs
+module _ (points : Points) (func_index : ℕ) (plane : Plane) (Ready : Planes → Type 0) (stays : (funcs after : Planes) → Keeps func_index funcs after → Ready funcs
     → Ready after) where
   module _ {A : Type 0} (x_of y_of : A → ℕ) (step : A → Planes → Planes) where
     -- a step writes the plane's value at its point
     pub record Writes (a : A) : Type 0 where
-      pub there : points own (x_of a) (y_of a) ≡ true
-      pub does : (funcs : Planes) → Ready funcs → step a funcs ≡ put points own (x_of a) (y_of a) (plane (x_of a) (y_of a)) funcs
+      pub there : points func_index (x_of a) (y_of a) ≡ true
+      pub does : (funcs : Planes) → Ready funcs → step a funcs ≡ put points func_index (x_of a) (y_of a) (plane (x_of a) (y_of a)) funcs
 
     abbrev pub is_at : ℕ → ℕ → A → Bool
     is_at x y a = x_of a == x && y_of a == y
 
     pub record Paints (list : List A) (funcs after : Planes) : Type 0 where
-      pub there : (x y : ℕ) → list_any (is_at x y) list ≡ true → after own x y ≡ plane x y
-      pub keeps : (place x y : ℕ) → (place ≡ own → list_any (is_at x y) list ≡ false) → after place x y ≡ funcs place x y
+      pub there : (x y : ℕ) → list_any (is_at x y) list ≡ true → after func_index x y ≡ plane x y
+      pub keeps : (place x y : ℕ) → (place ≡ func_index → list_any (is_at x y) list ≡ false) → after place x y ≡ funcs place x y
 
     module _ (a : A) (funcs : Planes) (writes : Writes a) (ready : Ready funcs) where
-      step_keeps : (place x y : ℕ) → (place ≡ own → is_at x y a ≡ false) → step a funcs place x y ≡ funcs place x y
+      step_keeps : (place x y : ℕ) → (place ≡ func_index → is_at x y a ≡ false)
+          → step a funcs place x y ≡ funcs place x y
       step_keeps place x y free =
-          ap (λ (f : Planes). f place x y) (writes.does funcs ready) ∙ put_other points own (x_of a) (y_of a) (plane (x_of a) (y_of a)) funcs place x y free
+          ap (λ (f : Planes). f place x y) (writes.does funcs ready) ∙ put_other points func_index (x_of a) (y_of a) (plane (x_of a) (y_of a)) funcs place x y free
 
-      step_there : (x y : ℕ) → is_at x y a ≡ true → step a funcs own x y ≡ plane x y
+      step_there : (x y : ℕ) → is_at x y a ≡ true → step a funcs func_index x y ≡ plane x y
       step_there x y e =
           let p = and_parts (x_of a == x) (y_of a == y) e in
           let same_x : x_of a ≡ x = eqb-true (x_of a) x p.0 in
           let same_y : y_of a ≡ y = eqb-true (y_of a) y p.1 in
-          let here : step a funcs own (x_of a) (y_of a) ≡ plane (x_of a) (y_of a) =
-          ap (λ (f : Planes). f own (x_of a) (y_of a)) (writes.does funcs ready) ∙ put_there points own (x_of a) (y_of a) (plane (x_of a) (y_of a)) funcs
+          let here : step a funcs func_index (x_of a) (y_of a) ≡ plane (x_of a) (y_of a) =
+          ap (λ (f : Planes). f func_index (x_of a) (y_of a)) (writes.does funcs ready) ∙ put_there points func_index (x_of a) (y_of a) (plane (x_of a) (y_of a)) funcs
           writes.there in
-          ap (λ (n : ℕ). step a funcs own n y) (sym same_x) ∙ ap (λ (n : ℕ). step a funcs own (x_of a) n) (sym same_y) ∙ here
+          ap (λ (n : ℕ). step a funcs func_index n y) (sym same_x) ∙ ap (λ (n : ℕ). step a funcs func_index (x_of a) n) (sym same_y) ∙ here
           ∙ ap (λ (n : ℕ). plane n (y_of a)) same_x ∙ ap (λ (n : ℕ). plane x n) same_y
 
       step_ready : Ready (step a funcs)
@@ -79,15 +80,15 @@ module _ (points : Points) (own : ℕ) (plane : Plane) (Ready : Planes → Type 
         later = next (step_ready a funcs writes ready)
 
         by_later : (x y : ℕ) (test : Bool) → list_any (is_at x y) others ≡ test → (is_at x y a || list_any (is_at x y) others) ≡ true
-            → all step others (step a funcs) own x y ≡ plane x y
+            → all step others (step a funcs) func_index x y ≡ plane x y
         by_later x y true found e = later.there x y found
-        by_later x y false found e = later.keeps own x y (λ s. found)
+        by_later x y false found e = later.keeps func_index x y (λ s. found)
             ∙ step_there a funcs writes ready x y (first_of (is_at x y a) (list_any (is_at x y) others) found e)
 
-        keeps : (place x y : ℕ) → (place ≡ own → (is_at x y a || list_any (is_at x y) others) ≡ false) → all step others (step a funcs) place x y
+        keeps : (place x y : ℕ) → (place ≡ func_index → (is_at x y a || list_any (is_at x y) others) ≡ false) → all step others (step a funcs) place x y
             ≡ funcs place x y
         keeps place x y free =
-            let parts : place ≡ own → (is_at x y a ≡ false) × (list_any (is_at x y) others ≡ false) = λ e. or_parts (is_at x y a) (list_any (is_at x y) others)
+            let parts : place ≡ func_index → (is_at x y a ≡ false) × (list_any (is_at x y) others ≡ false) = λ e. or_parts (is_at x y a) (list_any (is_at x y) others)
             (free e) in
             later.keeps place x y (λ e. (parts e).1) ∙ step_keeps a funcs writes ready place x y (λ e. (parts e).0)
 

@@ -16,28 +16,29 @@ use Rattle.bounds.specs.Extents.{box_in}
 use Rattle.lowering.specs.PurePhases.{is_at_root}
 use Rattle.bounds.specs.Stages.{IsAtRoot}
 
-root_is : (place : ComputeLevel) → is_root place ≡ true → place ≡ places.Root
+root_is : (level : ComputeLevel) → is_root level ≡ true → level ≡ places.Root
 root_is places.Root e = refl
 root_is (places.At at) e = absurd cc
 root_is places.Inlined e = absurd cc
 root_is places.Nowhere e = absurd cc
 
-box_is : (found : Option (Option SourceBox)) (own : SourceBox) → box_in found ≡ Some own → found ≡ Some (Some own)
-box_is None own e = absurd cc
-box_is (Some other) own e = ap (λ (o : Option SourceBox). Some o) e
+box_is : (found : Option (Option SourceBox)) (source_box : SourceBox) → box_in found ≡ Some source_box
+    → found ≡ Some (Some source_box)
+box_is None source_box e = absurd cc
+box_is (Some other) source_box e = ap (λ (o : Option SourceBox). Some o) e
 
-module _ (pipeline : Pipeline) (schedule : Schedule) (boxes : Boxes) (place : ℕ) where
-  pub at_root : (standing : FuncPlacement) (func : Func) (plan : FuncPlan) (own : SourceBox) → slice_get schedule.standings place ≡ Some standing
-      → is_at_root standing ≡ true
-      → slice_get pipeline.funcs place ≡ Some func → slice_get schedule.funcs place ≡ Some plan → box_in (slice_get boxes.funcs place) ≡ Some own
-      → IsAtRoot pipeline schedule boxes place func plan own
-  at_root standing func plan own found root func_is plan_is own_is =
-      let parts = and_parts standing.is_reached (is_root standing.place) root in
+module _ (pipeline : Pipeline) (schedule : Schedule) (boxes : Boxes) (func_index : ℕ) where
+  pub at_root : (placement : FuncPlacement) (func : Func) (plan : FuncPlan) (source_box : SourceBox) → slice_get schedule.standings func_index ≡ Some placement
+      → is_at_root placement ≡ true
+      → slice_get pipeline.funcs func_index ≡ Some func → slice_get schedule.funcs func_index ≡ Some plan → box_in (slice_get boxes.funcs func_index) ≡ Some source_box
+      → IsAtRoot pipeline schedule boxes func_index func plan source_box
+  at_root placement func plan source_box found root func_is plan_is own_is =
+      let parts = and_parts placement.is_reached (is_root placement.place) root in
       record {
         func_is = func_is;
         plan_is = plan_is;
-        box_is = box_is (slice_get boxes.funcs place) own own_is;
-        standing = standing;
+        box_is = box_is (slice_get boxes.funcs func_index) source_box own_is;
+        standing = placement;
         there = record { standing = found; reached = parts.0 };
-        placed_is = root_is standing.place parts.1;
+        placed_is = root_is placement.place parts.1;
       }

@@ -43,9 +43,9 @@ use Rattle.lowering.proofs.VectorLoops.{vectorized, others_are}
 
 pub store_leaf : (store : Store) → IsLeaf (s.Store store)
 store_leaf store = record {
-  once = λ reads. ap (λ (own : LoopLanes). own.is_one_store) (lanes_store reads store);
-  steps_up = λ reads now next small_now small_next never. ap (λ (own : LoopLanes). own.steps_up now next) (lanes_store reads store);
-  at_once = λ reads values. ap (λ (own : LoopLanes). own.may_be_at_once values) (lanes_store reads store);
+  once = λ reads. ap (λ (loop_lanes : LoopLanes). loop_lanes.is_one_store) (lanes_store reads store);
+  steps_up = λ reads now next small_now small_next never. ap (λ (loop_lanes : LoopLanes). loop_lanes.steps_up now next) (lanes_store reads store);
+  at_once = λ reads values. ap (λ (loop_lanes : LoopLanes). loop_lanes.may_be_at_once values) (lanes_store reads store);
   touches = λ reads values. sound_store reads everywhere all_points store values ∙ all_pass (store_loads reads values store);
 }
   where
@@ -55,41 +55,44 @@ store_leaf store = record {
 
 -- ---- a pure definition reads Funcs before it alone
 
-no_source : (place : ℕ) (source : Source) → IsBelow place source → is_source_of place source ≡ false
-no_source place (sources.Input input) below = refl
-no_source place (sources.Func func) below = ne_eqb func place (λ (e : func ≡ place). absurd (omega (arith, below, e)))
+no_source : (func_index : ℕ) (source : Source) → IsBelow func_index source → is_source_of func_index source ≡ false
+no_source func_index (sources.Input input) below = refl
+no_source func_index (sources.Func func) below = ne_eqb func func_index
+    (λ (e : func ≡ func_index). absurd (omega (arith, below, e)))
 
-module _ (pipeline : Pipeline) (schedule : Schedule) (rules : IsWellFormed pipeline) (place : ℕ) (func : Func) (func_is : slice_get pipeline.funcs place
+module _ (pipeline : Pipeline) (schedule : Schedule) (rules : IsWellFormed pipeline) (func_index : ℕ) (func : Func) (func_is : slice_get pipeline.funcs func_index
     ≡ Some func)
-    (corners : List Corner) (corner : Corner) (store : Stmt) (sound : IsSoundPure corners (flags pipeline schedule) pipeline.funcs place corner func.pure store)
+    (corners : List Corner) (corner : Corner) (store : Stmt) (sound : IsSoundPure corners (flags pipeline schedule) pipeline.funcs func_index corner func.pure store)
   where
     module _ (reads : Reads) (earlier later : Values) where
       abbrev read_at : Values → List Point
       read_at now =
-          (inlined (seeing (placed corners now reads)) (flags pipeline schedule) pipeline.funcs place
-          (seen_variable (at_point (word.add (whole_at now place variables.FirstArgument) (linear_value now corner.x))
-          (word.add (whole_at now place variables.SecondArgument) (linear_value now corner.y)))) func.pure).points
+          (inlined (seeing (placed corners now reads)) (flags pipeline schedule) pipeline.funcs func_index
+          (seen_variable (at_point (word.add (whole_at now func_index variables.FirstArgument)
+          (linear_value now corner.x))
+          (word.add (whole_at now func_index variables.SecondArgument) (linear_value now corner.y)))) func.pure).points
 
-      below : AreBelow place (read_at later)
+      below : AreBelow func_index (read_at later)
       below =
-          within (placed corners later reads) (flags pipeline schedule) pipeline.inputs pipeline.funcs rules.funcs place place (omega arith)
+          within (placed corners later reads) (flags pipeline schedule) pipeline.inputs pipeline.funcs rules.funcs func_index func_index (omega arith)
           (is_argument (dimensions func))
-          (seen_variable (at_point (word.add (whole_at later place variables.FirstArgument) (linear_value later corner.x))
-          (word.add (whole_at later place variables.SecondArgument) (linear_value later corner.y))))
-          (λ v. tt) func.pure (rules.funcs place func func_is).pure
+          (seen_variable (at_point (word.add (whole_at later func_index variables.FirstArgument) (linear_value later corner.x))
+          (word.add (whole_at later func_index variables.SecondArgument) (linear_value later corner.y))))
+          (λ v. tt) func.pure (rules.funcs func_index func func_is).pure
 
       abbrev passes : Point → Bool
       passes point = is_sound reads (all_but point) all_points store earlier
 
-      one_missed : (source : Source) (a b : ℕ) → IsBelow place source → passes (place_in corners later (record { source = source; x = a; y = b })) ≡ true
+      one_missed : (source : Source) (a b : ℕ) → IsBelow func_index source → passes (place_in corners later (record { source = source; x = a; y = b })) ≡ true
       one_missed source a b below_it =
           sound reads (all_but (place_in corners later (record { source = source; x = a; y = b }))) all_points earlier
-          (missed_elsewhere place (whole_at earlier place variables.FirstArgument) (whole_at earlier place variables.SecondArgument)
+          (missed_elsewhere func_index (whole_at earlier func_index variables.FirstArgument) (whole_at earlier func_index variables.SecondArgument)
           (place_in corners later (record { source = source; x = a; y = b }))
-          (ap (is_source_of place) (source_stays corners later source a b) ∙ no_source place source below_it))
+          (ap (is_source_of func_index) (source_stays corners later source a b) ∙ no_source func_index source below_it))
           (all_hold (λ own. all_points (place_in corners earlier own)) (λ own. refl) (read_at earlier))
 
-      all_missed : (list : List Point) → AreBelow place list → Hold (λ own. passes (place_in corners later own)) list
+      all_missed : (list : List Point) → AreBelow func_index list → Hold (λ own. passes (place_in corners later own))
+          list
       all_missed [] are = tt
       all_missed (own ∷ list) are = (one_missed own.source own.x own.y are.0, all_missed list are.1)
 
@@ -97,7 +100,7 @@ module _ (pipeline : Pipeline) (schedule : Schedule) (rules : IsWellFormed pipel
       loads_none = sound reads everywhere passes later refl (all_missed (read_at later) below)
 
     pub pure_under : (extents : Extents) (stage : Stage) (is : IsStageOf func None stage) (kept : KeepsRules stage) (inside outside : List Loop)
-        → stage.loops ≡ inside ++ outside → MayBeUnder place extents stage.splits inside outside store
+        → stage.loops ≡ inside ++ outside → MayBeUnder func_index extents stage.splits inside outside store
     pure_under extents stage is kept [] outside loops_are = tt
     pure_under extents stage is kept (own ∷ inside) outside loops_are = (
       λ e. record {

@@ -19,8 +19,8 @@ use Rattle.schedule_loops.specs.Visits.{owns}
 use Rattle.lowering.specs.PurePhases.{DoesPure, ProducedArePrivate, RootsAreShared}
 use Rattle.lowering.specs.Stages.{is_private, is_private_in, is_at_loop, DoesStage}
 
-found_is : (standings : List FuncPlacement) (place : ℕ) (own : FuncPlacement) → IsReached standings place own → is_private standings place ≡ is_at_loop own.place
-found_is standings place own there = ap is_private_in there.standing ∙ ap (λ (b : Bool). b && is_at_loop own.place) there.reached
+found_is : (standings : List FuncPlacement) (func_index : ℕ) (placement : FuncPlacement) → IsReached standings func_index placement → is_private standings func_index ≡ is_at_loop placement.place
+found_is standings func_index placement there = ap is_private_in there.standing ∙ ap (λ (b : Bool). b && is_at_loop placement.place) there.reached
 
 roots_are_shared : (standings : List FuncPlacement) → RootsAreShared standings (is_private standings)
 roots_are_shared standings other own there root = found_is standings other own there ∙ ap is_at_loop root
@@ -28,16 +28,16 @@ roots_are_shared standings other own there root = found_is standings other own t
 produced_are_private : (standings : List FuncPlacement) (consumer : ℕ) → ProducedArePrivate standings (is_private standings) consumer
 produced_are_private standings consumer place own at there placed same = found_is standings place own there ∙ ap is_at_loop placed
 
-first_stage : (place : ℕ) (func : Func) (inputs earlier : Planes) → pure_plane func.pure inputs earlier ≡ stage place func inputs earlier 0
+first_stage : (func_index : ℕ) (func : Func) (inputs earlier : Planes) → pure_plane func.pure inputs earlier ≡ stage func_index func inputs earlier 0
 unfolding stage
-first_stage place func inputs earlier = refl
+first_stage func_index func inputs earlier = refl
 
-pub does_stage : (pipeline : Pipeline) (schedule : Schedule) (boxes : Boxes) (place : ℕ) (func : Func) (plan : FuncPlan) (own : SourceBox) (phase : Phase)
-    → DoesPure pipeline schedule boxes place func plan own phase
-    → DoesStage pipeline schedule boxes place func 0 (owns (extents_of own) plan.pure) phase
-does_stage pipeline schedule boxes place func plan own phase does inputs begun =
-    subst (λ (p : Plane). DoesPhase (box_points boxes.funcs) (is_private schedule.standings) place (held boxes.funcs (pixels pipeline.funcs inputs place))
-    (held boxes.funcs (with_plane place p (pixels pipeline.funcs inputs place))) phase.tasks (owns (extents_of own) plan.pure)
+pub does_stage : (pipeline : Pipeline) (schedule : Schedule) (boxes : Boxes) (func_index : ℕ) (func : Func) (plan : FuncPlan) (source_box : SourceBox) (phase : Phase)
+    → DoesPure pipeline schedule boxes func_index func plan source_box phase
+    → DoesStage pipeline schedule boxes func_index func 0 (owns (extents_of source_box) plan.pure) phase
+does_stage pipeline schedule boxes func_index func plan source_box phase does inputs begun =
+    subst (λ (p : Plane). DoesPhase (box_points boxes.funcs) (is_private schedule.standings) func_index (held boxes.funcs (pixels pipeline.funcs inputs func_index))
+    (held boxes.funcs (with_plane func_index p (pixels pipeline.funcs inputs func_index))) phase.tasks (owns (extents_of source_box) plan.pure)
     (run_task (box_points boxes.funcs) inputs phase))
-    (first_stage place func inputs (pixels pipeline.funcs inputs place))
-    (does (is_private schedule.standings) (roots_are_shared schedule.standings) (produced_are_private schedule.standings place) inputs begun)
+    (first_stage func_index func inputs (pixels pipeline.funcs inputs func_index))
+    (does (is_private schedule.standings) (roots_are_shared schedule.standings) (produced_are_private schedule.standings func_index) inputs begun)

@@ -75,18 +75,20 @@ levels is_inlined (layer.Call2 s a b) kept = let l = a.is in let k = b.is in ome
 
 module _ {A : Type 0} (algebra : Algebra A) (is_inlined : ℕ → Bool) (inputs : List Input) (funcs : List Func) (m n : ℕ) (fewer : m ≤ n) (has : Variable
     → Bool) (vars : Variable → A) where
-  inside-same : (place : ℕ) → place < m → inside algebra is_inlined funcs m place ≡ inside algebra is_inlined funcs n place
-  inside-same place below =
-      let here : func_in funcs is_inlined m place ≡ func_in funcs is_inlined n place
-      = ap (λ (t : Bool). if t && is_inlined place then slice_get funcs place else None) (lt-ltb place m below
-      ∙ sym (lt-ltb place n (omega (arith, below, fewer)))) in
-      inside_is algebra is_inlined funcs m place ∙ ap (made_in algebra (inside algebra is_inlined funcs place)) here
-      ∙ sym (inside_is algebra is_inlined funcs n place)
+  inside-same : (func_index : ℕ) → func_index < m → inside algebra is_inlined funcs m func_index ≡ inside algebra is_inlined funcs n func_index
+  inside-same func_index below =
+      let here : func_in funcs is_inlined m func_index ≡ func_in funcs is_inlined n func_index
+      = ap (λ (t : Bool). if t && is_inlined func_index then slice_get funcs func_index else None)
+      (lt-ltb func_index m below
+      ∙ sym (lt-ltb func_index n (omega (arith, below, fewer)))) in
+      inside_is algebra is_inlined funcs m func_index ∙ ap (made_in algebra
+      (inside algebra is_inlined funcs func_index)) here
+      ∙ sym (inside_is algebra is_inlined funcs n func_index)
 
   answer-same : (s : Source) (count : ℕ) → is_read inputs funcs m s count ≡ true → answer (inside algebra is_inlined funcs m) s
       ≡ answer (inside algebra is_inlined funcs n) s
-  answer-same (sources.Input place) count read = refl
-  answer-same (sources.Func place) count read = inside-same place (ltb-true place m (and_parts (nat_lt place m) (is_func_of (slice_get funcs place) count)
+  answer-same (sources.Input func_index) count read = refl
+  answer-same (sources.Func func_index) count read = inside-same func_index (ltb-true func_index m (and_parts (nat_lt func_index m) (is_func_of (slice_get funcs func_index) count)
       read).0)
 
   abbrev Same : A → A → Type 0
@@ -118,10 +120,11 @@ module _ {A : Type 0} (algebra : Algebra A) (is_inlined : ℕ → Bool) (inputs 
 
 -- ---- definitions
 
-pub at-most : (funcs : List Func) (place : ℕ) (func : Func) → slice_get funcs place ≡ Some func → place < length funcs
-at-most [] place func is = absurd cc
+pub at-most : (funcs : List Func) (func_index : ℕ) (func : Func) → slice_get funcs func_index ≡ Some func
+    → func_index < length funcs
+at-most [] func_index func is = absurd cc
 at-most (first ∷ funcs) zero func is = omega arith
-at-most (first ∷ funcs) (suc place) func is = let l = at-most funcs place func is in omega (arith, l)
+at-most (first ∷ funcs) (suc func_index) func is = let l = at-most funcs func_index func is in omega (arith, l)
 
 module _ (pipeline : Pipeline) (rules : IsWellFormed pipeline) (flags : List Bool) where
   few : (count : ℕ) (has : Variable → Bool) (e : Expr) → count ≤ length pipeline.funcs → keeps (is_read pipeline.inputs pipeline.funcs count) has e ≡ true
@@ -134,28 +137,29 @@ module _ (pipeline : Pipeline) (rules : IsWellFormed pipeline) (flags : List Boo
       (λ func v x y w z u rv rx ry. rv)
       count has (λ v. 1) (λ v. 1) (λ v h. omega arith) e kept)
 
-  pub pure-taken : (place : ℕ) (func : Func) → slice_get pipeline.funcs place ≡ Some func
-      → taken flags pipeline.funcs place func.pure ≤ need_in flags pipeline.funcs func.pure
-  pure-taken place func is = let l = at-most pipeline.funcs place func is in few place (is_argument (dimensions func)) func.pure (omega (arith, l))
-      (rules.funcs place func is).pure
+  pub pure-taken : (func_index : ℕ) (func : Func) → slice_get pipeline.funcs func_index ≡ Some func
+      → taken flags pipeline.funcs func_index func.pure ≤ need_in flags pipeline.funcs func.pure
+  pure-taken func_index func is = let l = at-most pipeline.funcs func_index func is in few func_index (is_argument (dimensions func)) func.pure (omega (arith, l))
+      (rules.funcs func_index func is).pure
 
-  second-few : (place : ℕ) (has : Variable → Bool) (count : ℕ) (index : Option Expr) → place ≤ length pipeline.funcs
-      → keeps_index (is_read pipeline.inputs pipeline.funcs place) has count index ≡ true
-      → second_taken flags pipeline.funcs place index ≤ max 1 (second_need flags pipeline.funcs index)
-  second-few place has count None within kept = omega arith
-  second-few place has count (Some e) within kept = let l = few place has e within (and_parts _ _ kept).1 in omega (arith, l)
+  second-few : (func_index : ℕ) (has : Variable → Bool) (count : ℕ) (index : Option Expr)
+      → func_index ≤ length pipeline.funcs
+      → keeps_index (is_read pipeline.inputs pipeline.funcs func_index) has count index ≡ true
+      → second_taken flags pipeline.funcs func_index index ≤ max 1 (second_need flags pipeline.funcs index)
+  second-few func_index has count None within kept = omega arith
+  second-few func_index has count (Some e) within kept = let l = few func_index has e within (and_parts _ _ kept).1 in omega (arith, l)
 
-  pub update-taken : (place at : ℕ) (func : Func) (update : Update) → slice_get pipeline.funcs place ≡ Some func → slice_get func.updates at ≡ Some update
-      → update_taken flags pipeline.funcs place update ≤ max 1 (update_need flags pipeline.funcs update)
-  update-taken place at func update is there =
-      let own = (rules.funcs place func is).updates at update there in
+  pub update-taken : (func_index at : ℕ) (func : Func) (update : Update) → slice_get pipeline.funcs func_index ≡ Some func → slice_get func.updates at ≡ Some update
+      → update_taken flags pipeline.funcs func_index update ≤ max 1 (update_need flags pipeline.funcs update)
+  update-taken func_index at func update is there =
+      let own = (rules.funcs func_index func is).updates at update there in
       let has = is_update_variable (dimensions func) update.second in
-      let l = at-most pipeline.funcs place func is in
-      let x = few place has update.left_x (omega (arith, l)) own.left_x in
-      let y = second-few place has (dimensions func) update.left_y (omega (arith, l)) own.left_y in
-      let right : taken flags pipeline.funcs (suc place) update.right ≤ need_in flags pipeline.funcs update.right = few (suc place) has update.right
+      let l = at-most pipeline.funcs func_index func is in
+      let x = few func_index has update.left_x (omega (arith, l)) own.left_x in
+      let y = second-few func_index has (dimensions func) update.left_y (omega (arith, l)) own.left_y in
+      let right : taken flags pipeline.funcs (suc func_index) update.right ≤ need_in flags pipeline.funcs update.right = few (suc func_index) has update.right
       (omega (arith, l)) own.right in
-      let more : place + 1 ≡ suc place = omega arith in
+      let more : func_index + 1 ≡ suc func_index = omega arith in
       let r = subst (λ (n : ℕ). taken flags pipeline.funcs n update.right ≤ need_in flags pipeline.funcs update.right) (sym more) right in
       omega (arith, x, y, r)
 
@@ -166,20 +170,21 @@ pub store-need : (store : Store) (x y value : ℕ) → need store.x ≤ x → ne
 store-need store x y value few_x few_y few_value = let e = greatest_store store in omega (arith, e, few_x, few_y, few_value)
 
 -- at a point of sums
-pub pure-store : (place : ℕ) (x y : Linear) (value : loop.Expr) (most : ℕ) → need value ≤ most
-    → greatest_need (s.Store (record { func = place; x = e.Linear x; y = e.Linear y; value = value })) ≤ max 1 most
-pure-store place x y value most few_value =
-    let own : Store = record { func = place; x = e.Linear x; y = e.Linear y; value = value } in
+pub pure-store : (func_index : ℕ) (x y : Linear) (value : loop.Expr) (most : ℕ) → need value ≤ most
+    → greatest_need (s.Store (record { func = func_index; x = e.Linear x; y = e.Linear y; value = value })) ≤ max 1 most
+pure-store func_index x y value most few_value =
+    let own : Store = record { func = func_index; x = e.Linear x; y = e.Linear y; value = value } in
     let i = linear_need x in let j = linear_need y in
     let l = store-need own 1 1 most (omega (arith, i)) (omega (arith, j)) few_value in
     omega (arith, l)
 
 -- ---- tasks
 
-few-iterations : (extents : Extents) (splits : List Split) (own : Option Loop) → AreFew extents → AreSplits splits
-    → iterations.count_of (counts extents splits) own ≤ 2 ^ 31
+few-iterations : (extents : Extents) (splits : List Split) (stage_loop : Option Loop) → AreFew extents
+    → AreSplits splits
+    → iterations.count_of (counts extents splits) stage_loop ≤ 2 ^ 31
 few-iterations extents splits None few fit = omega arith
-few-iterations extents splits (Some own) few fit = let l = iterations_few extents splits few fit own.id in omega (arith, l)
+few-iterations extents splits (Some stage_loop) few fit = let l = iterations_few extents splits few fit stage_loop.id in omega (arith, l)
 
 pub few_iterations : (extents : Extents) (stage : Stage) → AreFew extents → AreSplits stage.splits → iterations.iteration_count extents stage ≤ 2 ^ 31
 few_iterations extents stage few fit = few-iterations extents stage.splits (iterations.parallel stage) few fit
@@ -187,23 +192,23 @@ few_iterations extents stage few fit = few-iterations extents stage.splits (iter
 -- ---- what is counted of all stages
 
 module _ (flags : List Bool) (all : List Func) where
-  counted : (funcs : List Func) (plans : List FuncPlan) (standings : List FuncPlacement) (place : ℕ) (func : Func) (plan : FuncPlan) (own : FuncPlacement)
-      → slice_get funcs place ≡ Some func → slice_get plans place ≡ Some plan → slice_get standings place ≡ Some own → is_computed own ≡ true
+  counted : (funcs : List Func) (plans : List FuncPlan) (standings : List FuncPlacement) (func_index : ℕ) (func : Func) (plan : FuncPlan) (placement : FuncPlacement)
+      → slice_get funcs func_index ≡ Some func → slice_get plans func_index ≡ Some plan → slice_get standings func_index ≡ Some placement → is_computed placement ≡ true
       → (func_needs flags all func plan).greatest ≤ (funcs_needs flags all funcs plans standings).greatest
-  counted [] plans standings place func plan own f p s is = absurd cc
-  counted (first ∷ funcs) [] standings place func plan own f p s is = absurd cc
-  counted (first ∷ funcs) (one ∷ plans) [] place func plan own f p s is = absurd cc
-  counted (first ∷ funcs) (one ∷ plans) (other ∷ standings) zero func plan own f p s is =
+  counted [] plans standings func_index func plan placement f p s is = absurd cc
+  counted (first ∷ funcs) [] standings func_index func plan placement f p s is = absurd cc
+  counted (first ∷ funcs) (one ∷ plans) [] func_index func plan placement f p s is = absurd cc
+  counted (first ∷ funcs) (one ∷ plans) (other ∷ standings) zero func plan placement f p s is =
       let ef : first ≡ func = cc in
       let ep : one ≡ plan = cc in
-      let es : other ≡ own = cc in
+      let es : other ≡ placement = cc in
       let whole : computed_needs flags all first one other ≡ func_needs flags all func plan
       = ap (λ (t : Bool). if t then func_needs flags all first one else no_needs) (ap is_computed es ∙ is) ∙ ap (λ (x : Func). func_needs flags all x one) ef
       ∙ ap (func_needs flags all func) ep in
       let g : (computed_needs flags all first one other).greatest ≡ (func_needs flags all func plan).greatest = ap (λ n. n.greatest) whole in
       omega (arith, g)
-  counted (first ∷ funcs) (one ∷ plans) (other ∷ standings) (suc place) func plan own f p s is =
-      let l = counted funcs plans standings place func plan own f p s is in omega (arith, l)
+  counted (first ∷ funcs) (one ∷ plans) (other ∷ standings) (suc func_index) func plan placement f p s is =
+      let l = counted funcs plans standings func_index func plan placement f p s is in omega (arith, l)
 
   update-counted : (updates : List Update) (stages : List Stage) (at : ℕ) (update : Update) (stage : Stage) → slice_get updates at ≡ Some update
       → slice_get stages at ≡ Some stage
@@ -216,35 +221,36 @@ module _ (flags : List Bool) (all : List Func) where
       omega (arith, n)
   update-counted (first ∷ updates) (one ∷ stages) (suc at) update stage u s = let l = update-counted updates stages at update stage u s in omega (arith, l)
 
-not-inlined : (place : ℕ) (own : ComputeLevel) → IsComputed place own → is_inlined own ≡ false
-not-inlined place places.Root here = refl
-not-inlined place (places.At at) here = refl
-not-inlined place places.Inlined here = absurd here
-not-inlined place places.Nowhere here = absurd here
+not-inlined : (func_index : ℕ) (level : ComputeLevel) → IsComputed func_index level → is_inlined level ≡ false
+not-inlined func_index places.Root here = refl
+not-inlined func_index (places.At at) here = refl
+not-inlined func_index places.Inlined here = absurd here
+not-inlined func_index places.Nowhere here = absurd here
 
-module _ (pipeline : Pipeline) (schedule : Schedule) (rules : IsWellFormed pipeline) (place : ℕ) (func : Func) (plan : FuncPlan) (own : FuncPlacement)
-    (func_is : slice_get pipeline.funcs place ≡ Some func)
-    (plan_is : slice_get schedule.funcs place ≡ Some plan) (there : IsReached schedule.standings place own) (here : IsComputed place own.place) where
-  is-computed : is_computed own ≡ true
-  is-computed = ap (λ (t : Bool). t && not (is_inlined own.place)) there.reached ∙ ap (λ (t : Bool). true && not t) (not-inlined place own.place here)
+module _ (pipeline : Pipeline) (schedule : Schedule) (rules : IsWellFormed pipeline) (func_index : ℕ) (func : Func) (plan : FuncPlan) (placement : FuncPlacement)
+    (func_is : slice_get pipeline.funcs func_index ≡ Some func)
+    (plan_is : slice_get schedule.funcs func_index ≡ Some plan) (there : IsReached schedule.standings func_index placement) (here : IsComputed func_index placement.place) where
+  is-computed : is_computed placement ≡ true
+  is-computed = ap (λ (t : Bool). t && not (is_inlined placement.place)) there.reached ∙ ap (λ (t : Bool). true && not t) (not-inlined func_index placement.place here)
 
   all-counted : (func_needs (flags_of schedule.standings) pipeline.funcs func plan).greatest ≤ (needs pipeline schedule).greatest
   unfolding needs
-  all-counted = counted (flags_of schedule.standings) pipeline.funcs pipeline.funcs schedule.funcs schedule.standings place func plan own func_is plan_is
+  all-counted = counted (flags_of schedule.standings) pipeline.funcs pipeline.funcs schedule.funcs schedule.standings func_index func plan placement func_is plan_is
       there.standing is-computed
 
   -- the store of the pure definition, and that of an update
-  pub pure-most : (n : ℕ) → n ≤ max 1 (taken (flags_of schedule.standings) pipeline.funcs place func.pure) → n ≤ most_need pipeline schedule
+  pub pure-most : (n : ℕ) → n ≤ max 1 (taken (flags_of schedule.standings) pipeline.funcs func_index func.pure) → n ≤ most_need pipeline schedule
   pure-most n few =
-      let t = pure-taken pipeline rules (flags_of schedule.standings) place func func_is in
+      let t = pure-taken pipeline rules (flags_of schedule.standings) func_index func func_is in
       let l = all-counted in
       omega (arith, few, t, l)
 
-  pub update-most : (at : ℕ) (update : Update) (stage : Stage) → IsUpdateAt schedule place func plan at update stage → (n : ℕ)
-      → n ≤ update_taken (flags_of schedule.standings) pipeline.funcs place update
+  pub update-most : (at : ℕ) (update : Update) (stage : Stage) → IsUpdateAt schedule func_index func plan at update stage → (n : ℕ)
+      → n ≤ update_taken (flags_of schedule.standings) pipeline.funcs func_index update
       → n ≤ most_need pipeline schedule
   update-most at update stage is n few =
-      let t = update-taken pipeline rules (flags_of schedule.standings) place at func update func_is is.update_is in
+      let t = update-taken pipeline rules (flags_of schedule.standings) func_index at func update func_is is.update_is
+      in
       let u = update-counted (flags_of schedule.standings) pipeline.funcs func.updates plan.updates at update stage is.update_is is.stage_is in
       let l = all-counted in
       omega (arith, few, t, u, l)

@@ -6,7 +6,7 @@ use Rattle.halide_pipeline.specs.Pipelines.{Pipeline}
 use Rattle.halide_pipeline.specs.Words as word
 use Rattle.schedule.specs.declared.plans.FuncPlan.{FuncPlan}
 use Rattle.schedule.specs.declared.schedules.Schedule.{Schedule}
-use Rattle.schedule.specs.declared.placements.LoopPlace.{LoopPlace}
+use Rattle.schedule.specs.declared.placements.LoopPosition.{LoopPosition}
 use Rattle.schedule.specs.declared.placements.ComputeLevel.{ComputeLevel}
 use Rattle.schedule.specs.declared.placements.ComputeLevel.TheVariants as places
 use Rattle.schedule.specs.declared.placements.FuncPlacement.{FuncPlacement}
@@ -34,18 +34,18 @@ use Rattle.lowering.proofs.Values.{corner_at}
 
 -- No Func that the output reaches is computed at one of its loops.
 abbrev pub ConsumersNone : List FuncPlacement → ℕ → Type 0
-ConsumersNone standings place = (other : ℕ) (own : FuncPlacement) (at : LoopPlace) → IsReached standings other own → own.place ≡ places.At at → at.func ≡ place → ⊥
+ConsumersNone standings func_index = (other : ℕ) (placement : FuncPlacement) (at : LoopPosition) → IsReached standings other placement → placement.place ≡ places.At at → at.func ≡ func_index → ⊥
 
 -- ---- boxes
 
-module _ (pipeline : Pipeline) (schedule : Schedule) (boxes : Boxes) (place : ℕ) (func : Func) (plan : FuncPlan) (own : SourceBox)
+module _ (pipeline : Pipeline) (schedule : Schedule) (boxes : Boxes) (func_index : ℕ) (func : Func) (plan : FuncPlan) (source_box : SourceBox)
     (accepted : IsAccepted pipeline schedule) (is : inferred pipeline schedule ≡ Ok boxes)
-    (at : IsAtRoot pipeline schedule boxes place func plan own) where
-  pub is_box : IsBox own
-  is_box = facts.is_box pipeline schedule boxes place func plan own accepted is places.Root tt at
+    (at : IsAtRoot pipeline schedule boxes func_index func plan source_box) where
+  pub is_box : IsBox source_box
+  is_box = facts.is_box pipeline schedule boxes func_index func plan source_box accepted is places.Root tt at
 
-  pub no_lasts : own.lasts ≡ no_loops
-  no_lasts = facts.lasts_are pipeline schedule boxes place func plan own accepted is places.Root tt at
+  pub no_lasts : source_box.lasts ≡ no_loops
+  no_lasts = facts.lasts_are pipeline schedule boxes func_index func plan source_box accepted is places.Root tt at
 
 -- ---- words of a range
 
@@ -66,20 +66,21 @@ from_corner_on range far fits few = subst (λ (n : ℕ). IsFrom no_loops range f
 
 -- ---- corners
 
-pub record HasRootCorner (corners : List Corner) (k : ℕ) (own : SourceBox) : Type 0 where
+pub record HasRootCorner (corners : List Corner) (k : ℕ) (source_box : SourceBox) : Type 0 where
   pub corner : Corner
   pub there : slice_get corners k ≡ Some corner
-  pub is : (values : Values) → (linear_value values corner.x ≡ word_at own.x.low) × (linear_value values corner.y ≡ word_at own.y.low)
+  pub is : (values : Values) → (linear_value values corner.x ≡ word_at source_box.x.low) × (linear_value values corner.y ≡ word_at source_box.y.low)
 
-pub root_corner_at : (schedule : Schedule) (boxes : Boxes) (corners : List Corner) (k : ℕ) (own : SourceBox) (standing : FuncPlacement)
+pub root_corner_at : (schedule : Schedule) (boxes : Boxes) (corners : List Corner) (k : ℕ) (source_box : SourceBox) (placement : FuncPlacement)
     → AreCorners schedule.funcs boxes.funcs schedule.standings corners
-    → slice_get boxes.funcs k ≡ Some (Some own) → slice_get schedule.standings k ≡ Some standing → standing.place ≡ places.Root → HasRootCorner corners k own
-root_corner_at schedule boxes corners k own standing are there stands root =
-    let c = corner_at schedule.funcs boxes.funcs schedule.standings corners k (Some own) standing are there stands in
-    let at_root : IsCornerOf schedule.funcs places.Root (Some own) c.corner = subst (λ (p : ComputeLevel). IsCornerOf schedule.funcs p (Some own) c.corner) root c.is
+    → slice_get boxes.funcs k ≡ Some (Some source_box) → slice_get schedule.standings k ≡ Some placement → placement.place ≡ places.Root → HasRootCorner corners k source_box
+root_corner_at schedule boxes corners k source_box placement are there stands root =
+    let c = corner_at schedule.funcs boxes.funcs schedule.standings corners k (Some source_box) placement are there
+    stands in
+    let at_root : IsCornerOf schedule.funcs places.Root (Some source_box) c.corner = subst (λ (p : ComputeLevel). IsCornerOf schedule.funcs p (Some source_box) c.corner) root c.is
     in
     record {
       corner = c.corner;
       there = c.there;
-      is = λ values. ((at_root values).0 ∙ first_none own.x, (at_root values).1 ∙ first_none own.y);
+      is = λ values. ((at_root values).0 ∙ first_none source_box.x, (at_root values).1 ∙ first_none source_box.y);
     }

@@ -14,7 +14,7 @@ use Rattle.schedule_lines.specs.declared.stages.LoopId.{LoopId}
 use Rattle.schedule_lines.specs.declared.stages.Stage.{Stage}
 use Rattle.schedule.specs.declared.plans.FuncPlan.{FuncPlan}
 use Rattle.schedule.specs.declared.schedules.Schedule.{Schedule}
-use Rattle.schedule.specs.declared.placements.LoopPlace.{LoopPlace}
+use Rattle.schedule.specs.declared.placements.LoopPosition.{LoopPosition}
 use Rattle.schedule.specs.Accepted.{IsAccepted}
 use Rattle.schedule_loops.specs.declared.extents.Extents.{Extents}
 use Rattle.schedule_loops.specs.Visits as loops
@@ -67,7 +67,7 @@ every_passes zero test each = refl
 every_passes (suc n) test each = and_from (every n test) (test n) (every_passes n test (λ iteration below. each iteration (omega (arith, below)))) (each n (omega arith))
 
 -- loops that are in their iterations pass the test on them
-iterations_pass : (counts : loops.Values) (own : List Loop) (in_task : loops.Values) → AreIterations counts own in_task → are_iterations counts own in_task ≡ true
+iterations_pass : (counts : loops.Values) (stage_loops : List Loop) (in_task : loops.Values) → AreIterations counts stage_loops in_task → are_iterations counts stage_loops in_task ≡ true
 iterations_pass counts [] in_task are = refl
 iterations_pass counts (first ∷ others) in_task are =
     and_from (nat_lt (in_task first.id) (counts first.id)) (are_iterations counts others in_task) (lt-ltb (in_task first.id) (counts first.id) are.0)
@@ -88,14 +88,14 @@ every_misses (suc n) most few test hit lists each =
 module _ (pipeline : Pipeline) (schedule : Schedule) (boxes : Boxes) (accepted : IsAccepted pipeline schedule) (reads : Reads) (consumer x y : ℕ) where
   -- ---- nests of others
 
-  module _ (expected : Values → Bool) (at : LoopPlace) (same : at.func ≡ consumer) (values : Values) where
-    nest_avoids : (place : ℕ) (found : Option Stmt) → IsNestAt pipeline schedule boxes at place found → in_runs_first reads consumer x y expected found values
+  module _ (expected : Values → Bool) (at : LoopPosition) (same : at.func ≡ consumer) (values : Values) where
+    nest_avoids : (func_index : ℕ) (found : Option Stmt) → IsNestAt pipeline schedule boxes at func_index found → in_runs_first reads consumer x y expected found values
         ≡ true
-    nest_avoids place None none = refl
-    nest_avoids place (Some first) nest_of =
-        let earlier : place < at.func = produced_before pipeline schedule accepted place nest_of.parts.standing nest_of.parts.there at nest_of.parts.placed_is
+    nest_avoids func_index None none = refl
+    nest_avoids func_index (Some first) nest_of =
+        let earlier : func_index < at.func = produced_before pipeline schedule accepted func_index nest_of.parts.standing nest_of.parts.there at nest_of.parts.placed_is
         in
-        others_store_in_no_run reads consumer x y expected place first values (λ e. omega (arith, e, earlier, same)) nest_of.about
+        others_store_in_no_run reads consumer x y expected func_index first values (λ e. omega (arith, e, earlier, same)) nest_of.about
 
     pub nests_run : (from : ℕ) (inner body : Stmt) → HasNests pipeline schedule boxes at from inner body
         → stores_in_runs reads consumer x y expected inner values ≡ true → stores_in_runs reads consumer x y expected body values ≡ true
@@ -127,7 +127,7 @@ module _ (pipeline : Pipeline) (schedule : Schedule) (boxes : Boxes) (accepted :
     expected = is_in_run extents plan.pure consumer x y
 
     abbrev Runs : Stmt → loops.Values → Type 0
-    Runs made in_task = stores_in_runs reads consumer x y expected made (consuming consumer in_task) ≡ true
+    Runs statement in_task = stores_in_runs reads consumer x y expected statement (consuming consumer in_task) ≡ true
 
     store_misses : (in_task inner : loops.Values) → AreWords inner → missed store (put_loops consumer inner (consuming consumer in_task)) ≡ not (is_at x y inner)
     store_misses in_task inner small =
@@ -156,67 +156,68 @@ module _ (pipeline : Pipeline) (schedule : Schedule) (boxes : Boxes) (accepted :
         (loops_consuming consumer in_task)
         ∙ all_miss in_task (listed [] in_task) words
 
-    in_iterations : (own : Loop) (outside : List Loop) → stage.loops ≡ own ∷ outside → (in_task : loops.Values) → AreIterations counts outside in_task
+    in_iterations : (stage_loop : Loop) (outside : List Loop) → stage.loops ≡ stage_loop ∷ outside → (in_task : loops.Values) → AreIterations counts outside in_task
         → are_iterations counts (outside_innermost stage.loops) (loops_of consumer (consuming consumer in_task)) ≡ true
-    in_iterations own outside loops_are in_task are =
+    in_iterations stage_loop outside loops_are in_task are =
         ap (λ (t : loops.Values). are_iterations counts (outside_innermost stage.loops) t) (loops_consuming consumer in_task)
         ∙ ap (λ (ls : List Loop). are_iterations counts (outside_innermost ls) in_task) loops_are
         ∙ iterations_pass counts outside in_task are
 
     -- what is expected of a run is what the innermost loop lists, where no other loop has begun
-    expected_is : (own : Loop) (outside : List Loop) → stage.loops ≡ own ∷ outside → (in_task : loops.Values) → AreIterations counts outside in_task
+    expected_is : (stage_loop : Loop) (outside : List Loop) → stage.loops ≡ stage_loop ∷ outside → (in_task : loops.Values) → AreIterations counts outside in_task
         → in_task ≡ iterations_of outside in_task
-        → expected (consuming consumer in_task) ≡ list_any (is_at x y) (listed (own ∷ []) in_task)
-    expected_is own outside loops_are in_task are alone =
+        → expected (consuming consumer in_task) ≡ list_any (is_at x y) (listed (stage_loop ∷ []) in_task)
+    expected_is stage_loop outside loops_are in_task are alone =
         ap (λ (b : Bool). b && list_any (is_slice x y) (run_of extents plan.pure (loops_of consumer (consuming consumer in_task))))
-        (in_iterations own outside loops_are in_task are)
+        (in_iterations stage_loop outside loops_are in_task are)
         ∙ ap (λ (t : loops.Values). list_any (is_slice x y) (run_of extents plan.pure t)) (loops_consuming consumer in_task)
         ∙ ap (λ (ls : List Loop). list_any (is_slice x y) (nest counts (innermost ls) (over_loops extents plan.pure.splits (λ whole. visit_of extents whole
         ∷ [])) (iterations_of (outside_innermost ls) in_task))) loops_are
-        ∙ ap (λ (t : loops.Values). list_any (is_slice x y) (nest counts (own ∷ []) (over_loops extents plan.pure.splits (λ whole. visit_of extents whole ∷ []))
+        ∙ ap (λ (t : loops.Values). list_any (is_slice x y) (nest counts (stage_loop ∷ []) (over_loops extents plan.pure.splits (λ whole. visit_of extents whole ∷ []))
         t)) (sym alone)
-        ∙ ap (list_any (is_slice x y)) (visits_of_wholes extents plan.pure.splits (own ∷ []) in_task)
-        ∙ any_map (is_slice x y) (visit_of extents) (listed (own ∷ []) in_task)
+        ∙ ap (list_any (is_slice x y)) (visits_of_wholes extents plan.pure.splits (stage_loop ∷ []) in_task)
+        ∙ any_map (is_slice x y) (visit_of extents) (listed (stage_loop ∷ []) in_task)
 
     -- the vectorized loop
-    module _ (own : Loop) (outside : List Loop) (loops_are : stage.loops ≡ own ∷ outside) (in_task : loops.Values) (small : AreSmall in_task)
+    module _ (stage_loop : Loop) (outside : List Loop) (loops_are : stage.loops ≡ stage_loop ∷ outside) (in_task : loops.Values) (small : AreSmall in_task)
         (are : AreIterations counts outside in_task) (alone : in_task ≡ iterations_of outside in_task)
-        (words : AllByRecursion AreWords (listed (own ∷ []) in_task)) where
+        (words : AllByRecursion AreWords (listed (stage_loop ∷ []) in_task)) where
       abbrev lists : ℕ → List loops.Values
-      lists iteration = listed [] (loops.with own.id iteration in_task)
+      lists iteration = listed [] (loops.with stage_loop.id iteration in_task)
 
-      lane_misses : (lane : ℕ) → lane < counts own.id → missed leaf (with (record { func = consumer; id = own.id }) lane (consuming consumer in_task))
+      lane_misses : (lane : ℕ) → lane < counts stage_loop.id → missed leaf (with (record { func = consumer; id = stage_loop.id }) lane (consuming consumer in_task))
           ≡ not (list_any (is_at x y) (lists lane))
       lane_misses lane below =
-          ap (missed leaf) (consuming_with consumer own.id lane in_task)
-          ∙ leaf_misses (loops.with own.id lane in_task) (small_with own.id lane in_task (omega (arith, below, few own.id)) small) (all_upto AreWords lists
-          (counts own.id) words lane below)
+          ap (missed leaf) (consuming_with consumer stage_loop.id lane in_task)
+          ∙ leaf_misses (loops.with stage_loop.id lane in_task) (small_with stage_loop.id lane in_task (omega (arith, below, few stage_loop.id)) small) (all_upto AreWords lists
+          (counts stage_loop.id) words lane below)
 
-      pub vector_runs : are_same (every (counts own.id) (λ lane. missed leaf (with (record { func = consumer; id = own.id }) lane
+      pub vector_runs : are_same (every (counts stage_loop.id) (λ lane. missed leaf (with (record { func = consumer; id = stage_loop.id }) lane
           (consuming consumer in_task)))) (not (expected (consuming consumer in_task))) ≡ true
       vector_runs =
-          ap (λ (b : Bool). are_same b (not (expected (consuming consumer in_task)))) (every_misses (counts own.id) (counts own.id) (omega arith)
-          (λ lane. missed leaf (with (record { func = consumer; id = own.id }) lane (consuming consumer in_task))) (is_at x y) lists lane_misses)
-          ∙ ap (λ (b : Bool). are_same (not (list_any (is_at x y) (listed (own ∷ []) in_task))) (not b)) (expected_is own outside loops_are in_task are alone)
-          ∙ same_as_itself (not (list_any (is_at x y) (listed (own ∷ []) in_task)))
+          ap (λ (b : Bool). are_same b (not (expected (consuming consumer in_task)))) (every_misses (counts stage_loop.id) (counts stage_loop.id) (omega arith)
+          (λ lane. missed leaf (with (record { func = consumer; id = stage_loop.id }) lane (consuming consumer in_task))) (is_at x y) lists lane_misses)
+          ∙ ap (λ (b : Bool). are_same (not (list_any (is_at x y) (listed (stage_loop ∷ []) in_task))) (not b)) (expected_is stage_loop outside loops_are in_task are alone)
+          ∙ same_as_itself (not (list_any (is_at x y) (listed (stage_loop ∷ []) in_task)))
 
-    behind : (ls : List Loop) (own : Loop) (outside : List Loop) → (ls ++ own ∷ []) ++ outside ≡ ls ++ own ∷ outside
-    behind [] own outside = refl
-    behind (one ∷ ls) own outside = ap (λ (l : List Loop). one ∷ l) (behind ls own outside)
+    behind : (ls : List Loop) (stage_loop : Loop) (outside : List Loop)
+        → (ls ++ stage_loop ∷ []) ++ outside ≡ ls ++ stage_loop ∷ outside
+    behind [] stage_loop outside = refl
+    behind (one ∷ ls) stage_loop outside = ap (λ (l : List Loop). one ∷ l) (behind ls stage_loop outside)
 
-    plain_by : (own : Loop) → (is_vectorized_loop own ≡ true → ⊥) → is_vectorized_loop own ≡ false
-    plain_by own never = by_test (is_vectorized_loop own) refl
+    plain_by : (stage_loop : Loop) → (is_vectorized_loop stage_loop ≡ true → ⊥) → is_vectorized_loop stage_loop ≡ false
+    plain_by stage_loop never = by_test (is_vectorized_loop stage_loop) refl
       where
-        by_test : (b : Bool) → is_vectorized_loop own ≡ b → b ≡ false
+        by_test : (b : Bool) → is_vectorized_loop stage_loop ≡ b → b ≡ false
         by_test true e = absurd (never e)
         by_test false e = refl
 
-    pub loops_run : (inside : List Loop) (made : Stmt) → HasLoops pipeline schedule boxes consumer counts leaf inside made → (outside : List Loop)
+    pub loops_run : (inside : List Loop) (statement : Stmt) → HasLoops pipeline schedule boxes consumer counts leaf inside statement → (outside : List Loop)
         → stage.loops ≡ inside ++ outside → is_vectorized_first inside ≡ true
         → (in_task : loops.Values) → AreSmall in_task → AreIterations counts outside in_task → in_task ≡ iterations_of outside in_task
-        → AllByRecursion AreWords (listed inside in_task) → Runs made in_task
+        → AllByRecursion AreWords (listed inside in_task) → Runs statement in_task
     loops_run _ _ No_loops outside loops_are first in_task small are resting words = absurd (true≢false (sym first))
-    loops_run _ made (One_outside inside mid inner body _ within nested does around run_around) outside loops_are first in_task small are resting words =
+    loops_run _ statement (One_outside inside mid inner body _ within nested does around run_around) outside loops_are first in_task small are resting words =
         by_inside inside within refl
         (λ first_in iteration below words_in.
         loops_run inside inner within (mid ∷ outside) here first_in (loops.with mid.id iteration in_task) (small_with mid.id iteration in_task
@@ -229,7 +230,7 @@ module _ (pipeline : Pipeline) (schedule : Schedule) (boxes : Boxes) (accepted :
         by_inside : (ls : List Loop) → HasLoops pipeline schedule boxes consumer counts leaf ls inner → inside ≡ ls
             → (is_vectorized_first inside ≡ true → (iteration : ℕ) → iteration < counts mid.id → AllByRecursion AreWords (listed inside (loops.with mid.id iteration in_task))
             → Runs inner (loops.with mid.id iteration in_task))
-            → Runs made in_task
+            → Runs statement in_task
         by_inside [] alone e told =
             let v : is_vectorized_loop mid ≡ true = subst (λ (ls : List Loop). is_vectorized_first (ls ++ mid ∷ []) ≡ true) e first in
             let now : stage.loops ≡ mid ∷ outside = subst (λ (ls : List Loop). stage.loops ≡ ls ++ mid ∷ outside) e here in
@@ -263,5 +264,5 @@ module _ (pipeline : Pipeline) (schedule : Schedule) (boxes : Boxes) (accepted :
     pub begun_runs : (found : Option Loop) (inner body : Stmt) → HasOutermost pipeline schedule boxes consumer found inner body → (in_task : loops.Values)
         → Runs inner in_task → Runs body in_task
     begun_runs None inner body same in_task told = ap (λ (b : Stmt). stores_in_runs reads consumer x y expected b (consuming consumer in_task)) same ∙ told
-    begun_runs (Some own) inner body nests in_task told = nests_run expected (record { func = consumer; inside = own.id }) refl (consuming consumer in_task) 0
+    begun_runs (Some stage_loop) inner body nests in_task told = nests_run expected (record { func = consumer; inside = stage_loop.id }) refl (consuming consumer in_task) 0
         inner body nests told

@@ -19,34 +19,34 @@ use Rattle.lowering.proofs.LoopIterations.{contains_upto}
 -- ---- iterations of some loops alone
 
 -- one more of them is in an iteration
-pub one_more : (own : Loop) (outside : List Loop) (iteration : ℕ) (iterations : loops.Values) → loops.with own.id iteration (iterations_of outside iterations)
-    ≡ iterations_of (own ∷ outside) (loops.with own.id iteration iterations)
-one_more own outside iteration iterations = fun_ext (λ id. by_test id (same_id id own.id))
+pub one_more : (stage_loop : Loop) (outside : List Loop) (iteration : ℕ) (iterations : loops.Values) → loops.with stage_loop.id iteration (iterations_of outside iterations)
+    ≡ iterations_of (stage_loop ∷ outside) (loops.with stage_loop.id iteration iterations)
+one_more stage_loop outside iteration iterations = fun_ext (λ id. by_test id (same_id id stage_loop.id))
   where
     by_test : (id : LoopId) (b : Bool) → cond b iteration (cond (is_among outside id) (iterations id) 0) ≡ cond (b || is_among outside id) (cond b iteration (iterations id)) 0
     by_test id true = refl
     by_test id false = refl
 
 -- where it is in its iteration already
-own_iteration : (own : Loop) (outside : List Loop) (iterations : loops.Values) → loops.with own.id (iterations own.id) (iterations_of outside iterations)
-    ≡ iterations_of (own ∷ outside) iterations
-own_iteration own outside iterations = fun_ext (λ id. elim (cases_id id own.id) [
-  | inl e ↦ by_same id e (same_id id own.id)
-  | inr d ↦ by_other id (same_id id own.id) d
+own_iteration : (stage_loop : Loop) (outside : List Loop) (iterations : loops.Values) → loops.with stage_loop.id (iterations stage_loop.id) (iterations_of outside iterations)
+    ≡ iterations_of (stage_loop ∷ outside) iterations
+own_iteration stage_loop outside iterations = fun_ext (λ id. elim (cases_id id stage_loop.id) [
+  | inl e ↦ by_same id e (same_id id stage_loop.id)
+  | inr d ↦ by_other id (same_id id stage_loop.id) d
 ])
   where
-    by_same : (id : LoopId) → id ≡ own.id → (b : Bool) → cond b (iterations own.id) (cond (is_among outside id) (iterations id) 0) ≡ cond (b || is_among outside id)
+    by_same : (id : LoopId) → id ≡ stage_loop.id → (b : Bool) → cond b (iterations stage_loop.id) (cond (is_among outside id) (iterations id) 0) ≡ cond (b || is_among outside id)
         (iterations id) 0
     by_same id e true = ap iterations (sym e)
     by_same id e false = refl
 
-    by_other : (id : LoopId) (b : Bool) → b ≡ false → cond b (iterations own.id) (cond (is_among outside id) (iterations id) 0) ≡ cond (b || is_among outside id)
+    by_other : (id : LoopId) (b : Bool) → b ≡ false → cond b (iterations stage_loop.id) (cond (is_among outside id) (iterations id) 0) ≡ cond (b || is_among outside id)
         (iterations id) 0
     by_other id true f = absurd cc
     by_other id false f = refl
 
-pub twice : (own : List Loop) (iterations : loops.Values) → iterations_of own (iterations_of own iterations) ≡ iterations_of own iterations
-twice own iterations = fun_ext (λ id. by_test id (is_among own id))
+pub twice : (stage_loops : List Loop) (iterations : loops.Values) → iterations_of stage_loops (iterations_of stage_loops iterations) ≡ iterations_of stage_loops iterations
+twice stage_loops iterations = fun_ext (λ id. by_test id (is_among stage_loops id))
   where
     by_test : (id : LoopId) (b : Bool) → cond b (cond b (iterations id) 0) 0 ≡ cond b (iterations id) 0
     by_test id true = refl
@@ -71,16 +71,20 @@ listed_upto x (suc n) f there = elim (Contains-append_cases (upto n f) (f n) x t
   | inr here ↦ record { iteration = n; below = omega arith; there = here }
 ]
 
-iterations_hold : (counts : loops.Values) (own : List Loop) (iterations : loops.Values) → are_iterations counts own iterations ≡ true → AreIterations counts own iterations
+iterations_hold : (counts : loops.Values) (stage_loops : List Loop) (iterations : loops.Values) → are_iterations counts stage_loops iterations ≡ true → AreIterations counts stage_loops iterations
 iterations_hold counts [] iterations e = tt
-iterations_hold counts (own ∷ others) iterations e =
-    let both = and_parts (nat_lt (iterations own.id) (counts own.id)) (are_iterations counts others iterations) e in
-    (ltb-true (iterations own.id) (counts own.id) both.0, iterations_hold counts others iterations both.1)
+iterations_hold counts (stage_loops ∷ others) iterations e =
+    let both = and_parts (nat_lt (iterations stage_loops.id) (counts stage_loops.id))
+    (are_iterations counts others iterations) e in (
+      ltb-true (iterations stage_loops.id) (counts stage_loops.id) both.0,
+      iterations_hold counts others iterations
+          both.1,
+    )
 
 -- ---- from no loop begun, through all iterations of loops
 
-given : {A : Type 0} (x : A) (counts : loops.Values) (own : List Loop) (body : loops.Values → List A) (iterations : loops.Values) → AreIterations counts own iterations
-    → Contains (body (iterations_of own iterations)) x → Contains (nest counts own body zeros) x
+given : {A : Type 0} (x : A) (counts : loops.Values) (stage_loops : List Loop) (body : loops.Values → List A) (iterations : loops.Values) → AreIterations counts stage_loops iterations
+    → Contains (body (iterations_of stage_loops iterations)) x → Contains (nest counts stage_loops body zeros) x
 given x counts [] body iterations are there = subst (λ (t : loops.Values). Contains (body t) x) (sym (none_begun iterations)) there
 given {A} x counts (first ∷ outside) body iterations are there =
     let list : loops.Values → List A = λ outer. upto (counts first.id) (λ iteration. body (loops.with first.id iteration outer)) in
@@ -89,25 +93,26 @@ given {A} x counts (first ∷ outside) body iterations are there =
     (subst (λ (t : loops.Values). Contains (body t) x) (sym (own_iteration first outside iterations)) there))
 
 -- and back
-record Taken {A : Type 0} (x : A) (counts : loops.Values) (own : List Loop) (body : loops.Values → List A) : Type 0 where
+record Taken {A : Type 0} (x : A) (counts : loops.Values) (stage_loops : List Loop) (body : loops.Values → List A) : Type 0 where
   iterations : loops.Values
-  are : AreIterations counts own iterations
-  there : Contains (body (iterations_of own iterations)) x
+  are : AreIterations counts stage_loops iterations
+  there : Contains (body (iterations_of stage_loops iterations)) x
 
-iterations_with : (counts : loops.Values) (first : Loop) (iteration : ℕ) → iteration < counts first.id → (own : List Loop) (iterations : loops.Values) → AreIterations counts own iterations
-    → AreIterations counts own (loops.with first.id iteration iterations)
+iterations_with : (counts : loops.Values) (first : Loop) (iteration : ℕ) → iteration < counts first.id → (stage_loops : List Loop) (iterations : loops.Values) → AreIterations counts stage_loops iterations
+    → AreIterations counts stage_loops (loops.with first.id iteration iterations)
 iterations_with counts first iteration below [] iterations are = tt
-iterations_with counts first iteration below (own ∷ others) iterations are = (by_id, iterations_with counts first iteration below others iterations are.1)
+iterations_with counts first iteration below (stage_loops ∷ others) iterations are = (by_id, iterations_with counts first iteration below others iterations are.1)
   where
-    by_id : loops.with first.id iteration iterations own.id < counts own.id
-    by_id = elim (cases_id own.id first.id) [
+    by_id : loops.with first.id iteration iterations stage_loops.id < counts stage_loops.id
+    by_id = elim (cases_id stage_loops.id first.id) [
       | inl e ↦ subst (λ (id : LoopId). loops.with first.id iteration iterations id < counts id) (sym e) (subst (λ (n : ℕ). n < counts first.id)
           (sym (with_same first.id iteration iterations)) below)
-      | inr d ↦ subst (λ (n : ℕ). n < counts own.id) (sym (with_other first.id iteration iterations own.id d)) are.0
+      | inr d ↦ subst (λ (n : ℕ). n < counts stage_loops.id) (sym
+          (with_other first.id iteration iterations stage_loops.id d)) are.0
     ]
 
-taken : {A : Type 0} (x : A) (counts : loops.Values) (own : List Loop) (body : loops.Values → List A) → Contains (nest counts own body zeros) x
-    → Taken x counts own body
+taken : {A : Type 0} (x : A) (counts : loops.Values) (stage_loops : List Loop) (body : loops.Values → List A) → Contains (nest counts stage_loops body zeros) x
+    → Taken x counts stage_loops body
 taken x counts [] body there = record { iterations = zeros; are = tt; there = subst (λ (t : loops.Values). Contains (body t) x) (none_begun zeros) there }
 taken {A} x counts (first ∷ outside) body there =
     let list : loops.Values → List A = λ outer. upto (counts first.id) (λ iteration. body (loops.with first.id iteration outer)) in

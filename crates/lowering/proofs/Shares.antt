@@ -1,4 +1,4 @@
--- What a consumer's loops ask for with the nests at them, and what all phases do: each Func at a loop stands at one loop of one consumer.
+-- What a consumer's loops ask for with the nests at them, and what all phases do: each Func at a loop is at one loop of one consumer.
 use Rattle.std.proofs.Common.{◌≡◌, ℕ, zero, suc, ◌+◌, ◌*◌, ◌-◌, ◌<◌, ◌≤◌, Bool, true, false, List, [], ◌∷◌, ◌++◌, length, Option, Some, None, refl, sym, ap}
 use Rattle.std.proofs.Common.{subst, ◌∙◌, arith, inl, inr, length-append, append_assoc, append-nil}
 use Rattle.std.specs.Prelude.{◌==◌, ◌&&◌, if◌then◌else◌, slice_get, not}
@@ -16,7 +16,7 @@ use Rattle.schedule_lines.specs.Directives.{is_marked, same_id}
 use Rattle.schedule_lines.specs.Making.{total}
 use Rattle.schedule.specs.declared.plans.FuncPlan.{FuncPlan}
 use Rattle.schedule.specs.declared.schedules.Schedule.{Schedule}
-use Rattle.schedule.specs.declared.placements.LoopPlace.{LoopPlace}
+use Rattle.schedule.specs.declared.placements.LoopPosition.{LoopPosition}
 use Rattle.schedule.specs.declared.placements.ComputeLevel.{ComputeLevel}
 use Rattle.schedule.specs.declared.placements.ComputeLevel.TheVariants as places
 use Rattle.schedule.specs.declared.placements.FuncPlacement.{FuncPlacement}
@@ -74,13 +74,13 @@ module _ (pipeline : Pipeline) (schedule : Schedule) (boxes : Boxes) where
   abbrev flags : List Bool
   flags = flags_of schedule.standings
 
-  abbrev loop_share : LoopPlace → Option Func → Option FuncPlan → Option FuncPlacement → ℕ
+  abbrev loop_share : LoopPosition → Option Func → Option FuncPlan → Option FuncPlacement → ℕ
   loop_share at None plan own = 0
   loop_share at (Some func) None own = 0
   loop_share at (Some func) (Some plan) None = 0
   loop_share at (Some func) (Some plan) (Some own) = if is_computed_at at own then placed_share flags pipeline.funcs schedule.funcs func plan own else 0
 
-  abbrev share_at : LoopPlace → ℕ → ℕ
+  abbrev share_at : LoopPosition → ℕ → ℕ
   share_at at place = loop_share at (slice_get pipeline.funcs place) (slice_get schedule.funcs place) (slice_get schedule.standings place)
 
   abbrev produced_at : ℕ → ℕ → ℕ
@@ -90,13 +90,13 @@ module _ (pipeline : Pipeline) (schedule : Schedule) (boxes : Boxes) where
   abbrev count : ℕ
   count = length schedule.standings
 
-  computed-there : (at : LoopPlace) (own : FuncPlacement) → own.is_reached ≡ true → own.place ≡ places.At at → is_computed_at at own ≡ true
+  computed-there : (at : LoopPosition) (own : FuncPlacement) → own.is_reached ≡ true → own.place ≡ places.At at → is_computed_at at own ≡ true
   computed-there at own reached is =
       and_from own.is_reached (is_at_loop at own.place) reached (ap (is_at_loop at) is ∙ and_from (at.func == at.func) (same_id at.inside at.inside)
       (grind (arith, nat_tests)) (same_id-self at.inside))
 
   -- the nests of a Func at a loop, in each copy of the code around them
-  module _ (at : LoopPlace) (copied : ℕ) (copied_is : consumer_copies schedule.funcs (places.At at) ≡ copied) where
+  module _ (at : LoopPosition) (copied : ℕ) (copied_is : consumer_copies schedule.funcs (places.At at) ≡ copied) where
     nest-size : (place : ℕ) (made : Stmt) → IsNestOf pipeline schedule boxes at place made → whole_size made * copied ≤ 64 * share_at at place
     nest-size place made is =
         let own = is.parts.standing in
@@ -161,7 +161,7 @@ module _ (pipeline : Pipeline) (schedule : Schedule) (boxes : Boxes) where
       let m = summed-more (around consumer inside) (share_at (record { func = consumer; inside = own.id })) 0 n in
       omega (arith, l, m)
 
-  -- what stands in a loop is made in each of its copies
+  -- what is in a loop is made in each of its copies
   around-paid : (made body inner own outside all leaf loops nests before : ℕ) → made ≤ own * (body + 39)
       → body * (own * outside) ≤ inner * (own * outside) + nests → own * outside ≤ all
       → inner * (own * outside) ≤ all * (leaf + 39 * loops) + before → made * outside ≤ all * (leaf + 39 * suc loops) + (before + nests)
@@ -207,7 +207,7 @@ module _ (pipeline : Pipeline) (schedule : Schedule) (boxes : Boxes) where
         let f = ap (λ (k : ℕ). all_copies all * (whole_size leaf + 39 * k)) m in
         omega (arith, p, f, s)
 
-  -- ---- each Func at a loop of the consumer stands at one of its loops
+  -- ---- each Func at a loop of the consumer is at one of its loops
 
   module _ (consumer whole : ℕ) (reached : Bool) where
     abbrev one : ComputeLevel → Loop → ℕ
@@ -235,7 +235,7 @@ module _ (pipeline : Pipeline) (schedule : Schedule) (boxes : Boxes) where
     here-most true false same = omega arith
     here-most false here same = omega arith
 
-    module _ (at : LoopPlace) where
+    module _ (at : LoopPosition) where
       abbrev placed : ComputeLevel
       placed = places.At at
 
@@ -273,7 +273,7 @@ module _ (pipeline : Pipeline) (schedule : Schedule) (boxes : Boxes) where
     among-once places.Inlined own unique = let z = among-nowhere places.Inlined (λ loop. nowhere reached) own in omega (arith, z)
     among-once places.Nowhere own unique = let z = among-nowhere places.Nowhere (λ loop. nowhere reached) own in omega (arith, z)
 
-  sums-none : (consumer : ℕ) (func : Option Func) (plan : Option FuncPlan) (own : Option FuncPlacement) → ((at : LoopPlace) → loop_share at func plan own ≡ 0)
+  sums-none : (consumer : ℕ) (func : Option Func) (plan : Option FuncPlan) (own : Option FuncPlacement) → ((at : LoopPosition) → loop_share at func plan own ≡ 0)
       → (all : List Loop) → sums consumer func plan own all ≡ 0
   sums-none consumer func plan own none [] = refl
   sums-none consumer func plan own none (first ∷ others) = omega (

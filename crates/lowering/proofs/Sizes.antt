@@ -39,69 +39,72 @@ use Rattle.lowering.proofs.Registers.{count-same, at-most}
 -- ---- stores
 
 -- at a point of two loops
-pub pure-size : (place : ℕ) (x y : Linear) (value : loop.Expr) (nodes : ℕ) → length x.terms ≡ 1 → length y.terms ≡ 1 → IsGiven (size value) nodes
-    → whole_size (s.Store (record { func = place; x = e.Linear x; y = e.Linear y; value = value })) + 8 ≤ 64 * nodes
-pure-size place x y value nodes ex ey given =
-    let own : Store = record { func = place; x = e.Linear x; y = e.Linear y; value = value } in
+pub pure-size : (func_index : ℕ) (x y : Linear) (value : loop.Expr) (nodes : ℕ) → length x.terms ≡ 1 → length y.terms ≡ 1 → IsGiven (size value) nodes
+    → whole_size (s.Store (record { func = func_index; x = e.Linear x; y = e.Linear y; value = value })) + 8 ≤ 64 *
+    nodes
+pure-size func_index x y value nodes ex ey given =
+    let own : Store = record { func = func_index; x = e.Linear x; y = e.Linear y; value = value } in
     let w = whole_store own in
     let i = linear_size (e.Linear x) x refl in
     let j = linear_size (e.Linear y) y refl in
     omega (arith, w, i, j, ex, ey, given)
 
-index-size : (flags : List Bool) (funcs : List Func) (place : ℕ) (index : Option Expr) (row y : loop.Expr) → IsGivenIndex flags funcs place index row
+index-size : (flags : List Bool) (funcs : List Func) (func_index : ℕ) (index : Option Expr) (row y : loop.Expr) → IsGivenIndex flags funcs func_index index row
     → size y ≤ size row + 26
-    → ((n : ℕ) → row ≡ e.Number n → (kept (size_of y) ≡ 0) × (size y ≤ 22)) → size y ≤ 64 * second_counted flags funcs place index + 22
-index-size flags funcs place None row y is more alone = let l = (alone 0 is).1 in omega (arith, l)
-index-size flags funcs place (Some own) row y is more alone = omega (arith, is, more)
+    → ((n : ℕ) → row ≡ e.Number n → (kept (size_of y) ≡ 0) × (size y ≤ 22)) → size y ≤ 64 * second_counted flags funcs func_index index + 22
+index-size flags funcs func_index None row y is more alone = let l = (alone 0 is).1 in omega (arith, l)
+index-size flags funcs func_index (Some own) row y is more alone = omega (arith, is, more)
 
 -- at the point that a left side names
-pub update-size : (flags : List Bool) (funcs : List Func) (place : ℕ) (update : Update) (store : Store) (column row : loop.Expr)
-    → IsGiven (size column) (counted flags funcs place update.left_x)
-    → size store.x ≤ size column + 26 → IsGivenIndex flags funcs place update.left_y row → size store.y ≤ size row + 26 → ((n : ℕ) → row ≡ e.Number n
+pub update-size : (flags : List Bool) (funcs : List Func) (func_index : ℕ) (update : Update) (store : Store) (column row : loop.Expr)
+    → IsGiven (size column) (counted flags funcs func_index update.left_x)
+    → size store.x ≤ size column + 26 → IsGivenIndex flags funcs func_index update.left_y row → size store.y ≤ size row + 26 → ((n : ℕ) → row ≡ e.Number n
     → (kept (size_of store.y) ≡ 0) × (size store.y ≤ 22))
-    → IsGiven (size store.value) (counted flags funcs (place + 1) update.right) → whole_size (s.Store store) + 8 ≤ 64 * update_counted flags funcs place update
-update-size flags funcs place update store column row fx ex fy ey alone fv =
+    → IsGiven (size store.value) (counted flags funcs (func_index + 1) update.right) → whole_size (s.Store store) + 8 ≤ 64 * update_counted flags funcs func_index update
+update-size flags funcs func_index update store column row fx ex fy ey alone fv =
     let w = whole_store store in
-    let y = index-size flags funcs place update.left_y row store.y fy ey alone in
+    let y = index-size flags funcs func_index update.left_y row store.y fy ey alone in
     omega (arith, w, fx, ex, y, fv)
 
 -- ---- nodes that are counted are those that weigh
 
 module _ (pipeline : Pipeline) (rules : IsWellFormed pipeline) (flags : List Bool) where
-  same : (count : ℕ) (has : Variable → Bool) (own : Expr) → count ≤ length pipeline.funcs → keeps (is_read pipeline.inputs pipeline.funcs count) has own ≡ true
-      → counted flags pipeline.funcs count own ≡ nodes_in flags pipeline.funcs own
-  same count has own within kept-so = count-same counting (flagged flags) pipeline.inputs pipeline.funcs count (length pipeline.funcs) within has (λ v. 1) own
+  same : (count : ℕ) (has : Variable → Bool) (expression : Expr) → count ≤ length pipeline.funcs → keeps (is_read pipeline.inputs pipeline.funcs count) has expression ≡ true
+      → counted flags pipeline.funcs count expression ≡ nodes_in flags pipeline.funcs expression
+  same count has expression within kept-so = count-same counting (flagged flags) pipeline.inputs pipeline.funcs count (length pipeline.funcs) within has (λ v. 1) expression
       kept-so
 
-  pub pure-counted : (place : ℕ) (func : Func) → slice_get pipeline.funcs place ≡ Some func → counted flags pipeline.funcs place func.pure
+  pub pure-counted : (func_index : ℕ) (func : Func) → slice_get pipeline.funcs func_index ≡ Some func → counted flags pipeline.funcs func_index func.pure
       ≡ nodes_in flags pipeline.funcs func.pure
-  pure-counted place func is = let l = at-most pipeline.funcs place func is in same place (is_argument (dimensions func)) func.pure (omega (arith, l))
-      (rules.funcs place func is).pure
+  pure-counted func_index func is = let l = at-most pipeline.funcs func_index func is in same func_index (is_argument (dimensions func)) func.pure (omega (arith, l))
+      (rules.funcs func_index func is).pure
 
-  second-same : (place : ℕ) (has : Variable → Bool) (count : ℕ) (index : Option Expr) → place ≤ length pipeline.funcs
-      → keeps_index (is_read pipeline.inputs pipeline.funcs place) has count index ≡ true
-      → second_counted flags pipeline.funcs place index ≡ second_nodes flags pipeline.funcs index
-  second-same place has count None within kept-so = refl
-  second-same place has count (Some own) within kept-so = same place has own within (and_parts _ _ kept-so).1
+  second-same : (func_index : ℕ) (has : Variable → Bool) (count : ℕ) (index : Option Expr)
+      → func_index ≤ length pipeline.funcs
+      → keeps_index (is_read pipeline.inputs pipeline.funcs func_index) has count index ≡ true
+      → second_counted flags pipeline.funcs func_index index ≡ second_nodes flags pipeline.funcs index
+  second-same func_index has count None within kept-so = refl
+  second-same func_index has count (Some expression) within kept-so = same func_index has expression within
+      (and_parts _ _ kept-so).1
 
-  pub update-counted : (place at : ℕ) (func : Func) (update : Update) → slice_get pipeline.funcs place ≡ Some func → slice_get func.updates at ≡ Some update
-      → update_counted flags pipeline.funcs place update ≡ update_nodes flags pipeline.funcs update
-  update-counted place at func update is at-is =
-      let own = (rules.funcs place func is).updates at update at-is in
+  pub update-counted : (func_index at : ℕ) (func : Func) (update : Update) → slice_get pipeline.funcs func_index ≡ Some func → slice_get func.updates at ≡ Some update
+      → update_counted flags pipeline.funcs func_index update ≡ update_nodes flags pipeline.funcs update
+  update-counted func_index at func update is at-is =
+      let expression = (rules.funcs func_index func is).updates at update at-is in
       let has = is_update_variable (dimensions func) update.second in
-      let l = at-most pipeline.funcs place func is in
-      let x = same place has update.left_x (omega (arith, l)) own.left_x in
-      let y = second-same place has (dimensions func) update.left_y (omega (arith, l)) own.left_y in
-      let right : counted flags pipeline.funcs (suc place) update.right ≡ nodes_in flags pipeline.funcs update.right = same (suc place) has update.right
-      (omega (arith, l)) own.right in
-      let more : place + 1 ≡ suc place = omega arith in
+      let l = at-most pipeline.funcs func_index func is in
+      let x = same func_index has update.left_x (omega (arith, l)) expression.left_x in
+      let y = second-same func_index has (dimensions func) update.left_y (omega (arith, l)) expression.left_y in
+      let right : counted flags pipeline.funcs (suc func_index) update.right ≡ nodes_in flags pipeline.funcs update.right = same (suc func_index) has update.right
+      (omega (arith, l)) expression.right in
+      let more : func_index + 1 ≡ suc func_index = omega arith in
       let r = subst (λ (n : ℕ). counted flags pipeline.funcs n update.right ≡ nodes_in flags pipeline.funcs update.right) (sym more) right in
       omega (arith, x, y, r)
 
 -- ---- a stage has more loops than splits
 
 abbrev one : Loop → ℕ
-one own = 1
+one stage_loop = 1
 
 length-total : (loops : List Loop) → length loops ≡ total one loops
 length-total [] = refl

@@ -1,4 +1,4 @@
--- Steps that each take a slice one further: what stands after all of them.
+-- Steps that each take a slice one further: what is after all of them.
 use Rattle.std.proofs.Common.{◌≡◌, ℕ, zero, suc, ◌+◌, ◌-◌, Bool, true, false, cond, List, [], ◌∷◌, map, refl, sym, ap, subst, ◌∙◌, arith}
 use Rattle.std.specs.Prelude.{◌&&◌, ◌||◌}
 use Rattle.std.specs.List.{AllByRecursion, list_any}
@@ -46,31 +46,31 @@ next_by true visit rest x y at (suc left) e =
 
 -- ---- slices of a plane
 
-module _ (own : ℕ) (begin : Planes) (inside : ℕ → ℕ → Bool) (column row : ℕ → ℕ) (stands : ℕ → ℕ → ℕ → ℕ) where
+module _ (func_index : ℕ) (begin : Planes) (inside : ℕ → ℕ → Bool) (column row : ℕ → ℕ) (stands : ℕ → ℕ → ℕ → ℕ) where
   -- other Funcs are as at first
   abbrev pub Others : Planes → Type 0
-  Others funcs = (place x y : ℕ) → (place ≡ own → ⊥) → funcs place x y ≡ begin place x y
+  Others funcs = (place x y : ℕ) → (place ≡ func_index → ⊥) → funcs place x y ≡ begin place x y
 
   abbrev pub is_on : Visit → ℕ → ℕ → Bool
   is_on visit x y = is_slice (column x) (row y) visit
 
-  -- the points of a slice that are inside hold what stands after so many visits of it
+  -- the points of a slice that are inside hold what is after this many visits of it
   abbrev pub HoldsAt : Visit → ℕ → Planes → Type 0
-  HoldsAt visit number funcs = (x y : ℕ) → inside x y ≡ true → is_on visit x y ≡ true → funcs own x y ≡ stands number x y
+  HoldsAt visit number funcs = (x y : ℕ) → inside x y ≡ true → is_on visit x y ≡ true → funcs func_index x y ≡ stands number x y
 
   -- a visit takes its slice one further, and leaves all else as it was
   pub record Goes (visit : Visit) (step : Planes → Planes) : Type 0 where
     pub does : (funcs : Planes) → Others funcs → HoldsAt visit visit.number funcs → HoldsAt visit (suc visit.number) (step funcs)
     pub keeps : (funcs : Planes) → Others funcs → HoldsAt visit visit.number funcs
-        → (place x y : ℕ) → (place ≡ own → (inside x y && is_on visit x y) ≡ false) → step funcs place x y ≡ funcs place x y
+        → (place x y : ℕ) → (place ≡ func_index → (inside x y && is_on visit x y) ≡ false) → step funcs place x y ≡ funcs place x y
 
-  -- the points inside hold what stands after so many visits of each slice
+  -- the points inside hold what is after this many visits of each slice
   abbrev Stand : (ℕ → ℕ → ℕ) → Planes → Type 0
-  Stand at funcs = (x y : ℕ) → inside x y ≡ true → funcs own x y ≡ stands (at (column x) (row y)) x y
+  Stand at funcs = (x y : ℕ) → inside x y ≡ true → funcs func_index x y ≡ stands (at (column x) (row y)) x y
 
   pub record Gone (at left : ℕ → ℕ → ℕ) (funcs after : Planes) : Type 0 where
-    pub does : (x y : ℕ) → inside x y ≡ true → after own x y ≡ stands (at (column x) (row y) + left (column x) (row y)) x y
-    pub keeps : (place x y : ℕ) → (place ≡ own → inside x y ≡ false) → after place x y ≡ funcs place x y
+    pub does : (x y : ℕ) → inside x y ≡ true → after func_index x y ≡ stands (at (column x) (row y) + left (column x) (row y)) x y
+    pub keeps : (place x y : ℕ) → (place ≡ func_index → inside x y ≡ false) → after place x y ≡ funcs place x y
 
   and_left : (a b : Bool) → a ≡ false → (a && b) ≡ false
   and_left a b e = ap (λ (t : Bool). t && b) e
@@ -115,9 +115,9 @@ module _ (own : ℕ) (begin : Planes) (inside : ℕ → ℕ → Bool) (column ro
       ready_next place x y other = goes.keeps funcs ready holds place x y (λ e. absurd (other e)) ∙ ready place x y other
 
       stand_by : (x y : ℕ) → inside x y ≡ true → (test : Bool) → is_on visit x y ≡ test
-          → step a funcs own x y ≡ stands (further test visit (at (column x) (row y))) x y
+          → step a funcs func_index x y ≡ stands (further test visit (at (column x) (row y))) x y
       stand_by x y e true on = goes.does funcs ready holds x y e on
-      stand_by x y e false off = goes.keeps funcs ready holds own x y (λ s. and_right (inside x y) (is_on visit x y) off) ∙ stand x y e
+      stand_by x y e false off = goes.keeps funcs ready holds func_index x y (λ s. and_right (inside x y) (is_on visit x y) off) ∙ stand x y e
 
       stand_next : Stand at_next (step a funcs)
       stand_next x y e = stand_by x y e (is_on visit x y) refl

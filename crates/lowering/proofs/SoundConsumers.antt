@@ -15,7 +15,7 @@ use Rattle.schedule_lines.specs.declared.stages.Loop.{Loop}
 use Rattle.schedule_lines.specs.declared.stages.LoopId.TheVariants as ids
 use Rattle.schedule.specs.declared.plans.FuncPlan.{FuncPlan}
 use Rattle.schedule.specs.declared.schedules.Schedule.{Schedule}
-use Rattle.schedule.specs.declared.placements.LoopPlace.{LoopPlace}
+use Rattle.schedule.specs.declared.placements.LoopPosition.{LoopPosition}
 use Rattle.schedule.specs.declared.placements.ComputeLevel.TheVariants as places
 use Rattle.schedule.specs.declared.placements.FuncPlacement.{FuncPlacement}
 use Rattle.schedule.specs.Accepted.{IsAccepted}
@@ -76,7 +76,7 @@ module _ (pipeline : Pipeline) where
   pub dark_words : AnswerWords pipeline.inputs (reads_of dark (pixels pipeline.funcs dark 0))
   dark_words = record { words = λ s x y lx ly. dark_word s x y; bytes = λ place input there is_bytes x y. omega arith }
 
--- each of so many iterations passes
+-- each of this many iterations passes
 every_passes : (n : ℕ) (test : ℕ → Bool) → ((k : ℕ) → k < n → test k ≡ true) → every n test ≡ true
 unfolding every
 every_passes zero test all = refl
@@ -84,20 +84,20 @@ every_passes (suc n) test all = and_from (every n test) (test n) (every_passes n
 
 module _ (pipeline : Pipeline) (schedule : Schedule) (boxes : Boxes) (rules : IsWellFormed pipeline) (accepted : IsAccepted pipeline schedule)
     (is : inferred pipeline schedule ≡ Ok boxes)
-    (consumer : ℕ) (func : Func) (plan : FuncPlan) (own : SourceBox) (at : IsAtRoot pipeline schedule boxes consumer func plan own)
-    (store : Stmt) (store_of : IsStoreOf pipeline schedule boxes places.Root consumer func own store)
+    (consumer : ℕ) (func : Func) (plan : FuncPlan) (source_box : SourceBox) (at : IsAtRoot pipeline schedule boxes consumer func plan source_box)
+    (store : Stmt) (store_of : IsStoreOf pipeline schedule boxes places.Root consumer func source_box store)
     (reads : Reads) (words : AnswerWords pipeline.inputs reads) (written : Points) (loaded : Point → Bool)
     (inputs_load : (k x y : ℕ) → is_within (slice_get pipeline.inputs k) x y ≡ true → loaded (record { source = sources.Input k; x = x; y = y }) ≡ true)
-    (roots_load : (k : ℕ) (standing : FuncPlacement) → k < consumer → IsReached schedule.standings k standing → standing.place ≡ places.Root
+    (roots_load : (k : ℕ) (placement : FuncPlacement) → k < consumer → IsReached schedule.standings k placement → placement.place ≡ places.Root
     → (x y : ℕ) → box_points boxes.funcs k x y ≡ true → loaded (record { source = sources.Func k; x = x; y = y }) ≡ true)
-    (produced_writes : (k : ℕ) (standing : FuncPlacement) (loop : LoopPlace) → IsReached schedule.standings k standing → standing.place ≡ places.At loop
+    (produced_writes : (k : ℕ) (placement : FuncPlacement) (loop : LoopPosition) → IsReached schedule.standings k placement → placement.place ≡ places.At loop
     → loop.func ≡ consumer
     → (x y : ℕ) → box_points boxes.funcs k x y ≡ true → written k x y ≡ true)
-    (produced_loads : (k : ℕ) (standing : FuncPlacement) (loop : LoopPlace) → IsReached schedule.standings k standing → standing.place ≡ places.At loop
+    (produced_loads : (k : ℕ) (placement : FuncPlacement) (loop : LoopPosition) → IsReached schedule.standings k placement → placement.place ≡ places.At loop
     → loop.func ≡ consumer
     → (x y : ℕ) → box_points boxes.funcs k x y ≡ true → loaded (record { source = sources.Func k; x = x; y = y }) ≡ true) where
   abbrev extents : Extents
-  extents = extents_of own
+  extents = extents_of source_box
 
   abbrev counts : loops.Values
   counts = loops.counts extents plan.pure.splits
@@ -109,7 +109,7 @@ module _ (pipeline : Pipeline) (schedule : Schedule) (boxes : Boxes) (rules : Is
   begun = dark_words pipeline
 
   stage_is : IsStageOf func None plan.pure
-  stage_is = (staged pipeline schedule boxes consumer func plan own accepted is places.Root tt at).0
+  stage_is = (staged pipeline schedule boxes consumer func plan source_box accepted is places.Root tt at).0
 
   unique : Unique loops_in
   unique = (sound_made (plain func None) stage_is.made).unique
@@ -123,23 +123,23 @@ module _ (pipeline : Pipeline) (schedule : Schedule) (boxes : Boxes) (rules : Is
 
   module _ (inside : List Loop) (mid : Loop) (outside : List Loop) (loops_are : loops_in ≡ inside ++ mid ∷ outside) (in_task : loops.Values)
       (are : AreIterations counts (mid ∷ outside) in_task) where
-    abbrev loop_here : LoopPlace
+    abbrev loop_here : LoopPosition
     loop_here = record { func = consumer; inside = mid.id }
 
     abbrev values : List ℕ
     values = iterations_for schedule.funcs (places.At loop_here) (consuming consumer in_task)
 
     values_are : values ≡ values_in plan mid.id in_task
-    values_are = consumers.iterations_are pipeline schedule boxes rules accepted is consumer func plan own at dark begun inside mid outside loops_are in_task are
+    values_are = consumers.iterations_are pipeline schedule boxes rules accepted is consumer func plan source_box at dark begun inside mid outside loops_are in_task are
 
     module _ (g : ℕ) (nested : Func) (nested_plan : FuncPlan) (box : SourceBox) (parts : IsComputedAt pipeline schedule boxes (places.At loop_here) g nested
         nested_plan box) where
       below : Below (values_in plan mid.id in_task) box.lasts
-      below = consumers.below pipeline schedule boxes rules accepted is consumer func plan own at dark begun inside mid outside loops_are in_task are g nested
+      below = consumers.below pipeline schedule boxes rules accepted is consumer func plan source_box at dark begun inside mid outside loops_are in_task are g nested
           nested_plan box parts
 
       before : g < consumer
-      before = consumers.g_before pipeline schedule boxes rules accepted is consumer func plan own at dark begun inside mid outside loops_are in_task are g
+      before = consumers.g_before pipeline schedule boxes rules accepted is consumer func plan source_box at dark begun inside mid outside loops_are in_task are g
           nested nested_plan box parts
 
       points_are : (x y : ℕ) → box_points boxes.funcs g x y ≡ has_point (Some box) x y
@@ -151,42 +151,42 @@ module _ (pipeline : Pipeline) (schedule : Schedule) (boxes : Boxes) (rules : Is
         loads = λ x y e. produced_loads g parts.standing loop_here parts.there parts.placed_is refl x y (points_are x y ∙ e);
         pure = λ corners are_corners counters counters_are x y lies.
             let lies_here : LiesIn (values_in plan mid.id in_task) box x y = subst (λ (l : List ℕ). LiesIn l box x y) values_are lies in
-            pure_loads pipeline schedule boxes rules accepted is (places.At loop_here) g nested nested_plan box before parts consumer func plan own at in_task
-            (consumers.of_consumer pipeline schedule boxes rules accepted is consumer func plan own at dark begun inside mid outside loops_are in_task are g
+            pure_loads pipeline schedule boxes rules accepted is (places.At loop_here) g nested nested_plan box before parts consumer func plan source_box at in_task
+            (consumers.of_consumer pipeline schedule boxes rules accepted is consumer func plan source_box at dark begun inside mid outside loops_are in_task are g
             nested nested_plan box parts)
             counters (λ id. ap (values_in plan id) counters_are) corners are_corners reads words loaded inputs_load
-            (λ k standing earlier there root. roots_load k standing (omega (arith, earlier, before)) there root)
+            (λ k placement earlier there root. roots_load k placement (omega (arith, earlier, before)) there root)
             (λ k w loop placed. produced_loads k w.own loop w.there placed
-            (consumers.of_consumer pipeline schedule boxes rules accepted is consumer func plan own at dark begun inside mid outside loops_are in_task are g
+            (consumers.of_consumer pipeline schedule boxes rules accepted is consumer func plan source_box at dark begun inside mid outside loops_are in_task are g
             nested nested_plan box parts k w loop placed))
             (values_in plan mid.id in_task) below x y lies_here
             (λ k w loop placed. (
-              consumers.iterations_here pipeline schedule boxes rules accepted is consumer func plan own at dark begun inside mid outside
+              consumers.iterations_here pipeline schedule boxes rules accepted is consumer func plan source_box at dark begun inside mid outside
                   loops_are in_task are,
               lies_here,
             ));
         updates = λ corners are_corners counters counters_are number_at update update_is number x y few_points lies.
             let lies_here : LiesIn (values_in plan mid.id in_task) box x y = subst (λ (l : List ℕ). LiesIn l box x y) values_are lies in
-            update_loads pipeline schedule boxes rules accepted is (places.At loop_here) g nested nested_plan box before parts consumer func plan own at in_task
-            (consumers.of_consumer pipeline schedule boxes rules accepted is consumer func plan own at dark begun inside mid outside loops_are in_task are g
+            update_loads pipeline schedule boxes rules accepted is (places.At loop_here) g nested nested_plan box before parts consumer func plan source_box at in_task
+            (consumers.of_consumer pipeline schedule boxes rules accepted is consumer func plan source_box at dark begun inside mid outside loops_are in_task are g
             nested nested_plan box parts)
             counters (λ id. ap (values_in plan id) counters_are) corners are_corners reads words loaded inputs_load
-            (λ k standing earlier there root. roots_load k standing (omega (arith, earlier, before)) there root)
+            (λ k placement earlier there root. roots_load k placement (omega (arith, earlier, before)) there root)
             (λ k w loop placed. produced_loads k w.own loop w.there placed
-            (consumers.of_consumer pipeline schedule boxes rules accepted is consumer func plan own at dark begun inside mid outside loops_are in_task are g
+            (consumers.of_consumer pipeline schedule boxes rules accepted is consumer func plan source_box at dark begun inside mid outside loops_are in_task are g
             nested nested_plan box parts k w loop placed))
             (values_in plan mid.id in_task) below x y lies_here
             (λ k w loop placed. (
-              consumers.iterations_here pipeline schedule boxes rules accepted is consumer func plan own at dark begun inside mid outside
+              consumers.iterations_here pipeline schedule boxes rules accepted is consumer func plan source_box at dark begun inside mid outside
                   loops_are in_task are,
               lies_here,
             ))
             number_at update update_is number few_points;
       }
 
-      sound_one : (made : Stmt) → IsSoundNest pipeline schedule boxes loop_here g nested box made
-          → is_sound reads written loaded made (consuming consumer in_task) ≡ true
-      sound_one made sound = sound reads words written loaded in_task (subst (λ (l : List ℕ). Below l box.lasts) (sym values_are) below) may
+      sound_one : (statement : Stmt) → IsSoundNest pipeline schedule boxes loop_here g nested box statement
+          → is_sound reads written loaded statement (consuming consumer in_task) ≡ true
+      sound_one statement sound = sound reads words written loaded in_task (subst (λ (l : List ℕ). Below l box.lasts) (sym values_are) below) may
 
     pub sound_nests : (from : ℕ) (inner body : Stmt) → HasNests pipeline schedule boxes loop_here from inner body
         → is_sound reads written loaded inner (consuming consumer in_task) ≡ true
@@ -201,8 +201,8 @@ module _ (pipeline : Pipeline) (schedule : Schedule) (boxes : Boxes) (rules : Is
 
   -- ---- the store of the consumer
 
-  no_iterations_below : Below no_loops own.lasts
-  no_iterations_below = consumers.no_iterations_below pipeline schedule boxes rules accepted is consumer func plan own at dark begun store store_of
+  no_iterations_below : Below no_loops source_box.lasts
+  no_iterations_below = consumers.no_iterations_below pipeline schedule boxes rules accepted is consumer func plan source_box at dark begun store store_of
 
   module _ (in_task : loops.Values) (are : AreIterations counts loops_in in_task) (good : AllByRecursion Good (wholes extents plan.pure.splits [] in_task)) where
     abbrev IsSoundAt : loops.Values → Type 0
@@ -214,23 +214,23 @@ module _ (pipeline : Pipeline) (schedule : Schedule) (boxes : Boxes) (rules : Is
     one_sound : (inner : loops.Values) → Contains (wholes extents plan.pure.splits [] in_task) inner → IsSoundAt inner
     one_sound inner listed =
         let g = of_all Good (wholes extents plan.pure.splits [] in_task) good inner listed in
-        writing.sound pipeline schedule boxes rules accepted is places.Root consumer func plan own tt at store store_of dark no_loops no_iterations_below
+        writing.sound pipeline schedule boxes rules accepted is places.Root consumer func plan source_box tt at store store_of dark no_loops no_iterations_below
         (consuming consumer in_task) (λ i. refl) inner g.0 reads written loaded g.1
-        (pure_loads pipeline schedule boxes rules accepted is places.Root consumer func plan own tt at consumer func plan own at in_task
-        (consumers.of_root pipeline schedule boxes rules accepted is consumer func plan own at dark begun store store_of in_task are visited)
+        (pure_loads pipeline schedule boxes rules accepted is places.Root consumer func plan source_box tt at consumer func plan source_box at in_task
+        (consumers.of_root pipeline schedule boxes rules accepted is consumer func plan source_box at dark begun store store_of in_task are visited)
         (put_loops consumer inner (consuming consumer in_task)) (λ id. ap (values_in plan id) (loops_put consumer inner (consuming consumer in_task))
         ∙ iterations_kept func plan.pure stage_is extents in_task inner listed (inner_count id loops_in))
         store_of.corners store_of.are_corners reads words loaded inputs_load roots_load
-        (λ k w loop placed. produced_loads k w.own loop w.there placed (consumers.of_root pipeline schedule boxes rules accepted is consumer func plan own at
+        (λ k w loop placed. produced_loads k w.own loop w.there placed (consumers.of_root pipeline schedule boxes rules accepted is consumer func plan source_box at
         dark begun store store_of in_task are visited k w loop placed))
         no_loops no_iterations_below
-        (writing.across pipeline schedule boxes rules accepted is places.Root consumer func plan own tt at store store_of dark no_loops no_iterations_below
+        (writing.across pipeline schedule boxes rules accepted is places.Root consumer func plan source_box tt at store store_of dark no_loops no_iterations_below
         (consuming consumer in_task) (λ i. refl) inner)
-        (writing.down pipeline schedule boxes rules accepted is places.Root consumer func plan own tt at store store_of dark no_loops no_iterations_below
+        (writing.down pipeline schedule boxes rules accepted is places.Root consumer func plan source_box tt at store store_of dark no_loops no_iterations_below
         (consuming consumer in_task) (λ i. refl) inner)
-        (writing.lies pipeline schedule boxes rules accepted is places.Root consumer func plan own tt at store store_of dark no_loops no_iterations_below
+        (writing.lies pipeline schedule boxes rules accepted is places.Root consumer func plan source_box tt at store store_of dark no_loops no_iterations_below
         (consuming consumer in_task) (λ i. refl) inner g.0)
-        (λ k w loop placed. consumers.reached pipeline schedule boxes rules accepted is consumer func plan own at dark begun store store_of in_task are visited
+        (λ k w loop placed. consumers.reached pipeline schedule boxes rules accepted is consumer func plan source_box at dark begun store store_of in_task are visited
         inner listed loop.inside))
 
     sound_leaf : (leaf : Stmt) → Repeats consumer leaf store (wholes extents plan.pure.splits []) → AreSmall in_task
@@ -246,8 +246,8 @@ module _ (pipeline : Pipeline) (schedule : Schedule) (boxes : Boxes) (rules : Is
   -- ---- loops
 
   abbrev pub AreSound : List Loop → Stmt → Type 0
-  AreSound inside made = (outside : List Loop) → loops_in ≡ inside ++ outside → (in_task : loops.Values) → AreSmall in_task → AreIterations counts outside in_task
-      → AllByRecursion Good (wholes extents plan.pure.splits inside in_task) → is_sound reads written loaded made (consuming consumer in_task) ≡ true
+  AreSound inside statement = (outside : List Loop) → loops_in ≡ inside ++ outside → (in_task : loops.Values) → AreSmall in_task → AreIterations counts outside in_task
+      → AllByRecursion Good (wholes extents plan.pure.splits inside in_task) → is_sound reads written loaded statement (consuming consumer in_task) ≡ true
 
   module _ (inside : List Loop) (mid : Loop) (outside : List Loop) (loops_are : loops_in ≡ inside ++ mid ∷ outside) (in_task : loops.Values)
       (small : AreSmall in_task) (are : AreIterations counts outside in_task) (n : ℕ) (few_so : n < counts mid.id) where
@@ -261,15 +261,15 @@ module _ (pipeline : Pipeline) (schedule : Schedule) (boxes : Boxes) (rules : Is
     small_at = small_with mid.id n in_task (omega (
       arith,
       few_so,
-      iterations_few extents plan.pure.splits (few pipeline schedule boxes consumer func plan own accepted
-          is places.Root tt at) (splits pipeline schedule boxes consumer func plan own accepted is places.Root tt at) mid.id,
+      iterations_few extents plan.pure.splits (few pipeline schedule boxes consumer func plan source_box accepted
+          is places.Root tt at) (splits pipeline schedule boxes consumer func plan source_box accepted is places.Root tt at) mid.id,
     )) small
 
-  pub sound_loops : (leaf : Stmt) (bound : Repeats consumer leaf store (wholes extents plan.pure.splits [])) (inside : List Loop) (made : Stmt)
-      → HasLoops pipeline schedule boxes consumer counts leaf inside made → AreSound inside made
+  pub sound_loops : (leaf : Stmt) (bound : Repeats consumer leaf store (wholes extents plan.pure.splits [])) (inside : List Loop) (statement : Stmt)
+      → HasLoops pipeline schedule boxes consumer counts leaf inside statement → AreSound inside statement
   sound_loops leaf bound _ _ No_loops outside loops_are in_task small are good =
       sound_leaf in_task (subst (λ (l : List Loop). AreIterations counts l in_task) (sym loops_are) are) good leaf bound small
-  sound_loops leaf bound _ made (One_outside inside mid inner body _ within nested does around run_around) outside loops_are in_task small are good =
+  sound_loops leaf bound _ statement (One_outside inside mid inner body _ within nested does around run_around) outside loops_are in_task small are good =
       let further : loops_in ≡ inside ++ mid ∷ outside = loops_are ∙ append_assoc inside (mid ∷ []) outside in
       let list_is = nest-append counts inside (mid ∷ []) (over_loops extents plan.pure.splits (λ (whole : loops.Values). whole ∷ [])) in_task in
       let seen : AllByRecursion Good (upto (counts mid.id) (λ iteration. wholes extents plan.pure.splits inside (loops.with mid.id iteration in_task))) =

@@ -16,7 +16,7 @@ use Rattle.schedule_lines.specs.declared.stages.LoopId.TheVariants as ids
 use Rattle.schedule_lines.specs.declared.stages.Stage.{Stage}
 use Rattle.schedule.specs.declared.plans.FuncPlan.{FuncPlan}
 use Rattle.schedule.specs.declared.schedules.Schedule.{Schedule}
-use Rattle.schedule.specs.declared.placements.LoopPlace.{LoopPlace}
+use Rattle.schedule.specs.declared.placements.LoopPosition.{LoopPosition}
 use Rattle.schedule.specs.declared.placements.ComputeLevel.TheVariants as places
 use Rattle.schedule.specs.declared.placements.FuncPlacement.{FuncPlacement}
 use Rattle.schedule.specs.Accepted.{IsAccepted}
@@ -58,67 +58,68 @@ use Rattle.lowering.proofs.UpdateRuns.{members, all_and, all_so}
 -- ---- which Funcs may be touched
 
 -- a Func at a loop of the consumer is among its private ones
-pub listed_from : (consumer at : ℕ) (standings : List FuncPlacement) (k : ℕ) (own : FuncPlacement) → slice_get standings k ≡ Some own → is_produced consumer own ≡ true
+pub listed_from : (consumer at : ℕ) (standings : List FuncPlacement) (k : ℕ) (placement : FuncPlacement) → slice_get standings k ≡ Some placement → is_produced consumer placement ≡ true
     → is_listed (produced_from consumer at standings) (at + k) ≡ true
-listed_from consumer at [] k own there produced = absurd cc
-listed_from consumer at (first ∷ others) zero own there produced =
-    let same : first ≡ own = cc in
+listed_from consumer at [] k placement there produced = absurd cc
+listed_from consumer at (first ∷ others) zero placement there produced =
+    let same : first ≡ placement = cc in
     ap (λ (b : Bool). is_listed (cond b (at ∷ produced_from consumer (suc at) others) (produced_from consumer (suc at) others)) (at + 0))
     (ap (is_produced consumer) same ∙ produced)
     ∙ or_left (at == at + 0) (is_listed (produced_from consumer (suc at) others) (at + 0)) (eq-eqb at (at + 0) (omega arith))
-listed_from consumer at (first ∷ others) (suc k) own there produced =
+listed_from consumer at (first ∷ others) (suc k) placement there produced =
     let next : suc at + k ≡ at + suc k = omega arith in
     by_test (is_produced consumer first) (subst (λ (n : ℕ). is_listed (produced_from consumer (suc at) others) n ≡ true) next (listed_from consumer (suc at)
-    others k own there produced))
+    others k placement there produced))
   where
     by_test : (b : Bool) → is_listed (produced_from consumer (suc at) others) (at + suc k) ≡ true
         → is_listed (cond b (at ∷ produced_from consumer (suc at) others) (produced_from consumer (suc at) others)) (at + suc k) ≡ true
     by_test true e = or_right (at == at + suc k) (is_listed (produced_from consumer (suc at) others) (at + suc k)) e
     by_test false e = e
 
-module _ (pipeline : Pipeline) (schedule : Schedule) (boxes : Boxes) (place : ℕ) (owned : ℕ → ℕ → Bool) (private : List ℕ) where
-  pub own_writes : (x y : ℕ) → owned x y ≡ true → may_write boxes.funcs place owned private place x y ≡ true
-  own_writes x y e = ap (λ (b : Bool). cond b (owned x y) (is_listed private place && box_points boxes.funcs place x y)) (eq-eqb place place refl) ∙ e
+module _ (pipeline : Pipeline) (schedule : Schedule) (boxes : Boxes) (func_index : ℕ) (owned : ℕ → ℕ → Bool) (private : List ℕ) where
+  pub own_writes : (x y : ℕ) → owned x y ≡ true → may_write boxes.funcs func_index owned private func_index x y ≡ true
+  own_writes x y e = ap (λ (b : Bool). cond b (owned x y) (is_listed private func_index && box_points boxes.funcs func_index x y)) (eq-eqb func_index func_index refl) ∙ e
 
-  pub own_loads : (x y : ℕ) → owned x y ≡ true → may_load pipeline schedule boxes place owned private (record { source = sources.Func place; x = x; y = y })
+  pub own_loads : (x y : ℕ) → owned x y ≡ true → may_load pipeline schedule boxes func_index owned private (record { source = sources.Func func_index; x = x; y = y })
       ≡ true
-  own_loads x y e = ap (λ (b : Bool). cond b (owned x y) ((is_root_at schedule.standings place || is_listed private place) && box_points boxes.funcs place x y))
-      (eq-eqb place place refl) ∙ e
+  own_loads x y e = ap (λ (b : Bool). cond b (owned x y) ((is_root_at schedule.standings func_index || is_listed private func_index) && box_points boxes.funcs func_index x y))
+      (eq-eqb func_index func_index refl) ∙ e
 
-  pub roots_load : (k : ℕ) (standing : FuncPlacement) → k < place → IsReached schedule.standings k standing → standing.place ≡ places.Root
-      → (x y : ℕ) → box_points boxes.funcs k x y ≡ true → may_load pipeline schedule boxes place owned private (record {
+  pub roots_load : (k : ℕ) (placement : FuncPlacement) → k < func_index → IsReached schedule.standings k placement → placement.place ≡ places.Root
+      → (x y : ℕ) → box_points boxes.funcs k x y ≡ true → may_load pipeline schedule boxes func_index owned private
+      (record {
         source = sources.Func k;
         x = x;
         y =
             y;
       }) ≡ true
-  roots_load k standing before there root x y e =
+  roots_load k placement before there root x y e =
       ap (λ (b : Bool). cond b (owned x y) ((is_root_at schedule.standings k || is_listed private k) && box_points boxes.funcs k x y))
-      (ne_eqb k place (λ (same : k ≡ place). omega (arith, before, same)))
+      (ne_eqb k func_index (λ (same : k ≡ func_index). omega (arith, before, same)))
       ∙ and_from (is_root_at schedule.standings k || is_listed private k) (box_points boxes.funcs k x y)
       (or_left (is_root_at schedule.standings k) (is_listed private k) (ap is_root_in there.standing
-      ∙ and_from standing.is_reached (is_root standing.place) there.reached (ap is_root root))) e
+      ∙ and_from placement.is_reached (is_root placement.place) there.reached (ap is_root root))) e
 
-  module _ (private_is : private ≡ produced_from place 0 schedule.standings) (accepted : IsAccepted pipeline schedule) (k : ℕ) (standing : FuncPlacement)
-      (loop : LoopPlace)
-      (there : IsReached schedule.standings k standing) (placed : standing.place ≡ places.At loop) (same : loop.func ≡ place) (x y : ℕ)
+  module _ (private_is : private ≡ produced_from func_index 0 schedule.standings) (accepted : IsAccepted pipeline schedule) (k : ℕ) (placement : FuncPlacement)
+      (loop : LoopPosition)
+      (there : IsReached schedule.standings k placement) (placed : placement.place ≡ places.At loop) (same : loop.func ≡ func_index) (x y : ℕ)
       (inside : box_points boxes.funcs k x y ≡ true) where
     is_private : is_listed private k ≡ true
     is_private =
         let here : 0 + k ≡ k = omega arith in
         ap (λ (l : List ℕ). is_listed l k) private_is
-        ∙ subst (λ (n : ℕ). is_listed (produced_from place 0 schedule.standings) n ≡ true) here
-        (listed_from place 0 schedule.standings k standing there.standing
-        (and_from standing.is_reached (is_at_loop_of place standing.place) there.reached (ap (is_at_loop_of place) placed ∙ eq-eqb loop.func place same)))
+        ∙ subst (λ (n : ℕ). is_listed (produced_from func_index 0 schedule.standings) n ≡ true) here
+        (listed_from func_index 0 schedule.standings k placement there.standing
+        (and_from placement.is_reached (is_at_loop_of func_index placement.place) there.reached (ap (is_at_loop_of func_index) placed ∙ eq-eqb loop.func func_index same)))
 
-    other : (k == place) ≡ false
-    other = ne_eqb k place (λ (e : k ≡ place). omega (arith, e, same, produced_before pipeline schedule accepted k standing there loop placed))
+    other : (k == func_index) ≡ false
+    other = ne_eqb k func_index (λ (e : k ≡ func_index). omega (arith, e, same, produced_before pipeline schedule accepted k placement there loop placed))
 
-    pub produced_writes : may_write boxes.funcs place owned private k x y ≡ true
+    pub produced_writes : may_write boxes.funcs func_index owned private k x y ≡ true
     produced_writes = ap (λ (b : Bool). cond b (owned x y) (is_listed private k && box_points boxes.funcs k x y)) other
         ∙ and_from (is_listed private k) (box_points boxes.funcs k x y) is_private inside
 
-    pub produced_loads : may_load pipeline schedule boxes place owned private (record { source = sources.Func k; x = x; y = y }) ≡ true
+    pub produced_loads : may_load pipeline schedule boxes func_index owned private (record { source = sources.Func k; x = x; y = y }) ≡ true
     produced_loads =
         ap (λ (b : Bool). cond b (owned x y) ((is_root_at schedule.standings k || is_listed private k) && box_points boxes.funcs k x y)) other
         ∙ and_from (is_root_at schedule.standings k || is_listed private k) (box_points boxes.funcs k x y) (or_right (is_root_at schedule.standings k)
@@ -128,32 +129,32 @@ module _ (pipeline : Pipeline) (schedule : Schedule) (boxes : Boxes) (place : �
 
 module _ (pipeline : Pipeline) (schedule : Schedule) (boxes : Boxes) (rules : IsWellFormed pipeline) (accepted : IsAccepted pipeline schedule)
     (is : inferred pipeline schedule ≡ Ok boxes)
-    (place : ℕ) (func : Func) (plan : FuncPlan) (own : SourceBox) (at : IsAtRoot pipeline schedule boxes place func plan own)
-    (store : Stmt) (store_of : IsStoreOf pipeline schedule boxes places.Root place func own store)
-    (phase : Phase) (tasks_are : phase.tasks ≡ iteration_count (extents_of own) plan.pure) (counter_is : phase.counter ≡ counter_of place (parallel plan.pure))
-    (private_is : phase.private ≡ produced_from place 0 schedule.standings)
-    (body : IsBody pipeline schedule boxes place plan.pure (extents_of own) store phase.body) where
+    (func_index : ℕ) (func : Func) (plan : FuncPlan) (source_box : SourceBox) (at : IsAtRoot pipeline schedule boxes func_index func plan source_box)
+    (store : Stmt) (store_of : IsStoreOf pipeline schedule boxes places.Root func_index func source_box store)
+    (phase : Phase) (tasks_are : phase.tasks ≡ iteration_count (extents_of source_box) plan.pure) (counter_is : phase.counter ≡ counter_of func_index (parallel plan.pure))
+    (private_is : phase.private ≡ produced_from func_index 0 schedule.standings)
+    (body : IsBody pipeline schedule boxes func_index plan.pure (extents_of source_box) store phase.body) where
   abbrev extents : Extents
-  extents = extents_of own
+  extents = extents_of source_box
 
   abbrev stage : Stage
   stage = plan.pure
 
   facts : IsStageOf func None stage × KeepsRules stage
-  facts = staged pipeline schedule boxes place func plan own accepted is places.Root tt at
+  facts = staged pipeline schedule boxes func_index func plan source_box accepted is places.Root tt at
 
   module _ (number : ℕ) (below : number < phase.tasks) (reads : Reads) (words : AnswerWords pipeline.inputs reads) where
     abbrev owned : ℕ → ℕ → Bool
     owned = owns extents stage number
 
     abbrev written : Points
-    written = may_write boxes.funcs place owned phase.private
+    written = may_write boxes.funcs func_index owned phase.private
 
     abbrev loaded : Point → Bool
-    loaded = may_load pipeline schedule boxes place owned phase.private
+    loaded = may_load pipeline schedule boxes func_index owned phase.private
 
     abbrev in_task : Option Loop → loops.Values
-    in_task found = in_task_of func extents stage facts.0 facts.1 place found number
+    in_task stage_loop = in_task_of func extents stage facts.0 facts.1 func_index stage_loop number
 
     abbrev list : List loops.Values
     list = wholes extents stage.splits (inside_of (parallel stage) stage.loops) (in_task (parallel stage))
@@ -162,7 +163,7 @@ module _ (pipeline : Pipeline) (schedule : Schedule) (boxes : Boxes) (rules : Is
     below_count = subst (λ (n : ℕ). number < n) tasks_are below
 
     visits_are : visits_in extents stage number ≡ map (visit_of extents) list
-    visits_are = listed func extents stage facts.0 facts.1 place (parallel stage) refl number below_count
+    visits_are = listed func extents stage facts.0 facts.1 func_index (parallel stage) refl number below_count
 
     abbrev IsVisited : loops.Values → Type 0
     IsVisited inner = IsVisitOf func None extents (visit_of extents inner)
@@ -170,7 +171,7 @@ module _ (pipeline : Pipeline) (schedule : Schedule) (boxes : Boxes) (rules : Is
     visited : AllByRecursion IsVisited list
     visited =
         all_map (IsVisitOf func None extents) IsVisited (visit_of extents) (λ inner v. v) list
-        (subst (λ (l : List Visit). AllByRecursion (IsVisitOf func None extents) l) visits_are (all_visits func extents stage facts.0 facts.1 place number
+        (subst (λ (l : List Visit). AllByRecursion (IsVisitOf func None extents) l) visits_are (all_visits func extents stage facts.0 facts.1 func_index number
         below_count))
 
     abbrev x_of : loops.Values → ℕ
@@ -180,13 +181,13 @@ module _ (pipeline : Pipeline) (schedule : Schedule) (boxes : Boxes) (rules : Is
     y_of inner = inner (ids.Whole variables.SecondArgument)
 
     abbrev IsWritten : loops.Values → Type 0
-    IsWritten inner = written place (x_of inner) (y_of inner) ≡ true
+    IsWritten inner = written func_index (x_of inner) (y_of inner) ≡ true
 
     all_written : AllByRecursion IsWritten list
     all_written =
         all_so (λ inner. (test : loops.Values → Bool) → test inner ≡ true → list_any test list ≡ true) IsWritten
         (λ inner member.
-        own_writes pipeline schedule boxes place owned phase.private (x_of inner) (y_of inner)
+        own_writes pipeline schedule boxes func_index owned phase.private (x_of inner) (y_of inner)
         (ap (list_any (is_slice (x_of inner) (y_of inner))) visits_are ∙ any_map (is_slice (x_of inner) (y_of inner)) (visit_of extents) list
         ∙ member (λ other. is_slice (x_of inner) (y_of inner) (visit_of extents other))
         (and_from (x_of inner == x_of inner) (y_of inner == y_of inner) (eq-eqb (x_of inner) (x_of inner) refl) (eq-eqb (y_of inner) (y_of inner) refl))))
@@ -197,59 +198,61 @@ module _ (pipeline : Pipeline) (schedule : Schedule) (boxes : Boxes) (rules : Is
 
     abbrev AreSound : List Loop → Stmt → Type 0
     AreSound =
-        consumers.AreSound pipeline schedule boxes rules accepted is place func plan own at store store_of reads words written loaded
-        (λ k x y e. e) (roots_load pipeline schedule boxes place owned phase.private)
-        (λ k standing loop there placed same x y e. produced_writes pipeline schedule boxes place owned phase.private private_is accepted k standing loop there
+        consumers.AreSound pipeline schedule boxes rules accepted is func_index func plan source_box at store store_of reads words written loaded
+        (λ k x y e. e) (roots_load pipeline schedule boxes func_index owned phase.private)
+        (λ k standing loop there placed same x y e. produced_writes pipeline schedule boxes func_index owned phase.private private_is accepted k standing loop there
         placed same x y e)
-        (λ k standing loop there placed same x y e. produced_loads pipeline schedule boxes place owned phase.private private_is accepted k standing loop there
+        (λ k standing loop there placed same x y e. produced_loads pipeline schedule boxes func_index owned phase.private private_is accepted k standing loop there
         placed same x y e)
 
     inner_sound : AreSound (inside_of (parallel stage) stage.loops) body.inner
     inner_sound =
-        consumers.sound_loops pipeline schedule boxes rules accepted is place func plan own at store store_of reads words written loaded
-        (λ k x y e. e) (roots_load pipeline schedule boxes place owned phase.private)
-        (λ k standing loop there placed same x y e. produced_writes pipeline schedule boxes place owned phase.private private_is accepted k standing loop there
+        consumers.sound_loops pipeline schedule boxes rules accepted is func_index func plan source_box at store store_of reads words written loaded
+        (λ k x y e. e) (roots_load pipeline schedule boxes func_index owned phase.private)
+        (λ k standing loop there placed same x y e. produced_writes pipeline schedule boxes func_index owned phase.private private_is accepted k standing loop there
         placed same x y e)
-        (λ k standing loop there placed same x y e. produced_loads pipeline schedule boxes place owned phase.private private_is accepted k standing loop there
+        (λ k standing loop there placed same x y e. produced_loads pipeline schedule boxes func_index owned phase.private private_is accepted k standing loop there
         placed same x y e)
         body.leaf body.bound (inside_of (parallel stage) stage.loops) body.inner body.looped
 
-    small : (found : Option Loop) → number < count_of (counts extents stage.splits) found → AreSmall (in_task found)
-    small found l =
-        small_by func extents stage facts.0 facts.1 place (few pipeline schedule boxes place func plan own accepted is places.Root tt at)
-        (splits pipeline schedule boxes place func plan own accepted is places.Root tt at) found number l
+    small : (stage_loop : Option Loop) → number < count_of (counts extents stage.splits) stage_loop
+        → AreSmall (in_task stage_loop)
+    small stage_loop l =
+        small_by func extents stage facts.0 facts.1 func_index (few pipeline schedule boxes func_index func plan source_box accepted is places.Root tt at)
+        (splits pipeline schedule boxes func_index func plan source_box accepted is places.Root tt at) stage_loop number
+        l
 
-    sound_by : (found : Option Loop) → parallel stage ≡ found → number < count_of (counts extents stage.splits) found → (inner made : Stmt)
-        → HasOutermost pipeline schedule boxes place found inner made
-        → AreSound (inside_of found stage.loops) inner → AllByRecursion Good (wholes extents stage.splits (inside_of found stage.loops) (in_task found))
-        → is_sound reads written loaded made (consuming place (in_task found)) ≡ true
-    sound_by None e l inner made same sound good =
-        ap (λ (s : Stmt). is_sound reads written loaded s (consuming place zeros)) same ∙ sound [] (sym (append-nil stage.loops)) zeros (small None l) tt good
-    sound_by (Some loop) e l inner made nested sound good =
+    sound_by : (stage_loop : Option Loop) → parallel stage ≡ stage_loop → number < count_of (counts extents stage.splits) stage_loop → (inner statement : Stmt)
+        → HasOutermost pipeline schedule boxes func_index stage_loop inner statement
+        → AreSound (inside_of stage_loop stage.loops) inner → AllByRecursion Good (wholes extents stage.splits (inside_of stage_loop stage.loops) (in_task stage_loop))
+        → is_sound reads written loaded statement (consuming func_index (in_task stage_loop)) ≡ true
+    sound_by None e l inner statement same sound good =
+        ap (λ (s : Stmt). is_sound reads written loaded s (consuming func_index zeros)) same ∙ sound [] (sym (append-nil stage.loops)) zeros (small None l) tt good
+    sound_by (Some loop) e l inner statement nested sound good =
         let o = outermost stage loop facts.1 e in
         let inside = o.last.inside in
-        let same : inside_of (Some loop) stage.loops ≡ inside = inside_last func extents stage facts.0 facts.1 place loop inside o.last.loops_are in
+        let same : inside_of (Some loop) stage.loops ≡ inside = inside_last func extents stage facts.0 facts.1 func_index loop inside o.last.loops_are in
         let values = loops.with loop.id number zeros in
         let iterations : AreIterations (counts extents stage.splits) (loop ∷ []) values = (
           subst (λ (n : ℕ). n < counts extents stage.splits loop.id)
               (sym (with_same loop.id number zeros)) l,
           tt,
         ) in
-        consumers.sound_nests pipeline schedule boxes rules accepted is place func plan own at store store_of reads words written loaded
-        (λ k x y e. e) (roots_load pipeline schedule boxes place owned phase.private)
-        (λ k standing loop there placed same x y e. produced_writes pipeline schedule boxes place owned phase.private private_is accepted k standing loop there
+        consumers.sound_nests pipeline schedule boxes rules accepted is func_index func plan source_box at store store_of reads words written loaded
+        (λ k x y e. e) (roots_load pipeline schedule boxes func_index owned phase.private)
+        (λ k standing loop there placed same x y e. produced_writes pipeline schedule boxes func_index owned phase.private private_is accepted k standing loop there
         placed same x y e)
-        (λ k standing loop there placed same x y e. produced_loads pipeline schedule boxes place owned phase.private private_is accepted k standing loop there
+        (λ k standing loop there placed same x y e. produced_loads pipeline schedule boxes func_index owned phase.private private_is accepted k standing loop there
         placed same x y e)
-        inside loop [] o.last.loops_are values iterations 0 inner made nested
+        inside loop [] o.last.loops_are values iterations 0 inner statement nested
         (subst (λ (ls : List Loop). AreSound ls inner) same sound (loop ∷ []) o.last.loops_are values (small (Some loop) l) iterations
         (subst (λ (ls : List Loop). AllByRecursion Good (wholes extents stage.splits ls values)) same good))
 
     task_sound : is_sound reads written loaded phase.body (task_values phase.counter number) ≡ true
     task_sound =
         ap (λ (c : Option Counter). is_sound reads written loaded phase.body (task_values c number)) counter_is
-        ∙ ap (is_sound reads written loaded phase.body) (before_by func extents stage facts.0 facts.1 place (parallel stage) number)
+        ∙ ap (is_sound reads written loaded phase.body) (before_by func extents stage facts.0 facts.1 func_index (parallel stage) number)
         ∙ sound_by (parallel stage) refl below_count body.inner phase.body body.begun inner_sound (all_and IsVisited IsWritten list visited all_written)
 
-  pub touches : TouchesItsOwn pipeline schedule boxes place (owns extents stage) phase
+  pub touches : TouchesItsOwn pipeline schedule boxes func_index (owns extents stage) phase
   touches number below reads words = task_sound number below reads words

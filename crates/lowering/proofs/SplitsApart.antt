@@ -31,7 +31,7 @@ use Rattle.loop_ir.specs.Counters as counters
 -- ---- no loop that is left is one that was split
 
 abbrev AreOld : ℕ → List Split → Type 0
-AreOld place splits = AllByRecursion (λ (split : Split). is_old place split.of ≡ true) splits
+AreOld func_index splits = AllByRecursion (λ (split : Split). is_old func_index split.of ≡ true) splits
 
 pub record IsApart (loops : List Loop) (splits : List Split) : Type 0 where
   pub sound : Sound loops splits
@@ -42,44 +42,49 @@ apart_more : (id : LoopId) (splits : List Split) (split : Split) → SplitsApart
 apart_more id [] split apart d = (d, tt)
 apart_more id (first ∷ splits) split apart d = (apart.0, apart_more id splits split apart.1 d)
 
-old_more : (place : ℕ) (splits : List Split) (split : Split) → AreOld place splits → is_old place split.of ≡ true → AreOld (suc place) (splits ++ split ∷ [])
-old_more place [] split are own = (older place split.of own, tt)
-old_more place (first ∷ splits) split are own = (older place first.of are.0, old_more place splits split are.1 own)
+old_more : (func_index : ℕ) (splits : List Split) (split : Split) → AreOld func_index splits → is_old func_index split.of ≡ true → AreOld (suc func_index) (splits ++ split ∷ [])
+old_more func_index [] split are own = (older func_index split.of own, tt)
+old_more func_index (first ∷ splits) split are own = (
+  older func_index first.of are.0,
+  old_more func_index splits split
+      are.1 own,
+)
 
 -- a loop of the latest split is none that was split before
-new_apart : (place : ℕ) (id : LoopId) → is_old place id ≡ false → (splits : List Split) → AreOld place splits → SplitsApart id splits
-new_apart place id new [] are = tt
-new_apart place id new (first ∷ splits) are = (swapped_id first.of id (old_apart place first.of id are.0 new), new_apart place id new splits are.1)
+new_apart : (func_index : ℕ) (id : LoopId) → is_old func_index id ≡ false → (splits : List Split) → AreOld func_index splits → SplitsApart id splits
+new_apart func_index id new [] are = tt
+new_apart func_index id new (first ∷ splits) are = (swapped_id first.of id (old_apart func_index first.of id are.0 new), new_apart func_index id new splits are.1)
 
-apart_parted : (before : List Loop) (own : Loop) (after : List Loop) (splits : List Split) (line : SplitLine)
-    → Sound (before ++ (parts own (length splits) line ++ after)) (splits ++ split_by own line ∷ [])
-    → IsApart (before ++ own ∷ after) splits → IsApart (before ++ (parts own (length splits) line ++ after)) (splits ++ split_by own line ∷ [])
-apart_parted before own after splits line now is =
-    let own_old : is_old (length splits) own.id ≡ true = is.sound.old own.id (omega (arith, total-append (has_id own.id) before (own ∷ after), has_same own)) in
-    let more : length (splits ++ split_by own line ∷ []) ≡ suc (length splits) = omega (arith, length-append splits (split_by own line ∷ [])) in
+apart_parted : (before : List Loop) (stage_loop : Loop) (after : List Loop) (splits : List Split) (line : SplitLine)
+    → Sound (before ++ (parts stage_loop (length splits) line ++ after)) (splits ++ split_by stage_loop line ∷ [])
+    → IsApart (before ++ stage_loop ∷ after) splits → IsApart (before ++ (parts stage_loop (length splits) line ++ after)) (splits ++ split_by stage_loop line ∷ [])
+apart_parted before stage_loop after splits line now is =
+    let own_old : is_old (length splits) stage_loop.id ≡ true = is.sound.old stage_loop.id (omega (arith, total-append (has_id stage_loop.id) before (stage_loop ∷ after), has_same stage_loop)) in
+    let more : length (splits ++ split_by stage_loop line ∷ []) ≡ suc (length splits) = omega (arith, length-append splits (split_by stage_loop line ∷ [])) in
     record {
       sound = now;
       apart = λ id there. elim (part_of (length splits) id) [
-        | IsInner e ↦ subst (λ (i : LoopId). SplitsApart i (splits ++ split_by own line ∷ [])) (sym e)
-            (apart_more (ids.Inner (length splits)) splits (split_by own line) (new_apart (length splits) (ids.Inner (length splits))
+        | IsInner e ↦ subst (λ (i : LoopId). SplitsApart i (splits ++ split_by stage_loop line ∷ [])) (sym e)
+            (apart_more (ids.Inner (length splits)) splits (split_by stage_loop line) (new_apart (length splits) (ids.Inner (length splits))
             (inner_new (length splits)) splits is.olds)
-            (swapped_id own.id (ids.Inner (length splits)) (old_apart (length splits) own.id (ids.Inner (length splits)) own_old (inner_new (length splits)))))
-        | IsOuter e ↦ subst (λ (i : LoopId). SplitsApart i (splits ++ split_by own line ∷ [])) (sym e)
-            (apart_more (ids.Outer (length splits)) splits (split_by own line) (new_apart (length splits) (ids.Outer (length splits))
+            (swapped_id stage_loop.id (ids.Inner (length splits)) (old_apart (length splits) stage_loop.id (ids.Inner (length splits)) own_old (inner_new (length splits)))))
+        | IsOuter e ↦ subst (λ (i : LoopId). SplitsApart i (splits ++ split_by stage_loop line ∷ [])) (sym e)
+            (apart_more (ids.Outer (length splits)) splits (split_by stage_loop line) (new_apart (length splits) (ids.Outer (length splits))
             (outer_new (length splits)) splits is.olds)
-            (swapped_id own.id (ids.Outer (length splits)) (old_apart (length splits) own.id (ids.Outer (length splits)) own_old (outer_new (length splits)))))
+            (swapped_id stage_loop.id (ids.Outer (length splits)) (old_apart (length splits) stage_loop.id (ids.Outer (length splits)) own_old (outer_new (length splits)))))
         | IsNeither d f ↦
-            let sum = total_parts (has_id id) before own after (length splits) line in
-            let none = parts_neither own (length splits) line id d f in
-            apart_more id splits (split_by own line) (is.apart id (omega (arith, sum, none, there)))
-            (elim (cases_id id own.id) [
+            let sum = total_parts (has_id id) before stage_loop after (length splits) line in
+            let none = parts_neither stage_loop (length splits) line id d f in
+            apart_more id splits (split_by stage_loop line) (is.apart id (omega (arith, sum, none, there)))
+            (elim (cases_id id stage_loop.id) [
               | inl s ↦
-                  let one : has_id id own ≡ 1 = ap (λ (i : LoopId). has_id i own) s ∙ has_same own in
+                  let one : has_id id stage_loop ≡ 1 = ap (λ (i : LoopId). has_id i stage_loop) s ∙ has_same stage_loop
+                  in
                   absurd (omega (arith, sum, none, there, one, is.sound.unique id))
               | inr o ↦ o
             ])
       ];
-      olds = subst (λ (n : ℕ). AreOld n (splits ++ split_by own line ∷ [])) (sym more) (old_more (length splits) splits (split_by own line) is.olds own_old);
+      olds = subst (λ (n : ℕ). AreOld n (splits ++ split_by stage_loop line ∷ [])) (sym more) (old_more (length splits) splits (split_by stage_loop line) is.olds own_old);
     }
 
 apart_stays : (is_update : Bool) (start : List Loop) → Sound start [] → Stays is_update start IsApart
@@ -112,13 +117,14 @@ kept_by : (id : LoopId) (split : Split) (n : ℕ) (body : Values → List Values
 kept_by id split n body kept d values inner true there = kept (with split.of n values) inner there ∙ with_other split.of n values id d
 kept_by id split n body kept d values inner false there = absurd (omega (arith, there.1))
 
-kept_behind : (id : LoopId) (splits : List Split) (counts : Values) (place : ℕ) (body : Values → List Values) → ((values inner : Values)
+kept_behind : (id : LoopId) (splits : List Split) (counts : Values) (func_index : ℕ) (body : Values → List Values) → ((values inner : Values)
     → Contains (body values) inner → inner id ≡ values id)
-    → SplitsApart id splits → (values inner : Values) → Contains (split_bodies counts place splits body values) inner → inner id ≡ values id
-kept_behind id [] counts place body kept apart values inner there = kept values inner there
-kept_behind id (split ∷ others) counts place body kept apart values inner there =
-    kept_behind id others (more_counts counts place split) (suc place) (split_body counts place split body)
-    (λ v i c. kept_by id split (whole_of counts place split v) body kept apart.0 v i (nat_lt (whole_of counts place split v) (counts split.of)) c) apart.1
+    → SplitsApart id splits → (values inner : Values) → Contains (split_bodies counts func_index splits body values) inner → inner id ≡ values id
+kept_behind id [] counts func_index body kept apart values inner there = kept values inner there
+kept_behind id (split ∷ others) counts func_index body kept apart values inner there =
+    kept_behind id others (more_counts counts func_index split) (suc func_index)
+    (split_body counts func_index split body)
+    (λ v i c. kept_by id split (whole_of counts func_index split v) body kept apart.0 v i (nat_lt (whole_of counts func_index split v) (counts split.of)) c) apart.1
     values inner there
 
 one_listed : (values inner : Values) → Contains (values ∷ []) inner → values ≡ inner
@@ -141,9 +147,9 @@ module _ (func : Func) (stage : Stage) (is : IsStageOf func None stage) (extents
       (sym (one_listed values other there)))
       ((stage_apart func stage is).apart l.id (among_at stage.loops at l e)) iterations inner listed
 
-  iteration_by : (at : ℕ) (test : Bool) (found : Option Loop) → slice_get stage.loops at ≡ found
-      → cond test 0 (iteration_of inner found) ≡ cond test 0 (iteration_of iterations found)
-  iteration_by at true found e = refl
+  iteration_by : (at : ℕ) (test : Bool) (stage_loop : Option Loop) → slice_get stage.loops at ≡ stage_loop
+      → cond test 0 (iteration_of inner stage_loop) ≡ cond test 0 (iteration_of iterations stage_loop)
+  iteration_by at true stage_loop e = refl
   iteration_by at false None e = refl
   iteration_by at false (Some l) e = same_loop at l e
 
@@ -152,5 +158,5 @@ module _ (func : Func) (stage : Stage) (is : IsStageOf func None stage) (extents
       let one : (at : ℕ) → iteration_at n inner stage.loops at ≡ iteration_at n iterations stage.loops at = λ at. iteration_by at (nat_lt at n) (slice_get stage.loops at) refl in
       rw (one 0, one 1, one 2, one 3, one 4) refl
 
-pub loops_put : (own : ℕ) (inner : Values) (values : counters.Values) → loops_of own (put_loops own inner values) ≡ inner
-loops_put own inner values = fun_ext (λ id. ap (λ (b : Bool). cond b (inner id) (values (record { func = own; id = id }))) (eq-eqb own own refl))
+pub loops_put : (func_index : ℕ) (inner : Values) (values : counters.Values) → loops_of func_index (put_loops func_index inner values) ≡ inner
+loops_put func_index inner values = fun_ext (λ id. ap (λ (b : Bool). cond b (inner id) (values (record { func = func_index; id = id }))) (eq-eqb func_index func_index refl))

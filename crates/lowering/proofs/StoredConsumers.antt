@@ -12,7 +12,7 @@ use Rattle.schedule_lines.specs.declared.stages.Loop.{Loop}
 use Rattle.schedule_lines.specs.declared.stages.LoopId.TheVariants as ids
 use Rattle.schedule_lines.specs.declared.stages.Split.{Split}
 use Rattle.schedule.specs.declared.schedules.Schedule.{Schedule}
-use Rattle.schedule.specs.declared.placements.LoopPlace.{LoopPlace}
+use Rattle.schedule.specs.declared.placements.LoopPosition.{LoopPosition}
 use Rattle.schedule.specs.Accepted.{IsAccepted}
 use Rattle.schedule_loops.specs.declared.extents.Extents.{Extents}
 use Rattle.schedule_loops.specs.Visits as loops
@@ -48,30 +48,31 @@ AreWords inner = (x_of inner < 2 ^ 32) × (y_of inner < 2 ^ 32)
 abbrev pub is_at : ℕ → ℕ → loops.Values → Bool
 is_at x y inner = x_of inner == x && y_of inner == y
 
-pub whole_put : (place : ℕ) (inner : loops.Values) (values : Values) (v : Variable) → inner (ids.Whole v) < 2 ^ 32
-    → whole_at (put_loops place inner values) place v ≡ inner (ids.Whole v)
-whole_put place inner values v small =
-    ap (λ (b : Bool). cond b (inner (ids.Whole v)) (values (record { func = place; id = ids.Whole v })) % 2 ^ 32) (eq-eqb place place refl)
+pub whole_put : (func_index : ℕ) (inner : loops.Values) (values : Values) (v : Variable) → inner (ids.Whole v) < 2 ^ 32
+    → whole_at (put_loops func_index inner values) func_index v ≡ inner (ids.Whole v)
+whole_put func_index inner values v small =
+    ap (λ (b : Bool). cond b (inner (ids.Whole v)) (values (record { func = func_index; id = ids.Whole v })) % 2 ^ 32) (eq-eqb func_index func_index refl)
     ∙ mod-eq_of_lt {n = inner (ids.Whole v)} {m = 2 ^ 32} small
 
 module _ (pipeline : Pipeline) (schedule : Schedule) (boxes : Boxes) (accepted : IsAccepted pipeline schedule) (points : Points) (inputs : Planes)
     (consumer x y : ℕ) where
   abbrev traced : Stmt → Values → Trace → Trace
-  traced made values = trace points inputs consumer x y made values
+  traced new_statement values = trace points inputs consumer x y new_statement values
 
   -- whatever buffers hold, the statement stores at the point exactly if this holds, while the consumer's loops stand so
   abbrev pub Told : Stmt → loops.Values → Bool → Type 0
-  Told made in_task hit = Tells (traced made (consuming consumer in_task)) hit
+  Told new_statement in_task hit = Tells (traced new_statement (consuming consumer in_task)) hit
 
-  module _ (at : LoopPlace) (same : at.func ≡ consumer) (in_task : loops.Values) where
+  module _ (at : LoopPosition) (same : at.func ≡ consumer) (in_task : loops.Values) where
     -- a nest in front stores elsewhere
-    before_alone : (place : ℕ) (first : Stmt) → IsNestOf pipeline schedule boxes at place first → (so_far : Trace)
+    before_alone : (func_index : ℕ) (first : Stmt) → IsNestOf pipeline schedule boxes at func_index first
+        → (so_far : Trace)
         → (traced first (consuming consumer in_task) so_far).is_stored ≡ so_far.is_stored
-    before_alone place first nest_of so_far =
-        let earlier : place < at.func = produced_before pipeline schedule accepted place nest_of.parts.standing nest_of.parts.there at nest_of.parts.placed_is
+    before_alone func_index first nest_of so_far =
+        let earlier : func_index < at.func = produced_before pipeline schedule accepted func_index nest_of.parts.standing nest_of.parts.there at nest_of.parts.placed_is
         in
         nest_of.alone points inputs consumer x y (λ e. omega (arith, e, earlier, same)) (consuming consumer in_task)
-        (subst AreSmall (sym (no_other_loops consumer place in_task (λ e. omega (arith, e, earlier, same)))) (λ id. omega arith)) so_far
+        (subst AreSmall (sym (no_other_loops consumer func_index in_task (λ e. omega (arith, e, earlier, same)))) (λ id. omega arith)) so_far
 
     pub nests : (from : ℕ) (inner body : Stmt) → HasNests pipeline schedule boxes at from inner body → (hit : Bool) → Told inner in_task hit
         → Told body in_task hit
@@ -116,12 +117,12 @@ module _ (pipeline : Pipeline) (schedule : Schedule) (boxes : Boxes) (accepted :
         (λ inner w. store_tells in_task inner w) (listed [] in_task) words) so_far
 
     -- loops store where they list the point
-    pub loops_tell : (leaf : Stmt) → Repeats consumer leaf store (wholes extents splits []) → (inside : List Loop) (made : Stmt)
-        → HasLoops pipeline schedule boxes consumer counts leaf inside made
+    pub loops_tell : (leaf : Stmt) → Repeats consumer leaf store (wholes extents splits []) → (inside : List Loop) (new_statement : Stmt)
+        → HasLoops pipeline schedule boxes consumer counts leaf inside new_statement
         → (in_task : loops.Values) → AreSmall in_task → AllByRecursion AreWords (listed inside in_task)
-        → Told made in_task (list_any (is_at x y) (listed inside in_task))
+        → Told new_statement in_task (list_any (is_at x y) (listed inside in_task))
     loops_tell leaf bound _ _ No_loops in_task small words so_far = leaf_tells leaf bound in_task small words so_far
-    loops_tell leaf bound _ made (One_outside inside mid inner body _ within nested does around run_around) in_task small words so_far =
+    loops_tell leaf bound _ new_statement (One_outside inside mid inner body _ within nested does around run_around) in_task small words so_far =
         let lists : ℕ → List loops.Values = λ iteration. listed inside (loops.with mid.id iteration in_task) in
         let list_is : listed (inside ++ mid ∷ []) in_task ≡ upto (counts mid.id) lists = nest-append counts inside (mid ∷ []) (over_loops extents splits
         (λ (whole : loops.Values). whole ∷ [])) in_task in

@@ -39,60 +39,63 @@ use Rattle.lowering_expressions.proofs.Following.{linear_passes}
 use Rattle.lowering.specs.PurePhases.{StoresPure, HitsPure, IsSoundPure, MissesPure, whole_at}
 use Rattle.lowering.proofs.Lists.{all_pass}
 
-value_linear : (reads : Reads) (values : Values) (own : Linear) → value reads values (e.Linear own) ≡ linear_value values own
+value_linear : (reads : Reads) (values : Values) (sum : Linear) → value reads values (e.Linear sum) ≡ linear_value values sum
 unfolding value
-value_linear reads values own =
-    ap (λ (t : expressions.Expr). value reads values t) (sym (rolls-Linear own)) ∙ fold-roll-Expr ℕ (value_at reads values) (layer.Linear own)
+value_linear reads values sum =
+    ap (λ (t : expressions.Expr). value reads values t) (sym (rolls-Linear sum)) ∙ fold-roll-Expr ℕ (value_at reads values) (layer.Linear sum)
 
-pub stores_pure : (corners : List Corner) (flags : ℕ → Bool) (funcs : List Func) (place : ℕ) (corner : Corner) (pure : Expr) (x y : Linear)
-    (made : expressions.Expr) (arguments : Arguments)
+pub stores_pure : (corners : List Corner) (flags : ℕ → Bool) (funcs : List Func) (func_index : ℕ) (corner : Corner) (pure : Expr) (x y : Linear)
+    (expression : expressions.Expr) (arguments : Arguments)
     → ((values : Values) → environment values arguments
-    ≡ at_point (word.add (whole_at values place variables.FirstArgument) (linear_value values corner.x))
-    (word.add (whole_at values place variables.SecondArgument) (linear_value values corner.y)))
-    → ((values : Values) → linear_value values x ≡ whole_at values place variables.FirstArgument)
-    → ((values : Values) → linear_value values y ≡ whole_at values place variables.SecondArgument)
-    → ((reads : Reads) (values : Values) → value reads values made ≡ inlined (valuing (placed corners values reads)) flags funcs place
+    ≡ at_point (word.add (whole_at values func_index variables.FirstArgument) (linear_value values corner.x))
+    (word.add (whole_at values func_index variables.SecondArgument) (linear_value values corner.y)))
+    → ((values : Values) → linear_value values x ≡ whole_at values func_index variables.FirstArgument)
+    → ((values : Values) → linear_value values y ≡ whole_at values func_index variables.SecondArgument)
+    → ((reads : Reads) (values : Values) → value reads values expression ≡ inlined (valuing (placed corners values reads)) flags funcs func_index
     (variable (environment values arguments)) pure)
-    → StoresPure corners flags funcs place corner pure (s.Store (record { func = place; x = e.Linear x; y = e.Linear y; value = made }))
-stores_pure corners flags funcs place corner pure x y made arguments environment_is x_is y_is value_is points inputs values buffers =
+    → StoresPure corners flags funcs func_index corner pure (s.Store (record { func = func_index; x = e.Linear x; y = e.Linear y; value = expression }))
+stores_pure corners flags funcs func_index corner pure x y expression arguments environment_is x_is y_is value_is points inputs values buffers =
     let reads = reads_of inputs buffers in
     let at_x = value_linear reads values x ∙ x_is values in
     let at_y = value_linear reads values y ∙ y_is values in
-    let written : value reads values made
-    ≡ inlined (valuing (placed corners values reads)) flags funcs place
-    (variable (at_point (word.add (whole_at values place variables.FirstArgument) (linear_value values corner.x))
-    (word.add (whole_at values place variables.SecondArgument) (linear_value values corner.y)))) pure =
-    value_is reads values ∙ ap (λ (v : Environment). inlined (valuing (placed corners values reads)) flags funcs place (variable v) pure)
+    let written : value reads values expression
+    ≡ inlined (valuing (placed corners values reads)) flags funcs func_index
+    (variable (at_point (word.add (whole_at values func_index variables.FirstArgument) (linear_value values corner.x))
+    (word.add (whole_at values func_index variables.SecondArgument) (linear_value values corner.y)))) pure =
+    value_is reads values ∙ ap (λ (v : Environment). inlined (valuing (placed corners values reads)) flags funcs func_index (variable v) pure)
     (environment_is values) in
-    run_store points inputs (record { func = place; x = e.Linear x; y = e.Linear y; value = made }) values buffers
-    ∙ ap (λ (n : ℕ). put points place n (value reads values (e.Linear y)) (value reads values made) buffers) at_x
-    ∙ ap (λ (n : ℕ). put points place (whole_at values place variables.FirstArgument) n (value reads values made) buffers) at_y
-    ∙ ap (λ (n : ℕ). put points place (whole_at values place variables.FirstArgument) (whole_at values place variables.SecondArgument) n buffers) written
+    run_store points inputs (record { func = func_index; x = e.Linear x; y = e.Linear y; value = expression }) values
+    buffers
+    ∙ ap (λ (n : ℕ). put points func_index n (value reads values (e.Linear y)) (value reads values expression) buffers)
+    at_x
+    ∙ ap (λ (n : ℕ). put points func_index (whole_at values func_index variables.FirstArgument) n (value reads values expression) buffers) at_y
+    ∙ ap (λ (n : ℕ). put points func_index (whole_at values func_index variables.FirstArgument) (whole_at values func_index variables.SecondArgument) n buffers) written
 
-pub hits_pure : (place : ℕ) (x y : Linear) (made : expressions.Expr)
-    → ((values : Values) → linear_value values x ≡ whole_at values place variables.FirstArgument)
-    → ((values : Values) → linear_value values y ≡ whole_at values place variables.SecondArgument)
-    → HitsPure place (s.Store (record { func = place; x = e.Linear x; y = e.Linear y; value = made }))
-hits_pure place x y made x_is y_is points inputs func p q values so_far =
+pub hits_pure : (func_index : ℕ) (x y : Linear) (expression : expressions.Expr)
+    → ((values : Values) → linear_value values x ≡ whole_at values func_index variables.FirstArgument)
+    → ((values : Values) → linear_value values y ≡ whole_at values func_index variables.SecondArgument)
+    → HitsPure func_index (s.Store (record { func = func_index; x = e.Linear x; y = e.Linear y; value = expression }))
+hits_pure func_index x y expression x_is y_is points inputs func p q values so_far =
     let reads = reads_of inputs so_far.funcs in
-    ap (λ (t : Trace). t.is_stored) (trace_store points inputs func p q (record { func = place; x = e.Linear x; y = e.Linear y; value = made }) values so_far)
-    ∙ ap (λ (n : ℕ). so_far.is_stored || (place == func && (n == p && value reads values (e.Linear y) == q))) (value_linear reads values x ∙ x_is values)
-    ∙ ap (λ (n : ℕ). so_far.is_stored || (place == func && (whole_at values place variables.FirstArgument == p && n == q))) (value_linear reads values y
+    ap (λ (t : Trace). t.is_stored) (trace_store points inputs func p q (record { func = func_index; x = e.Linear x; y = e.Linear y; value = expression }) values so_far)
+    ∙ ap (λ (n : ℕ). so_far.is_stored || (func_index == func && (n == p && value reads values (e.Linear y) == q))) (value_linear reads values x ∙ x_is values)
+    ∙ ap (λ (n : ℕ). so_far.is_stored || (func_index == func && (whole_at values func_index variables.FirstArgument == p && n == q))) (value_linear reads values y
     ∙ y_is values)
 
-pub misses_pure : (place : ℕ) (x y : Linear) (made : expressions.Expr)
-    → ((values : Values) → linear_value values x ≡ whole_at values place variables.FirstArgument)
-    → ((values : Values) → linear_value values y ≡ whole_at values place variables.SecondArgument)
-    → MissesPure place (s.Store (record { func = place; x = e.Linear x; y = e.Linear y; value = made }))
-misses_pure place x y made x_is y_is reads p q values =
-    let own : Store = record { func = place; x = e.Linear x; y = e.Linear y; value = made } in
-    sound_store reads (all_but (point_of place p q)) all_points own values
-    ∙ ap (λ (b : Bool). all_but (point_of place p q) place (value reads values (e.Linear x)) (value reads values (e.Linear y)) && b)
+pub misses_pure : (func_index : ℕ) (x y : Linear) (expression : expressions.Expr)
+    → ((values : Values) → linear_value values x ≡ whole_at values func_index variables.FirstArgument)
+    → ((values : Values) → linear_value values y ≡ whole_at values func_index variables.SecondArgument)
+    → MissesPure func_index (s.Store (record { func = func_index; x = e.Linear x; y = e.Linear y; value = expression }))
+misses_pure func_index x y expression x_is y_is reads p q values =
+    let own : Store = record { func = func_index; x = e.Linear x; y = e.Linear y; value = expression } in
+    sound_store reads (all_but (point_of func_index p q)) all_points own values
+    ∙ ap (λ (b : Bool). all_but (point_of func_index p q) func_index (value reads values (e.Linear x)) (value reads values (e.Linear y)) && b)
     (all_of (store_loads reads values own))
-    ∙ and_true (all_but (point_of place p q) place (value reads values (e.Linear x)) (value reads values (e.Linear y)))
-    ∙ ap (λ (b : Bool). not (b && (p == value reads values (e.Linear x) && q == value reads values (e.Linear y)))) (eq-eqb place place refl)
+    ∙ and_true (all_but (point_of func_index p q) func_index (value reads values (e.Linear x))
+    (value reads values (e.Linear y)))
+    ∙ ap (λ (b : Bool). not (b && (p == value reads values (e.Linear x) && q == value reads values (e.Linear y)))) (eq-eqb func_index func_index refl)
     ∙ ap (λ (n : ℕ). not (p == n && q == value reads values (e.Linear y))) (value_linear reads values x ∙ x_is values)
-    ∙ ap (λ (n : ℕ). not (p == whole_at values place variables.FirstArgument && q == n)) (value_linear reads values y ∙ y_is values)
+    ∙ ap (λ (n : ℕ). not (p == whole_at values func_index variables.FirstArgument && q == n)) (value_linear reads values y ∙ y_is values)
   where
     all_of : (points : List Point) → list_all all_points points ≡ true
     all_of [] = refl
@@ -117,23 +120,24 @@ store_sound reads written loaded store values writes first second stored =
     (all_both passes (loads reads values store.x) (loads reads values store.y ++ loads reads values store.value) first
     (all_both passes (loads reads values store.y) (loads reads values store.value) second stored)))
 
-pub sound_pure : (corners : List Corner) (flags : ℕ → Bool) (funcs : List Func) (place : ℕ) (corner : Corner) (pure : Expr) (x y : Linear)
-    (made : expressions.Expr) (arguments : Arguments)
+pub sound_pure : (corners : List Corner) (flags : ℕ → Bool) (funcs : List Func) (func_index : ℕ) (corner : Corner) (pure : Expr) (x y : Linear)
+    (expression : expressions.Expr) (arguments : Arguments)
     → ((values : Values) → environment values arguments
-    ≡ at_point (word.add (whole_at values place variables.FirstArgument) (linear_value values corner.x))
-    (word.add (whole_at values place variables.SecondArgument) (linear_value values corner.y)))
-    → ((values : Values) → linear_value values x ≡ whole_at values place variables.FirstArgument)
-    → ((values : Values) → linear_value values y ≡ whole_at values place variables.SecondArgument)
+    ≡ at_point (word.add (whole_at values func_index variables.FirstArgument) (linear_value values corner.x))
+    (word.add (whole_at values func_index variables.SecondArgument) (linear_value values corner.y)))
+    → ((values : Values) → linear_value values x ≡ whole_at values func_index variables.FirstArgument)
+    → ((values : Values) → linear_value values y ≡ whole_at values func_index variables.SecondArgument)
     → ((reads : Reads) (values : Values) (test : Point → Bool)
-    → Hold (λ point. test (place_in corners values point)) (inlined (seeing (placed corners values reads)) flags funcs place
+    → Hold (λ point. test (place_in corners values point)) (inlined (seeing (placed corners values reads)) flags funcs func_index
     (seen_variable (environment values arguments)) pure).points
-    → Hold test (loads reads values made))
-    → IsSoundPure corners flags funcs place corner pure (s.Store (record { func = place; x = e.Linear x; y = e.Linear y; value = made }))
-sound_pure corners flags funcs place corner pure x y made arguments environment_is x_is y_is loads_are reads written loaded values writes all_loaded =
-    store_sound reads written loaded (record { func = place; x = e.Linear x; y = e.Linear y; value = made }) values
-    (ap (λ (n : ℕ). written place n (value reads values (e.Linear y))) (value_linear reads values x ∙ x_is values)
-    ∙ ap (λ (n : ℕ). written place (whole_at values place variables.FirstArgument) n) (value_linear reads values y ∙ y_is values) ∙ writes)
+    → Hold test (loads reads values expression))
+    → IsSoundPure corners flags funcs func_index corner pure (s.Store (record { func = func_index; x = e.Linear x; y = e.Linear y; value = expression }))
+sound_pure corners flags funcs func_index corner pure x y expression arguments environment_is x_is y_is loads_are reads written loaded values writes all_loaded =
+    store_sound reads written loaded (record { func = func_index; x = e.Linear x; y = e.Linear y; value = expression })
+    values
+    (ap (λ (n : ℕ). written func_index n (value reads values (e.Linear y))) (value_linear reads values x ∙ x_is values)
+    ∙ ap (λ (n : ℕ). written func_index (whole_at values func_index variables.FirstArgument) n) (value_linear reads values y ∙ y_is values) ∙ writes)
     (linear_passes reads values x loaded) (linear_passes reads values y loaded)
     (loads_are reads values loaded
-    (subst (λ (v : Environment). Hold (λ point. loaded (place_in corners values point)) (inlined (seeing (placed corners values reads)) flags funcs place
+    (subst (λ (v : Environment). Hold (λ point. loaded (place_in corners values point)) (inlined (seeing (placed corners values reads)) flags funcs func_index
     (seen_variable v) pure).points) (sym (environment_is values)) all_loaded))

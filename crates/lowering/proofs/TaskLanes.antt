@@ -22,13 +22,13 @@ use Rattle.lowering.specs.PurePhases.{inside_of, counter_of}
 use Rattle.lowering.specs.LoopLanes.{LanesMayBeAtOnce}
 use Rattle.lowering.proofs.Lists.{before_last}
 
-module _ (place : ℕ) (extents : Extents) (stage : Stage) (kept : KeepsRules stage) where
+module _ (func_index : ℕ) (extents : Extents) (stage : Stage) (kept : KeepsRules stage) where
   -- the parallel loop, where there is one
   abbrev pub outside_of : Option Loop → List Loop
   outside_of None = []
   outside_of (Some own) = own ∷ []
 
-  pub loops_by : (found : Option Loop) → parallel stage ≡ found → stage.loops ≡ inside_of found stage.loops ++ outside_of found
+  pub loops_by : (stage_loop : Option Loop) → parallel stage ≡ stage_loop → stage.loops ≡ inside_of stage_loop stage.loops ++ outside_of stage_loop
   loops_by None e = sym (append-nil stage.loops)
   loops_by (Some own) e =
       let o = outermost stage own kept e in
@@ -37,21 +37,21 @@ module _ (place : ℕ) (extents : Extents) (stage : Stage) (kept : KeepsRules st
       o.last.loops_are ∙ ap (λ (ls : List Loop). ls ++ own ∷ []) (sym inside)
 
   module _ (few : (id : LoopId) → counts extents stage.splits id < 2 ^ 25) (phase : Phase) (tasks_are : phase.tasks ≡ iteration_count extents stage)
-      (counter_is : phase.counter ≡ counter_of place (parallel stage)) where
+      (counter_is : phase.counter ≡ counter_of func_index (parallel stage)) where
     no_values_small : AllAreSmall no_values
     no_values_small counter = omega arith
 
-    task_by : (found : Option Loop) → MayBeAtOnce place (counts extents stage.splits) (outside_of found) phase.body → (task : ℕ)
-        → task < count_of (counts extents stage.splits) found
-        → (reads : Reads) → may_be_at_once reads phase.body (task_values (counter_of place found) task) ≡ true
+    task_by : (stage_loop : Option Loop) → MayBeAtOnce func_index (counts extents stage.splits) (outside_of stage_loop) phase.body → (task : ℕ)
+        → task < count_of (counts extents stage.splits) stage_loop
+        → (reads : Reads) → may_be_at_once reads phase.body (task_values (counter_of func_index stage_loop) task) ≡ true
     task_by None at_once task l reads = at_once reads no_values no_values_small tt
     task_by (Some own) at_once task l reads =
-        at_once reads (with (record { func = place; id = own.id }) task no_values)
-        (small_with (record { func = place; id = own.id }) task no_values (omega (arith, l, few own.id)) no_values_small)
-        (subst (AreIterations (counts extents stage.splits) (own ∷ [])) (sym (loops_with place own.id task no_values)) (iterations_more (counts extents stage.splits) own
-        task l [] (loops_of place no_values) tt))
+        at_once reads (with (record { func = func_index; id = own.id }) task no_values)
+        (small_with (record { func = func_index; id = own.id }) task no_values (omega (arith, l, few own.id)) no_values_small)
+        (subst (AreIterations (counts extents stage.splits) (own ∷ [])) (sym (loops_with func_index own.id task no_values)) (iterations_more (counts extents stage.splits) own
+        task l [] (loops_of func_index no_values) tt))
 
-    pub tasks_at_once : MayBeAtOnce place (counts extents stage.splits) (outside_of (parallel stage)) phase.body → LanesMayBeAtOnce phase
+    pub tasks_at_once : MayBeAtOnce func_index (counts extents stage.splits) (outside_of (parallel stage)) phase.body → LanesMayBeAtOnce phase
     tasks_at_once at_once task below reads =
         ap (λ (c : Option Counter). may_be_at_once reads phase.body (task_values c task)) counter_is
         ∙ task_by (parallel stage) at_once task (omega (arith, below, tasks_are)) reads

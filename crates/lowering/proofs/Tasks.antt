@@ -57,38 +57,38 @@ use Rattle.lowering.proofs.Offsets.{first_none}
 
 -- ---- a task's iteration
 
-module _ (func : Func) (extents : Extents) (stage : Stage) (stage_is : IsStageOf func None stage) (legal : KeepsRules stage) (place : ℕ) where
+module _ (func : Func) (extents : Extents) (stage : Stage) (stage_is : IsStageOf func None stage) (legal : KeepsRules stage) (func_index : ℕ) where
   -- the iteration of the parallel loop, where there is one
   abbrev pub in_task_of : Option Loop → ℕ → loops.Values
   in_task_of None number = zeros
-  in_task_of (Some own) number = loops.with own.id number zeros
+  in_task_of (Some stage_loop) number = loops.with stage_loop.id number zeros
 
   -- the loops inside the last one
-  pub inside_last : (own : Loop) (inside : List Loop) → stage.loops ≡ inside ++ own ∷ [] → inside_of (Some own) stage.loops ≡ inside
-  inside_last own inside is = ap (λ (ls : List Loop). take (length ls - 1) ls) is ∙ before_last inside own
+  pub inside_last : (stage_loop : Loop) (inside : List Loop) → stage.loops ≡ inside ++ stage_loop ∷ [] → inside_of (Some stage_loop) stage.loops ≡ inside
+  inside_last stage_loop inside is = ap (λ (ls : List Loop). take (length ls - 1) ls) is ∙ before_last inside stage_loop
 
-  pub listed : (found : Option Loop) → parallel stage ≡ found → (number : ℕ) → number < count_of (counts extents stage.splits) found
-      → visits_in extents stage number ≡ map (visit_of extents) (wholes extents stage.splits (inside_of found stage.loops) (in_task_of found number))
+  pub listed : (marked_loop : Option Loop) → parallel stage ≡ marked_loop → (number : ℕ) → number < count_of (counts extents stage.splits) marked_loop
+      → visits_in extents stage number ≡ map (visit_of extents) (wholes extents stage.splits (inside_of marked_loop stage.loops) (in_task_of marked_loop number))
   listed None is number l =
       let first : number ≡ 0 = omega (arith, l) in
       ap (visits_in extents stage) first
       ∙ ap (λ (p : Option Loop). nest (counts extents stage.splits) stage.loops (λ values. cond (is_iteration_of p 0 values) (over_loops extents stage.splits
       (λ whole. visit_of extents whole ∷ []) values) []) zeros) is
       ∙ visits_of_wholes extents stage.splits stage.loops zeros
-  listed (Some own) is number l =
-      let o = outermost stage own legal is in
-      let iterations = loops.with own.id number zeros in
-      iteration_visits func None extents stage o.last.inside own stage_is o.last.loops_are is number l
+  listed (Some stage_loop) is number l =
+      let o = outermost stage stage_loop legal is in
+      let iterations = loops.with stage_loop.id number zeros in
+      iteration_visits func None extents stage o.last.inside stage_loop stage_is o.last.loops_are is number l
       ∙ visits_of_wholes extents stage.splits o.last.inside iterations
-      ∙ ap (λ (ls : List Loop). map (visit_of extents) (wholes extents stage.splits ls iterations)) (sym (inside_last own o.last.inside o.last.loops_are))
+      ∙ ap (λ (ls : List Loop). map (visit_of extents) (wholes extents stage.splits ls iterations)) (sym (inside_last stage_loop o.last.inside o.last.loops_are))
 
   -- what counters stand at before a task
-  pub before_by : (found : Option Loop) (number : ℕ) → task_values (counter_of place found) number ≡ consuming place (in_task_of found number)
-  before_by None number = consuming_none place
-  before_by (Some loop) number = ap (with (record { func = place; id = loop.id }) number) (consuming_none place) ∙ consuming_with place loop.id number zeros
+  pub before_by : (marked_loop : Option Loop) (number : ℕ) → task_values (counter_of func_index marked_loop) number ≡ consuming func_index (in_task_of marked_loop number)
+  before_by None number = consuming_none func_index
+  before_by (Some loop) number = ap (with (record { func = func_index; id = loop.id }) number) (consuming_none func_index) ∙ consuming_with func_index loop.id number zeros
 
-  pub small_by : AreFew extents → AreSplits stage.splits → (found : Option Loop) (number : ℕ) → number < count_of (counts extents stage.splits) found
-      → AreSmall (in_task_of found number)
+  pub small_by : AreFew extents → AreSplits stage.splits → (marked_loop : Option Loop) (number : ℕ) → number < count_of (counts extents stage.splits) marked_loop
+      → AreSmall (in_task_of marked_loop number)
   small_by few_so splits_so None number l = λ id. omega arith
   small_by few_so splits_so (Some loop) number l = small_with loop.id number zeros (omega (arith, l, iterations_few extents stage.splits few_so splits_so loop.id))
       (λ id. omega arith)
@@ -136,14 +136,14 @@ module _ (func : Func) (extents : Extents) (stage : Stage) (stage_is : IsStageOf
 
 module _ (pipeline : Pipeline) (schedule : Schedule) (boxes : Boxes) (rules : IsWellFormed pipeline) (accepted : IsAccepted pipeline schedule)
     (is : inferred pipeline schedule ≡ Ok boxes)
-    (place : ℕ) (func : Func) (plan : FuncPlan) (own : SourceBox) (at : IsAtRoot pipeline schedule boxes place func plan own)
-    (store : Stmt) (store_of : IsStoreOf pipeline schedule boxes places.Root place func own store)
-    (phase : Phase) (tasks_are : phase.tasks ≡ iteration_count (extents_of own) plan.pure) (counter_is : phase.counter ≡ counter_of place (parallel plan.pure))
-    (body : IsBody pipeline schedule boxes place plan.pure (extents_of own) store phase.body)
-    (is_private : ℕ → Bool) (shared : RootsAreShared schedule.standings is_private) (produced_private : ProducedArePrivate schedule.standings is_private place)
+    (func_index : ℕ) (func : Func) (plan : FuncPlan) (source_box : SourceBox) (at : IsAtRoot pipeline schedule boxes func_index func plan source_box)
+    (store : Stmt) (store_of : IsStoreOf pipeline schedule boxes places.Root func_index func source_box store)
+    (phase : Phase) (tasks_are : phase.tasks ≡ iteration_count (extents_of source_box) plan.pure) (counter_is : phase.counter ≡ counter_of func_index (parallel plan.pure))
+    (body : IsBody pipeline schedule boxes func_index plan.pure (extents_of source_box) store phase.body)
+    (is_private : ℕ → Bool) (shared : RootsAreShared schedule.standings is_private) (produced_private : ProducedArePrivate schedule.standings is_private func_index)
     (inputs : Planes) (begun : AnswerWords pipeline.inputs (reads_of inputs (pixels pipeline.funcs inputs 0))) where
   abbrev extents : Extents
-  extents = extents_of own
+  extents = extents_of source_box
 
   abbrev stage : Stage
   stage = plan.pure
@@ -152,44 +152,48 @@ module _ (pipeline : Pipeline) (schedule : Schedule) (boxes : Boxes) (rules : Is
   points = box_points boxes.funcs
 
   abbrev start : Planes
-  start = held boxes.funcs (pixels pipeline.funcs inputs place)
+  start = held boxes.funcs (pixels pipeline.funcs inputs func_index)
 
   abbrev result : Planes
-  result = held boxes.funcs (with_pure pipeline.funcs inputs place func)
+  result = held boxes.funcs (with_pure pipeline.funcs inputs func_index func)
 
   abbrev pure : Plane
-  pure = pure_plane func.pure inputs (pixels pipeline.funcs inputs place)
+  pure = pure_plane func.pure inputs (pixels pipeline.funcs inputs func_index)
 
   stage_facts : IsStageOf func None stage × KeepsRules stage
-  stage_facts = staged pipeline schedule boxes place func plan own accepted is places.Root tt at
+  stage_facts = staged pipeline schedule boxes func_index func plan source_box accepted is places.Root tt at
 
   -- ---- planes
 
   abbrev plane : Plane
-  plane = consumers.plane pipeline schedule boxes rules accepted is place func plan own at inputs begun store store_of
+  plane = consumers.plane pipeline schedule boxes rules accepted is func_index func plan source_box at inputs begun
+      store store_of
 
   abbrev hits : ℕ → ℕ → loops.Values → Bool
-  hits = consumers.hits pipeline schedule boxes rules accepted is place func plan own at inputs begun store store_of
+  hits = consumers.hits pipeline schedule boxes rules accepted is func_index func plan source_box at inputs begun store
+      store_of
 
-  result_own : (x y : ℕ) → result place x y ≡ pure (word.add (word_at own.x.low) x) (word.add (word_at own.y.low) y)
-  result_own x y = rw at.box_is (rw (eq-eqb place place refl) refl)
+  result_own : (x y : ℕ) → result func_index x y ≡ pure (word.add (word_at source_box.x.low) x)
+      (word.add (word_at source_box.y.low) y)
+  result_own x y = rw at.box_is (rw (eq-eqb func_index func_index refl) refl)
 
-  plane_is : (x y : ℕ) → plane x y ≡ result place x y
+  plane_is : (x y : ℕ) → plane x y ≡ result func_index x y
   unfolding pixel.stage
   plane_is x y =
-      ap (λ (n : ℕ). pure (word.add n x) (word.add (first_of own.y no_loops) y)) (first_none own.x)
-      ∙ ap (λ (n : ℕ). pure (word.add (word_at own.x.low) x) (word.add n y)) (first_none own.y) ∙ sym (result_own x y)
+      ap (λ (n : ℕ). pure (word.add n x) (word.add (first_of source_box.y no_loops) y)) (first_none source_box.x)
+      ∙ ap (λ (n : ℕ). pure (word.add (word_at source_box.x.low) x) (word.add n y)) (first_none source_box.y) ∙ sym
+      (result_own x y)
 
-  result_other : (other x y : ℕ) → (other ≡ place → ⊥) → result other x y ≡ start other x y
+  result_other : (other x y : ℕ) → (other ≡ func_index → ⊥) → result other x y ≡ start other x y
   result_other other x y d =
       let corner = corner_of (box_in (slice_get boxes.funcs other)) in
-      ap (λ (b : Bool). cond b pure (pixels pipeline.funcs inputs place other) (word.add corner.x x) (word.add corner.y y)) (ne_eqb other place d)
+      ap (λ (b : Bool). cond b pure (pixels pipeline.funcs inputs func_index other) (word.add corner.x x) (word.add corner.y y)) (ne_eqb other func_index d)
 
   -- ---- a task
 
   module _ (number : ℕ) (below : number < phase.tasks) where
     abbrev in_task : loops.Values
-    in_task = in_task_of func extents stage stage_facts.0 stage_facts.1 place (parallel stage) number
+    in_task = in_task_of func extents stage stage_facts.0 stage_facts.1 func_index (parallel stage) number
 
     abbrev list : List loops.Values
     list = wholes extents stage.splits (inside_of (parallel stage) stage.loops) in_task
@@ -198,12 +202,13 @@ module _ (pipeline : Pipeline) (schedule : Schedule) (boxes : Boxes) (rules : Is
     below_count = subst (λ (n : ℕ). number < n) tasks_are below
 
     visits_are : visits_in extents stage number ≡ map (visit_of extents) list
-    visits_are = listed func extents stage stage_facts.0 stage_facts.1 place (parallel stage) refl number below_count
+    visits_are = listed func extents stage stage_facts.0 stage_facts.1 func_index (parallel stage) refl number
+        below_count
 
-    ran : (funcs : Planes) → run_task points inputs phase number funcs ≡ run points inputs phase.body (consuming place in_task) funcs
+    ran : (funcs : Planes) → run_task points inputs phase number funcs ≡ run points inputs phase.body (consuming func_index in_task) funcs
     ran funcs =
         ap (λ (c : Option Counter). run points inputs phase.body (task_values c number) funcs) counter_is
-        ∙ ap (λ (v : Values). run points inputs phase.body v funcs) (before_by func extents stage stage_facts.0 stage_facts.1 place (parallel stage) number)
+        ∙ ap (λ (v : Values). run points inputs phase.body v funcs) (before_by func extents stage stage_facts.0 stage_facts.1 func_index (parallel stage) number)
 
     abbrev IsVisited : loops.Values → Type 0
     IsVisited inner = IsVisitOf func None extents (visit_of extents inner)
@@ -211,15 +216,15 @@ module _ (pipeline : Pipeline) (schedule : Schedule) (boxes : Boxes) (rules : Is
     all_visited : AllByRecursion IsVisited list
     all_visited =
         all_map (IsVisitOf func None extents) IsVisited (visit_of extents) (λ inner v. v) list
-        (subst (λ (l : List Visit). AllByRecursion (IsVisitOf func None extents) l) visits_are (all_visits func extents stage stage_facts.0 stage_facts.1 place
+        (subst (λ (l : List Visit). AllByRecursion (IsVisitOf func None extents) l) visits_are (all_visits func extents stage stage_facts.0 stage_facts.1 func_index
         number below_count))
 
     owned_is : (x y : ℕ) → owns extents stage number x y ≡ list_any (hits x y) list
     owned_is x y = ap (list_any (is_slice x y)) visits_are ∙ any_map (is_slice x y) (visit_of extents) list
 
-    module _ (funcs : Planes) (hold : Hold points is_private place (owns extents stage number) start funcs) where
+    module _ (funcs : Planes) (hold : Hold points is_private func_index (owns extents stage number) start funcs) where
       abbrev State : ℕ → loops.Values → Planes → Type 0
-      State = consumers.State pipeline schedule boxes rules accepted is place func plan own at inputs begun
+      State = consumers.State pipeline schedule boxes rules accepted is func_index func plan source_box at inputs begun
 
       -- no Func at a loop has its pixels yet
       begins : (inner : ℕ) → length stage.loops ≤ inner → (values : loops.Values) → State inner values funcs
@@ -227,50 +232,50 @@ module _ (pipeline : Pipeline) (schedule : Schedule) (boxes : Boxes) (rules : Is
         shared = λ k standing before there root box box_is x y lx ly.
             let inside : points k x y ≡ true = rw box_is (and_from (nat_lt x (extent box.x)) (nat_lt y (extent box.y)) (lt-ltb x (extent box.x) lx)
             (lt-ltb y (extent box.y) ly)) in
-            let held_so : start k x y ≡ pixels pipeline.funcs inputs place k (word.add (word_at box.x.low) x) (word.add (word_at box.y.low) y) =
+            let held_so : start k x y ≡ pixels pipeline.funcs inputs func_index k (word.add (word_at box.x.low) x) (word.add (word_at box.y.low) y) =
             rw box_is refl in
             hold k x y (shared k standing there root) inside (λ e. absurd (omega (arith, e, before))) ∙ held_so
-            ∙ ap (λ (n : ℕ). pixels pipeline.funcs inputs place k (word.add n x) (word.add (word_at box.y.low) y)) (sym (first_none box.x))
-            ∙ ap (λ (n : ℕ). pixels pipeline.funcs inputs place k (word.add (first_of box.x no_loops) x) (word.add n y)) (sym (first_none box.y));
+            ∙ ap (λ (n : ℕ). pixels pipeline.funcs inputs func_index k (word.add n x) (word.add (word_at box.y.low) y)) (sym (first_none box.x))
+            ∙ ap (λ (n : ℕ). pixels pipeline.funcs inputs func_index k (word.add (first_of box.x no_loops) x) (word.add n y)) (sym (first_none box.y));
         produced = λ k loop h further.
-            absurd (omega (arith, further, most, consumers.few_inside pipeline schedule boxes rules accepted is place func plan own at inputs begun k loop h));
+            absurd (omega (arith, further, most, consumers.few_inside pipeline schedule boxes rules accepted is func_index func plan source_box at inputs begun k loop h));
       }
 
-      public_outer : (inner k : ℕ) → is_private k ≡ false → consumers.IsOuter pipeline schedule boxes rules accepted is place func plan own at inputs begun
+      public_outer : (inner k : ℕ) → is_private k ≡ false → consumers.IsOuter pipeline schedule boxes rules accepted is func_index func plan source_box at inputs begun
           inner k
       public_outer inner k public_so loop h = absurd (true≢false (sym (produced_private k h.standing loop h.there h.placed_is h.same) ∙ public_so))
 
       record Done (list : List loops.Values) (after : Planes) : Type 0 where
-        there : (x y : ℕ) → list_any (hits x y) list ≡ true → after place x y ≡ plane x y
-        keeps : (k x y : ℕ) → is_private k ≡ false → (k ≡ place → list_any (hits x y) list ≡ false) → after k x y ≡ funcs k x y
+        there : (x y : ℕ) → list_any (hits x y) list ≡ true → after func_index x y ≡ plane x y
+        keeps : (k x y : ℕ) → is_private k ≡ false → (k ≡ func_index → list_any (hits x y) list ≡ false) → after k x y ≡ funcs k x y
 
       abbrev DoesLoops : List Loop → Stmt → Type 0
-      DoesLoops = consumers.DoesLoops pipeline schedule boxes rules accepted is place func plan own at inputs begun store store_of
+      DoesLoops = consumers.DoesLoops pipeline schedule boxes rules accepted is func_index func plan source_box at inputs begun store store_of
 
       inner_does : DoesLoops (inside_of (parallel stage) stage.loops) body.inner
-      inner_does = consumers.all_loops pipeline schedule boxes rules accepted is place func plan own at inputs begun store store_of body.leaf body.bound
+      inner_does = consumers.all_loops pipeline schedule boxes rules accepted is func_index func plan source_box at inputs begun store store_of body.leaf body.bound
           (inside_of (parallel stage) stage.loops) body.inner body.looped
 
-      done_by : (found : Option Loop) → parallel stage ≡ found → number < count_of (counts extents stage.splits) found → (inner made : Stmt)
-          → HasOutermost pipeline schedule boxes place found inner made
-          → DoesLoops (inside_of found stage.loops) inner
-          → AllByRecursion IsVisited (wholes extents stage.splits (inside_of found stage.loops) (in_task_of func extents stage stage_facts.0 stage_facts.1 place
-          found number))
-          → Done (wholes extents stage.splits (inside_of found stage.loops) (in_task_of func extents stage stage_facts.0 stage_facts.1 place found number))
-          (run points inputs made (consuming place (in_task_of func extents stage stage_facts.0 stage_facts.1 place found number)) funcs)
-      done_by None e l inner made same does visited =
-          let d = does [] (sym (append-nil stage.loops)) zeros (small_by func extents stage stage_facts.0 stage_facts.1 place (few pipeline schedule boxes place
-          func plan own accepted is places.Root tt at) (splits pipeline schedule boxes place func plan own accepted is places.Root tt at) None number l) tt
+      done_by : (stage_loop : Option Loop) → parallel stage ≡ stage_loop → number < count_of (counts extents stage.splits) stage_loop → (inner statement : Stmt)
+          → HasOutermost pipeline schedule boxes func_index stage_loop inner statement
+          → DoesLoops (inside_of stage_loop stage.loops) inner
+          → AllByRecursion IsVisited (wholes extents stage.splits (inside_of stage_loop stage.loops) (in_task_of func extents stage stage_facts.0 stage_facts.1 func_index
+          stage_loop number))
+          → Done (wholes extents stage.splits (inside_of stage_loop stage.loops) (in_task_of func extents stage stage_facts.0 stage_facts.1 func_index stage_loop number))
+          (run points inputs statement (consuming func_index (in_task_of func extents stage stage_facts.0 stage_facts.1 func_index stage_loop number)) funcs)
+      done_by None e l inner statement same does visited =
+          let d = does [] (sym (append-nil stage.loops)) zeros (small_by func extents stage stage_facts.0 stage_facts.1 func_index (few pipeline schedule boxes func_index
+          func plan source_box accepted is places.Root tt at) (splits pipeline schedule boxes func_index func plan source_box accepted is places.Root tt at) None number l) tt
           visited funcs (begins (length stage.loops) (omega arith) zeros) in
           record {
-            there = λ x y t. ap (λ (s : Stmt). run points inputs s (consuming place zeros) funcs place x y) same ∙ d.there x y t;
-            keeps = λ k x y public_so free. ap (λ (s : Stmt). run points inputs s (consuming place zeros) funcs k x y) same
+            there = λ x y t. ap (λ (s : Stmt). run points inputs s (consuming func_index zeros) funcs func_index x y) same ∙ d.there x y t;
+            keeps = λ k x y public_so free. ap (λ (s : Stmt). run points inputs s (consuming func_index zeros) funcs k x y) same
                 ∙ d.keeps k x y (public_outer (length stage.loops) k public_so) free;
           }
-      done_by (Some loop) e l inner made nested does visited =
+      done_by (Some loop) e l inner statement nested does visited =
           let o = outermost stage loop stage_facts.1 e in
           let inside = o.last.inside in
-          let same : inside_of (Some loop) stage.loops ≡ inside = inside_last func extents stage stage_facts.0 stage_facts.1 place loop inside o.last.loops_are
+          let same : inside_of (Some loop) stage.loops ≡ inside = inside_last func extents stage stage_facts.0 stage_facts.1 func_index loop inside o.last.loops_are
           in
           let values = loops.with loop.id number zeros in
           let most : length stage.loops ≤ suc (length inside) = omega (arith, ap length o.last.loops_are, length-append inside (loop ∷ [])) in
@@ -279,42 +284,44 @@ module _ (pipeline : Pipeline) (schedule : Schedule) (boxes : Boxes) (rules : Is
                 (sym (with_same loop.id number zeros)) l,
             tt,
           ) in
-          let there = consumers.iteration_there pipeline schedule boxes rules accepted is place func plan own at inputs begun store store_of inside loop inner made
+          let there = consumers.iteration_there pipeline schedule boxes rules accepted is func_index func plan source_box at inputs begun store store_of inside loop inner statement
           nested (subst (λ (ls : List Loop). DoesLoops ls inner) same does) [] o.last.loops_are
-          values (small_by func extents stage stage_facts.0 stage_facts.1 place (few pipeline schedule boxes place func plan own accepted is places.Root tt at)
-          (splits pipeline schedule boxes place func plan own accepted is places.Root tt at) (Some loop) number l) iterations
+          values (small_by func extents stage stage_facts.0 stage_facts.1 func_index (few pipeline schedule boxes func_index func plan source_box accepted is places.Root tt at)
+          (splits pipeline schedule boxes func_index func plan source_box accepted is places.Root tt at) (Some loop) number l) iterations
           (subst (λ (ls : List Loop). AllByRecursion IsVisited (wholes extents stage.splits ls values)) same visited) funcs (begins (suc (length inside))
           most values) in
-          let keeps = consumers.iteration_keeps pipeline schedule boxes rules accepted is place func plan own at inputs begun store store_of inside loop inner made
+          let keeps = consumers.iteration_keeps pipeline schedule boxes rules accepted is func_index func plan source_box at inputs begun store store_of inside loop inner statement
           nested (subst (λ (ls : List Loop). DoesLoops ls inner) same does) [] o.last.loops_are
-          values (small_by func extents stage stage_facts.0 stage_facts.1 place (few pipeline schedule boxes place func plan own accepted is places.Root tt at)
-          (splits pipeline schedule boxes place func plan own accepted is places.Root tt at) (Some loop) number l) iterations
+          values (small_by func extents stage stage_facts.0 stage_facts.1 func_index (few pipeline schedule boxes func_index func plan source_box accepted is places.Root tt at)
+          (splits pipeline schedule boxes func_index func plan source_box accepted is places.Root tt at) (Some loop) number l) iterations
           (subst (λ (ls : List Loop). AllByRecursion IsVisited (wholes extents stage.splits ls values)) same visited) funcs (begins (suc (length inside))
           most values) in
-          subst (λ (ls : List Loop). Done (wholes extents stage.splits ls values) (run points inputs made (consuming place values) funcs)) (sym same)
+          subst (λ (ls : List Loop). Done (wholes extents stage.splits ls values) (run points inputs statement (consuming func_index values) funcs)) (sym same)
           (record { there = there; keeps = λ k x y public_so free. keeps k x y (public_outer (suc (length inside)) k public_so) free })
 
-      done : Done list (run points inputs phase.body (consuming place in_task) funcs)
+      done : Done list (run points inputs phase.body (consuming func_index in_task) funcs)
       done = done_by (parallel stage) refl below_count body.inner phase.body body.begun inner_does all_visited
 
-      task_does : (x y : ℕ) → owns extents stage number x y ≡ true → run_task points inputs phase number funcs place x y ≡ result place x y
-      task_does x y e = ap (λ (f : Planes). f place x y) (ran funcs) ∙ done.there x y (sym (owned_is x y) ∙ e) ∙ plane_is x y
+      task_does : (x y : ℕ) → owns extents stage number x y ≡ true → run_task points inputs phase number funcs func_index x y ≡ result func_index x y
+      task_does x y e = ap (λ (f : Planes). f func_index x y) (ran funcs) ∙ done.there x y (sym (owned_is x y) ∙ e) ∙ plane_is x y
 
-      task_keeps : (other x y : ℕ) → is_private other ≡ false → (other ≡ place → owns extents stage number x y ≡ false)
+      task_keeps : (other x y : ℕ) → is_private other ≡ false → (other ≡ func_index
+          → owns extents stage number x y ≡ false)
           → run_task points inputs phase number funcs other x y ≡ funcs other x y
       task_keeps other x y public_so free = ap (λ (f : Planes). f other x y) (ran funcs) ∙ done.keeps other x y public_so (λ e. sym (owned_is x y) ∙ free e)
 
-    owned_there : (x y : ℕ) → owns extents stage number x y ≡ true → points place x y ≡ true
+    owned_there : (x y : ℕ) → owns extents stage number x y ≡ true → points func_index x y ≡ true
     owned_there x y e =
-        any_gives (IsVisitOf func None extents) (points place x y ≡ true) (is_slice x y)
+        any_gives (IsVisitOf func None extents) (points func_index x y ≡ true) (is_slice x y)
         (λ visit v here.
         let p = and_parts (visit.x == x) (visit.y == y) here in
-        let l = parts_of pipeline schedule boxes rules accepted is places.Root place func plan own tt at visit v in
-        ap (λ (n : ℕ). points place n y) (sym (eqb-true visit.x x p.0)) ∙ ap (λ (n : ℕ). points place visit.x n) (sym (eqb-true visit.y y p.1))
-        ∙ point_there pipeline schedule boxes rules accepted is places.Root place func plan own tt at visit.x visit.y l.0 l.1)
-        (visits_in extents stage number) (all_visits func extents stage stage_facts.0 stage_facts.1 place number below_count) e
+        let l = parts_of pipeline schedule boxes rules accepted is places.Root func_index func plan source_box tt at
+        visit v in
+        ap (λ (n : ℕ). points func_index n y) (sym (eqb-true visit.x x p.0)) ∙ ap (λ (n : ℕ). points func_index visit.x n) (sym (eqb-true visit.y y p.1))
+        ∙ point_there pipeline schedule boxes rules accepted is places.Root func_index func plan source_box tt at visit.x visit.y l.0 l.1)
+        (visits_in extents stage number) (all_visits func extents stage stage_facts.0 stage_facts.1 func_index number below_count) e
 
-    task : DoesTask points is_private place start result (owns extents stage number) (run_task points inputs phase number)
+    task : DoesTask points is_private func_index start result (owns extents stage number) (run_task points inputs phase number)
     task = record { there = owned_there; does = task_does; keeps = task_keeps }
 
   -- ---- all tasks
@@ -322,16 +329,17 @@ module _ (pipeline : Pipeline) (schedule : Schedule) (boxes : Boxes) (rules : Is
   in_count : (number : ℕ) → number < phase.tasks → number < iteration_count extents stage
   in_count number l = subst (λ (n : ℕ). number < n) tasks_are l
 
-  pub does_phase : DoesPhase points is_private place start result phase.tasks (owns extents stage) (run_task points inputs phase)
+  pub does_phase : DoesPhase points is_private func_index start result phase.tasks (owns extents stage) (run_task points inputs phase)
   does_phase = record {
-    not_private = shared place at.standing at.there at.placed_is;
+    not_private = shared func_index at.standing at.there at.placed_is;
     each = task;
-    one_owner = λ x y first second lf ls ef es. one_owner func extents stage stage_facts.0 stage_facts.1 place x y first second (in_count first lf)
+    one_owner = λ x y first second lf ls ef es. one_owner func extents stage stage_facts.0 stage_facts.1 func_index x y first second (in_count first lf)
         (in_count second ls) ef es;
     unowned = λ x y there none.
-        absurd (some_owner func extents stage stage_facts.0 stage_facts.1 place (fits pipeline schedule boxes place func plan own accepted is places.Root tt at)
+        absurd (some_owner func extents stage stage_facts.0 stage_facts.1 func_index (fits pipeline schedule boxes func_index func plan source_box accepted is places.Root tt at)
         x y
-        (slice_there pipeline schedule boxes rules accepted is places.Root place func plan own tt at x y there)
+        (slice_there pipeline schedule boxes rules accepted is places.Root func_index func plan source_box tt at x y
+        there)
         (λ number l. none number (subst (λ (n : ℕ). number < n) (sym tasks_are) l)));
     others = result_other;
   }

@@ -63,8 +63,9 @@ module _ (func : Func) (update : Update) where
   second_count : cond (has_variable variables.SecondReduction start) (second_extent update.second) 1 ≡ second_extent update.second
   second_count = tests.1.1.1
 
-  pub points_are : (own : SourceBox) → points_of func (Some update) (update_extents own update) ≡ points update
-  points_are own =
+  pub points_are : (source_box : SourceBox) → points_of func (Some update) (update_extents source_box update) ≡ points
+      update
+  points_are source_box =
       ap (λ (b : Bool). cond (has_variable variables.SecondReduction start) (second_extent update.second) 1 * cond b update.first.extent 1) has_reduction
       ∙ ap (λ (n : ℕ). n * update.first.extent) second_count ∙ swapped (second_extent update.second) update.first.extent
     where
@@ -80,17 +81,17 @@ module _ (func : Func) (update : Update) where
   second_by false ef name en (Some r) er es = rw (ef, es, en, er) refl
 
   -- a second argument in place is there
-  pub second_there : (inputs : List Input) (funcs : List Func) (place : ℕ) → IsUpdate inputs funcs place (dimensions func) update
+  pub second_there : (inputs : List Input) (funcs : List Func) (func_index : ℕ) → IsUpdate inputs funcs func_index (dimensions func) update
       → is_second_in_place update ≡ true → has_variable variables.SecondArgument start ≡ true
-  second_there inputs funcs place rules es = by_name func.second_argument refl update.left_y refl
+  second_there inputs funcs func_index rules es = by_name func.second_argument refl update.left_y refl
     where
       by_name : (name : Option (List ℕ)) → func.second_argument ≡ name → (index : Option Expr) → update.left_y ≡ index
           → has_variable variables.SecondArgument start ≡ true
       by_name (Some name) en index ei = second_by (is_first_in_place update) refl name en update.second refl es
       by_name None en None ei = let wrong : false ≡ true = sym (ap is_second ei) ∙ es in absurd cc
       by_name None en (Some index) ei =
-          let kept : keeps_index (is_read inputs funcs place) (is_update_variable (dimensions func) update.second) (dimensions func) (Some index) ≡ true =
-          ap (keeps_index (is_read inputs funcs place) (is_update_variable (dimensions func) update.second) (dimensions func)) (sym ei) ∙ rules.left_y in
+          let kept : keeps_index (is_read inputs funcs func_index) (is_update_variable (dimensions func) update.second) (dimensions func) (Some index) ≡ true =
+          ap (keeps_index (is_read inputs funcs func_index) (is_update_variable (dimensions func) update.second) (dimensions func)) (sym ei) ∙ rules.left_y in
           let two : (dimensions func == 2) ≡ true = (and_parts (dimensions func == 2) _ kept).0 in
           let one : dimensions func ≡ 1 = rw en refl in
           let wrong : (1 == 2) ≡ true = ap (λ (n : ℕ). n == 2) (sym one) ∙ two in

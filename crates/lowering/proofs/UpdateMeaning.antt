@@ -41,7 +41,7 @@ use Rattle.lowering.specs.Updates.{index_of}
 use Rattle.lowering.proofs.Used.{same_value}
 
 -- a Func that is computed isn't inlined
-not_inlined : (func : ℕ) (place : ComputeLevel) → IsComputed func place → is_inlined place ≡ false
+not_inlined : (func : ℕ) (level : ComputeLevel) → IsComputed func level → is_inlined level ≡ false
 not_inlined func places.Root c = refl
 not_inlined func (places.At at) c = refl
 not_inlined func places.Inlined c = absurd c
@@ -89,77 +89,78 @@ module _ (update : Update) (first_rule : (is_first_in_place update || not (is_us
 -- ---- the update of a Func
 
 module _ (pipeline : Pipeline) (schedule : Schedule) (rules : IsWellFormed pipeline) (accepted : IsAccepted pipeline schedule)
-    (place : ℕ) (func : Func) (func_is : slice_get pipeline.funcs place ≡ Some func) (standing : FuncPlacement) (there : IsReached schedule.standings place standing)
-    (computed : IsComputed place standing.place)
+    (func_index : ℕ) (func : Func) (func_is : slice_get pipeline.funcs func_index ≡ Some func) (placement : FuncPlacement) (there : IsReached schedule.standings func_index placement)
+    (computed : IsComputed func_index placement.place)
     (at : ℕ) (update : Update) (update_is : slice_get func.updates at ≡ Some update)
     (inputs : Planes) (begun : AnswerWords pipeline.inputs (reads_of inputs (pixels pipeline.funcs inputs 0))) where
   abbrev pub earlier : Planes
-  earlier = pixels pipeline.funcs inputs place
+  earlier = pixels pipeline.funcs inputs func_index
 
-  -- what stands after so many points of the update
+  -- what is after this many points of the update
   abbrev pub stands : ℕ → Plane
-  stands = after place update inputs earlier (stage place func inputs earlier at)
+  stands = after func_index update inputs earlier (stage func_index func inputs earlier at)
 
   -- what reads are answered by then
   abbrev pub wanted : ℕ → Reads
-  wanted number = reads_of inputs (with_plane place (stands number) earlier)
+  wanted number = reads_of inputs (with_plane func_index (stands number) earlier)
 
-  pub formed : IsUpdate pipeline.inputs pipeline.funcs place (dimensions func) update
-  formed = (rules.funcs place func func_is).updates at update update_is
+  pub formed : IsUpdate pipeline.inputs pipeline.funcs func_index (dimensions func) update
+  formed = (rules.funcs func_index func func_is).updates at update update_is
 
   words : AnswerWords pipeline.inputs (reads_of inputs earlier)
-  words = pixels_are_words pipeline.inputs pipeline.funcs inputs rules.funcs begun place
+  words = pixels_are_words pipeline.inputs pipeline.funcs inputs rules.funcs begun func_index
 
   pub wanted_words : (number : ℕ) → AnswerWords pipeline.inputs (wanted number)
   wanted_words number =
-      with_words pipeline.inputs pipeline.funcs rules.funcs inputs place (stands number) earlier
-      (λ a b la lb. stages_are_words pipeline.inputs pipeline.funcs inputs rules.funcs place func func_is words at update update_is number a b la lb) words
+      with_words pipeline.inputs pipeline.funcs rules.funcs inputs func_index (stands number) earlier
+      (λ a b la lb. stages_are_words pipeline.inputs pipeline.funcs inputs rules.funcs func_index func func_is words at update update_is number a b la lb) words
 
-  plain : put pipeline schedule place ≡ false
-  plain = ap is_put_in there.standing ∙ (ap (λ (b : Bool). b && is_inlined standing.place) there.reached ∙ not_inlined place standing.place computed)
+  plain : put pipeline schedule func_index ≡ false
+  plain = ap is_put_in there.standing ∙ (ap (λ (b : Bool). b && is_inlined placement.place) there.reached ∙ not_inlined func_index placement.place computed)
 
-  reached_here : reached pipeline schedule place ≡ true
+  reached_here : reached pipeline schedule func_index ≡ true
   reached_here = rw there.standing there.reached
 
-  calling : (other : ℕ) → update_calls other update ≡ true → place_calls pipeline place other ≡ true
+  calling : (other : ℕ) → update_calls other update ≡ true → place_calls pipeline func_index other ≡ true
   unfolding place_calls func_calls
   calling other e =
       ap (place_calls_of other) func_is ∙ or_right (calls other func.pure) (updates_call other func.updates) (updates_one other func.updates at update update_is
       e)
 
   -- sources other than the Func itself
-  pub other_answers : (number : ℕ) (s : Source) (a b : ℕ) → same_source s (sources.Func place) ≡ false → wanted number s a b ≡ reads_of inputs earlier s a b
+  pub other_answers : (number : ℕ) (s : Source) (a b : ℕ) → same_source s (sources.Func func_index) ≡ false → wanted number s a b ≡ reads_of inputs earlier s a b
   other_answers number (sources.Input other) a b differs = refl
   other_answers number (sources.Func other) a b differs = ap (λ (t : Bool). cond t (stands number) (earlier other) a b) differs
 
-  pub own_answers : (number a b : ℕ) → wanted number (sources.Func place) a b ≡ stands number a b
-  own_answers number a b = ap (λ (t : Bool). cond t (stands number) (earlier place) a b) (eq-eqb place place refl)
+  pub own_answers : (number a b : ℕ) → wanted number (sources.Func func_index) a b ≡ stands number a b
+  own_answers number a b = ap (λ (t : Bool). cond t (stands number) (earlier func_index) a b)
+      (eq-eqb func_index func_index refl)
 
-  answers : (number : ℕ) (s : Source) (n a b : ℕ) → is_computed (put pipeline schedule) s ≡ true → is_read pipeline.inputs pipeline.funcs place s n ≡ true
+  answers : (number : ℕ) (s : Source) (n a b : ℕ) → is_computed (put pipeline schedule) s ≡ true → is_read pipeline.inputs pipeline.funcs func_index s n ≡ true
       → wanted number s a b ≡ reads_of inputs earlier s a b
   answers number (sources.Input other) n a b computed_so read = refl
   answers number (sources.Func other) n a b computed_so read =
-      let before : other < place = ltb-true other place (and_parts (nat_lt other place) (is_func_of (slice_get pipeline.funcs other) n) read).0 in
-      ap (λ (t : Bool). cond t (stands number) (earlier other) a b) (ne_eqb other place (λ (e : other ≡ place). omega (arith, e, before)))
+      let before : other < func_index = ltb-true other func_index (and_parts (nat_lt other func_index) (is_func_of (slice_get pipeline.funcs other) n) read).0 in
+      ap (λ (t : Bool). cond t (stands number) (earlier other) a b) (ne_eqb other func_index (λ (e : other ≡ func_index). omega (arith, e, before)))
 
   abbrev has : Variable → Bool
   has = is_update_variable (dimensions func) update.second
 
   -- ---- values, with inlined Funcs put in place
 
-  index_comes : (number : ℕ) (point : Environment) (e : Expr) → keeps (is_read pipeline.inputs pipeline.funcs place) has e ≡ true
+  index_comes : (number : ℕ) (point : Environment) (e : Expr) → keeps (is_read pipeline.inputs pipeline.funcs func_index) has e ≡ true
       → ((other : ℕ) → calls other e ≡ true → update_calls other update ≡ true)
-      → inlined (valuing (wanted number)) (flags pipeline schedule) pipeline.funcs place (variable point) e ≡ value (reads_of inputs earlier) point e
+      → inlined (valuing (wanted number)) (flags pipeline schedule) pipeline.funcs func_index (variable point) e ≡ value (reads_of inputs earlier) point e
   index_comes number point e kept called =
-      sym (sees_inlined_values (wanted number) (flags pipeline schedule) pipeline.funcs place point e)
+      sym (sees_inlined_values (wanted number) (flags pipeline schedule) pipeline.funcs func_index point e)
       ∙ ap (λ (s : Seen). s.value)
-      (same_seen pipeline schedule rules accepted (wanted number) place point has e kept (reaching pipeline schedule rules accepted (wanted number) place
+      (same_seen pipeline schedule rules accepted (wanted number) func_index point has e kept (reaching pipeline schedule rules accepted (wanted number) func_index
       reached_here e (λ other c. calling other (called other c))))
-      ∙ sees_inlined_values (wanted number) (put pipeline schedule) pipeline.funcs place point e
+      ∙ sees_inlined_values (wanted number) (put pipeline schedule) pipeline.funcs func_index point e
       ∙ inlining_keeps_values (wanted number) (put pipeline schedule) pipeline.inputs pipeline.funcs inputs rules.funcs (put_simple pipeline schedule accepted)
-      place (answers number) has point e kept
+      func_index (answers number) has point e kept
 
-  pub left_comes : (number : ℕ) (point : Environment) → inlined (valuing (wanted number)) (flags pipeline schedule) pipeline.funcs place (variable point)
+  pub left_comes : (number : ℕ) (point : Environment) → inlined (valuing (wanted number)) (flags pipeline schedule) pipeline.funcs func_index (variable point)
       update.left_x ≡ value (reads_of inputs earlier) point update.left_x
   left_comes number point =
       index_comes number point update.left_x formed.left_x
@@ -167,37 +168,39 @@ module _ (pipeline : Pipeline) (schedule : Schedule) (rules : IsWellFormed pipel
       (second_calls other update.left_y) c))
 
   row_by : (number : ℕ) (point : Environment) (index : Option Expr) → index ≡ update.left_y
-      → keeps_index (is_read pipeline.inputs pipeline.funcs place) has (dimensions func) index ≡ true
-      → index_of (inlined (valuing (wanted number)) (flags pipeline schedule) pipeline.funcs place (variable point)) index
+      → keeps_index (is_read pipeline.inputs pipeline.funcs func_index) has (dimensions func) index ≡ true
+      → index_of (inlined (valuing (wanted number)) (flags pipeline schedule) pipeline.funcs func_index (variable point)) index
       ≡ index_value (reads_of inputs earlier) point index
   row_by number point None is kept = refl
   row_by number point (Some index) is kept =
-      index_comes number point index (and_parts (dimensions func == 2) (keeps (is_read pipeline.inputs pipeline.funcs place) has index) kept).1
+      index_comes number point index (and_parts (dimensions func == 2) (keeps (is_read pipeline.inputs pipeline.funcs func_index) has index) kept).1
       (λ other c. or_left (calls other update.left_x || second_calls other update.left_y) (calls other update.right)
       (or_right (calls other update.left_x) (second_calls other update.left_y) (ap (second_calls other) (sym is) ∙ c)))
 
   pub row_comes : (number : ℕ) (point : Environment)
-      → index_of (inlined (valuing (wanted number)) (flags pipeline schedule) pipeline.funcs place (variable point)) update.left_y
+      → index_of (inlined (valuing (wanted number)) (flags pipeline schedule) pipeline.funcs func_index (variable point)) update.left_y
       ≡ index_value (reads_of inputs earlier) point update.left_y
   row_comes number point = row_by number point update.left_y refl formed.left_y
 
-  reaching_right : (number other : ℕ) → other < suc place → calls other update.right ≡ true → reached pipeline schedule other ≡ true
-  reaching_right number other below c = elim (cases_lt other place) [
+  reaching_right : (number other : ℕ) → other < suc func_index → calls other update.right ≡ true → reached pipeline schedule other ≡ true
+  reaching_right number other below c = elim (cases_lt other func_index) [
     | inl l ↦
-        reaching pipeline schedule rules accepted (wanted number) place reached_here update.right
+        reaching pipeline schedule rules accepted (wanted number) func_index reached_here update.right
         (λ o e. calling o (or_right (calls o update.left_x || second_calls o update.left_y) (calls o update.right) e)) other l c
-    | inr l ↦ let same : other ≡ place = omega (arith, l, below) in ap (reached pipeline schedule) same ∙ reached_here
+    | inr l ↦ let same : other ≡ func_index = omega (arith, l, below) in ap (reached pipeline schedule) same ∙
+        reached_here
   ]
 
-  pub right_comes : (number : ℕ) (point : Environment) → inlined (valuing (wanted number)) (flags pipeline schedule) pipeline.funcs (suc place) (variable point)
+  pub right_comes : (number : ℕ) (point : Environment) → inlined (valuing (wanted number)) (flags pipeline schedule) pipeline.funcs (suc func_index) (variable point)
       update.right ≡ value (wanted number) point update.right
   right_comes number point =
-      sym (sees_inlined_values (wanted number) (flags pipeline schedule) pipeline.funcs (suc place) point update.right)
-      ∙ ap (λ (s : Seen). s.value) (same_seen pipeline schedule rules accepted (wanted number) (suc place) point has update.right formed.right
+      sym (sees_inlined_values (wanted number) (flags pipeline schedule) pipeline.funcs (suc func_index) point
+      update.right)
+      ∙ ap (λ (s : Seen). s.value) (same_seen pipeline schedule rules accepted (wanted number) (suc func_index) point has update.right formed.right
       (reaching_right number))
-      ∙ sees_inlined_values (wanted number) (put pipeline schedule) pipeline.funcs (suc place) point update.right
+      ∙ sees_inlined_values (wanted number) (put pipeline schedule) pipeline.funcs (suc func_index) point update.right
       ∙ inlining_keeps_updates (wanted number) (put pipeline schedule) pipeline.inputs pipeline.funcs inputs rules.funcs (put_simple pipeline schedule accepted)
-      place (stands number) plain (answers number) (own_answers number) has
+      func_index (stands number) plain (answers number) (own_answers number) has
       point update.right formed.right
 
   -- ---- what is written, by whom reads are answered as wanted
@@ -215,66 +218,68 @@ module _ (pipeline : Pipeline) (schedule : Schedule) (rules : IsWellFormed pipel
     abbrev pub right : ℕ
     right = value (wanted number) point update.right
 
-    column_seen : (seen_in pipeline schedule (wanted number) place point update.left_x).value ≡ column
-    column_seen = sees_inlined_values (wanted number) (flags pipeline schedule) pipeline.funcs place point update.left_x ∙ left_comes number point
+    column_seen : (seen_in pipeline schedule (wanted number) func_index point update.left_x).value ≡ column
+    column_seen = sees_inlined_values (wanted number) (flags pipeline schedule) pipeline.funcs func_index point update.left_x ∙ left_comes number point
 
-    row_seen_by : (index : Option Expr) → (second_seen pipeline schedule (wanted number) place point index).value
-        ≡ index_of (inlined (valuing (wanted number)) (flags pipeline schedule) pipeline.funcs place (variable point)) index
+    row_seen_by : (index : Option Expr) → (second_seen pipeline schedule (wanted number) func_index point index).value
+        ≡ index_of (inlined (valuing (wanted number)) (flags pipeline schedule) pipeline.funcs func_index (variable point)) index
     row_seen_by None = refl
-    row_seen_by (Some index) = sees_inlined_values (wanted number) (flags pipeline schedule) pipeline.funcs place point index
+    row_seen_by (Some index) = sees_inlined_values (wanted number) (flags pipeline schedule) pipeline.funcs func_index point index
 
-    row_seen : (second_seen pipeline schedule (wanted number) place point update.left_y).value ≡ row
+    row_seen : (second_seen pipeline schedule (wanted number) func_index point update.left_y).value ≡ row
     row_seen = row_seen_by update.left_y ∙ row_comes number point
 
     -- what holds of all that is read holds of the point that the left side names
-    pub of_target : (P : Point → Type 0) → AllByRecursion P (update_points pipeline schedule (wanted number) place update number x y)
-        → P (record { source = sources.Func place; x = column; y = row })
+    pub of_target : (P : Point → Type 0) → AllByRecursion P (update_points pipeline schedule (wanted number) func_index update number x y)
+        → P (record { source = sources.Func func_index; x = column; y = row })
     of_target P all =
-        let a = all_parts P (seen_in pipeline schedule (wanted number) place point update.left_x).points _ all in
-        let b = all_parts P (second_seen pipeline schedule (wanted number) place point update.left_y).points _ a.1 in
-        subst (λ (n : ℕ). P (record { source = sources.Func place; x = n; y = row })) column_seen
-        (subst (λ (n : ℕ). P (record { source = sources.Func place; x = (seen_in pipeline schedule (wanted number) place point update.left_x).value; y = n }))
+        let a = all_parts P (seen_in pipeline schedule (wanted number) func_index point update.left_x).points _ all in
+        let b = all_parts P (second_seen pipeline schedule (wanted number) func_index point update.left_y).points _ a.1
+        in
+        subst (λ (n : ℕ). P (record { source = sources.Func func_index; x = n; y = row })) column_seen
+        (subst (λ (n : ℕ). P (record { source = sources.Func func_index; x = (seen_in pipeline schedule (wanted number) func_index point update.left_x).value; y = n }))
         row_seen b.1.0)
 
-    module _ (found : Reads) (agree : Agree (wanted number) found (update_points pipeline schedule (wanted number) place update number x y)) where
-      first_part : AllByRecursion (AgreeAt (wanted number) found) (seen_in pipeline schedule (wanted number) place point update.left_x).points
-          × AllByRecursion (AgreeAt (wanted number) found)
-          ((second_seen pipeline schedule (wanted number) place point update.left_y).points
+    module _ (found_reads : Reads) (agree : Agree (wanted number) found_reads (update_points pipeline schedule (wanted number) func_index update number x y)) where
+      first_part : AllByRecursion (AgreeAt (wanted number) found_reads) (seen_in pipeline schedule (wanted number) func_index point update.left_x).points
+          × AllByRecursion (AgreeAt (wanted number) found_reads)
+          ((second_seen pipeline schedule (wanted number) func_index point update.left_y).points
           ++ (record {
-            source = sources.Func place;
-            x = (seen_in pipeline schedule (wanted number) place point update.left_x).value;
-            y = (second_seen pipeline schedule (wanted number) place point update.left_y).value;
-          } ∷ (seen_in pipeline schedule (wanted number) (suc place) point update.right).points))
-      first_part = all_parts (AgreeAt (wanted number) found) (seen_in pipeline schedule (wanted number) place point update.left_x).points _ agree
+            source = sources.Func func_index;
+            x = (seen_in pipeline schedule (wanted number) func_index point update.left_x).value;
+            y = (second_seen pipeline schedule (wanted number) func_index point update.left_y).value;
+          } ∷ (seen_in pipeline schedule (wanted number) (suc func_index) point update.right).points))
+      first_part = all_parts (AgreeAt (wanted number) found_reads) (seen_in pipeline schedule (wanted number) func_index point update.left_x).points _ agree
 
-      second_part : AllByRecursion (AgreeAt (wanted number) found) (second_seen pipeline schedule (wanted number) place point update.left_y).points
-          × AllByRecursion (AgreeAt (wanted number) found)
+      second_part : AllByRecursion (AgreeAt (wanted number) found_reads) (second_seen pipeline schedule (wanted number) func_index point update.left_y).points
+          × AllByRecursion (AgreeAt (wanted number) found_reads)
           (record {
-            source = sources.Func place;
-            x = (seen_in pipeline schedule (wanted number) place point update.left_x).value;
-            y = (second_seen pipeline schedule (wanted number) place point update.left_y).value;
-          } ∷ (seen_in pipeline schedule (wanted number) (suc place) point update.right).points)
-      second_part = all_parts (AgreeAt (wanted number) found) (second_seen pipeline schedule (wanted number) place point update.left_y).points _ first_part.1
+            source = sources.Func func_index;
+            x = (seen_in pipeline schedule (wanted number) func_index point update.left_x).value;
+            y = (second_seen pipeline schedule (wanted number) func_index point update.left_y).value;
+          } ∷ (seen_in pipeline schedule (wanted number) (suc func_index) point update.right).points)
+      second_part = all_parts (AgreeAt (wanted number) found_reads) (second_seen pipeline schedule (wanted number) func_index point update.left_y).points _ first_part.1
 
-      pub column_found : inlined (valuing found) (flags pipeline schedule) pipeline.funcs place (variable point) update.left_x ≡ column
-      column_found = inlined_values_depend_on_reads (wanted number) found (flags pipeline schedule) pipeline.funcs place point update.left_x first_part.0
+      pub column_found : inlined (valuing found_reads) (flags pipeline schedule) pipeline.funcs func_index (variable point) update.left_x ≡ column
+      column_found = inlined_values_depend_on_reads (wanted number) found_reads (flags pipeline schedule) pipeline.funcs func_index point update.left_x first_part.0
           ∙ left_comes number point
 
-      row_found_by : (index : Option Expr) → AllByRecursion (AgreeAt (wanted number) found) (second_seen pipeline schedule (wanted number) place point
+      row_found_by : (index : Option Expr) → AllByRecursion (AgreeAt (wanted number) found_reads) (second_seen pipeline schedule (wanted number) func_index point
           index).points
-          → index_of (inlined (valuing found) (flags pipeline schedule) pipeline.funcs place (variable point)) index
-          ≡ index_of (inlined (valuing (wanted number)) (flags pipeline schedule) pipeline.funcs place (variable point)) index
+          → index_of (inlined (valuing found_reads) (flags pipeline schedule) pipeline.funcs func_index
+          (variable point)) index
+          ≡ index_of (inlined (valuing (wanted number)) (flags pipeline schedule) pipeline.funcs func_index (variable point)) index
       row_found_by None all = refl
-      row_found_by (Some index) all = inlined_values_depend_on_reads (wanted number) found (flags pipeline schedule) pipeline.funcs place point index all
+      row_found_by (Some index) all = inlined_values_depend_on_reads (wanted number) found_reads (flags pipeline schedule) pipeline.funcs func_index point index all
 
-      pub row_found : index_of (inlined (valuing found) (flags pipeline schedule) pipeline.funcs place (variable point)) update.left_y ≡ row
+      pub row_found : index_of (inlined (valuing found_reads) (flags pipeline schedule) pipeline.funcs func_index (variable point)) update.left_y ≡ row
       row_found = row_found_by update.left_y second_part.0 ∙ row_comes number point
 
-      pub right_found : inlined (valuing found) (flags pipeline schedule) pipeline.funcs (suc place) (variable point) update.right ≡ right
-      right_found = inlined_values_depend_on_reads (wanted number) found (flags pipeline schedule) pipeline.funcs (suc place) point update.right second_part.1.1
+      pub right_found : inlined (valuing found_reads) (flags pipeline schedule) pipeline.funcs (suc func_index) (variable point) update.right ≡ right
+      right_found = inlined_values_depend_on_reads (wanted number) found_reads (flags pipeline schedule) pipeline.funcs (suc func_index) point update.right second_part.1.1
           ∙ right_comes number point
 
-    -- ---- what stands after one more point, in the slice
+    -- ---- what is after one more point, in the slice
 
     pub one_more : (i j : ℕ) → (is_first_in_place update ≡ true → i ≡ x) → (is_second_in_place update ≡ true → j ≡ y)
         → stands (suc number) i j ≡ cond (column == i && row == j) right (stands number i j)

@@ -52,111 +52,114 @@ use Rattle.lowering.proofs.UpdateVisits.{all_listed, all_in_order, all_within}
 
 module _ (pipeline : Pipeline) (schedule : Schedule) (boxes : Boxes) (rules : IsWellFormed pipeline) (accepted : IsAccepted pipeline schedule)
     (is : inferred pipeline schedule ≡ Ok boxes)
-    (corners : List Corner) (place : ℕ) (func : Func) (plan : FuncPlan) (own : SourceBox) (at_it : IsComputedIn pipeline schedule boxes place func plan own)
-    (at : ℕ) (update : Update) (stage : Stage) (it : IsUpdateAt schedule place func plan at update stage)
-    (corner : Corner) (corner_there : slice_get corners place ≡ Some corner)
-    (store : Stmt) (stores : StoresUpdate corners (flags pipeline schedule) pipeline.funcs place corner update store)
-    (made : Stmt) (repeats : Repeats place made store (wholes (update_extents own update) stage.splits stage.loops)) where
+    (corners : List Corner) (func_index : ℕ) (func : Func) (plan : FuncPlan) (source_box : SourceBox) (at_it : IsComputedIn pipeline schedule boxes func_index func plan source_box)
+    (at : ℕ) (update : Update) (stage : Stage) (it : IsUpdateAt schedule func_index func plan at update stage)
+    (corner : Corner) (corner_there : slice_get corners func_index ≡ Some corner)
+    (store : Stmt) (stores : StoresUpdate corners (flags pipeline schedule) pipeline.funcs func_index corner update
+    store)
+    (statement : Stmt) (repeats : Repeats func_index statement store (wholes (update_extents source_box update) stage.splits stage.loops)) where
   abbrev extents : Extents
-  extents = update_extents own update
+  extents = update_extents source_box update
 
   stage_facts : IsStageOf func (Some update) stage × KeepsRules stage
-  stage_facts = staged pipeline schedule accepted place func plan at_it.standing at_it.func_is at_it.there at update stage it
+  stage_facts = staged pipeline schedule accepted func_index func plan at_it.standing at_it.func_is at_it.there at update stage it
 
   abbrev list : List loops.Values
   list = wholes extents stage.splits stage.loops zeros
 
   abbrev in_all : ℕ → ℕ → Bool
-  in_all i j = has_point (Some own) i j
+  in_all i j = has_point (Some source_box) i j
 
   all_visits : AllByRecursion (IsVisitOf func (Some update) extents) (map (visit_of extents) list)
-  all_visits = subst (λ (l : List Visit). AllByRecursion (IsVisitOf func (Some update) extents) l) (all_listed func update extents stage stage_facts.0 place)
-      (all_within func update extents stage stage_facts.0 place)
+  all_visits = subst (λ (l : List Visit). AllByRecursion (IsVisitOf func (Some update) extents) l) (all_listed func update extents stage stage_facts.0 func_index)
+      (all_within func update extents stage stage_facts.0 func_index)
 
   reduced : AllByRecursion (λ inner. inner (ids.Whole variables.FirstReduction) < update.first.extent) list
   reduced = within func (Some update) extents stage stage.loops [] variables.FirstReduction zeros stage_facts.0 (sym (append-nil stage.loops))
       (has_reduction func update) tt
 
-  closed : AllByRecursion (λ visit. (i j : ℕ) → has_point (Some own) i j ≡ true → is_visited update i j visit ≡ true
-      → has_point (Some own) i j ≡ true) (map (visit_of extents) list)
+  closed : AllByRecursion (λ visit. (i j : ℕ) → has_point (Some source_box) i j ≡ true
+      → is_visited update i j visit ≡ true
+      → has_point (Some source_box) i j ≡ true) (map (visit_of extents) list)
   closed =
       all_so (λ visit. (test : Visit → Bool) → test visit ≡ true → list_any test (map (visit_of extents) list) ≡ true) (λ visit. (i j : ℕ)
-      → has_point (Some own) i j ≡ true → is_visited update i j visit ≡ true → has_point (Some own) i j ≡ true)
+      → has_point (Some source_box) i j ≡ true → is_visited update i j visit ≡ true
+      → has_point (Some source_box) i j ≡ true)
       (λ visit member i j boxed on. boxed) (map (visit_of extents) list) (members (map (visit_of extents) list))
 
-  in_order : (i j : ℕ) → has_point (Some own) i j ≡ true
+  in_order : (i j : ℕ) → has_point (Some source_box) i j ≡ true
       → slice (in_place (is_first_in_place update) i) (in_place (is_second_in_place update) j) (map (visit_of extents) list)
       ≡ rising (in_place (is_first_in_place update) i) (in_place (is_second_in_place update) j) 0 (points update)
   in_order i j e =
       let c = in_place (is_first_in_place update) i in
       let r = in_place (is_second_in_place update) j in
-      ap (slice c r) (sym (all_listed func update extents stage stage_facts.0 place))
-      ∙ all_in_order func update extents stage stage_facts.0 place c r
-      (slice_there func update own pipeline.inputs pipeline.funcs place ((rules.funcs place func at_it.func_is).updates at update it.update_is) i j e)
-      ∙ ap (rising c r 0) (points_are func update own)
+      ap (slice c r) (sym (all_listed func update extents stage stage_facts.0 func_index))
+      ∙ all_in_order func update extents stage stage_facts.0 func_index c r
+      (slice_there func update source_box pipeline.inputs pipeline.funcs func_index ((rules.funcs func_index func at_it.func_is).updates at update it.update_is) i j e)
+      ∙ ap (rising c r 0) (points_are func update source_box)
 
-  own_read : (inputs : Planes) (begin : BoxCorner) (values : Values) → IsCornerAt place values corner begin → ReadsOwn corners place values inputs begin
+  own_read : (inputs : Planes) (begin : BoxCorner) (values : Values) → IsCornerAt func_index values corner begin → ReadsOwn corners func_index values inputs begin
   unfolding placed
   own_read inputs begin values corner_is inner buffers a b = rw (corner_there, (corner_is inner).0, (corner_is inner).1) refl
 
-  pub does_nest : DoesUpdate pipeline schedule boxes corners place func corner own at update made
+  pub does_nest : DoesUpdate pipeline schedule boxes corners func_index func corner source_box at update statement
   does_nest inputs begun standing there iterations below begin begins values corner_is not_begun funcs reads_others holds =
       record {
-        does = λ i j e. ap (λ (f : Planes). f place i j) ran ∙ left i j e;
+        does = λ i j e. ap (λ (f : Planes). f func_index i j) ran ∙ left i j e;
         keeps = λ other i j free. ap (λ (f : Planes). f other i j) ran ∙ kept other i j free;
       }
     where
-      computed : IsComputed place standing.place
-      computed = subst (λ (s : FuncPlacement). IsComputed place s.place) (one_standing schedule.standings place at_it.standing standing at_it.there.standing
+      computed : IsComputed func_index standing.place
+      computed = subst (λ (s : FuncPlacement). IsComputed func_index s.place) (one_standing schedule.standings func_index at_it.standing standing at_it.there.standing
           there.standing) at_it.computed
 
-      begun_none : loops_of place values ≡ zeros
+      begun_none : loops_of func_index values ≡ zeros
       begun_none = fun_ext not_begun
 
-      small : AreSmall (loops_of place values)
+      small : AreSmall (loops_of func_index values)
       small id = omega (arith, not_begun id)
 
-      ran : run (box_points boxes.funcs) inputs made values funcs ≡ all (λ inner. run (box_points boxes.funcs) inputs store (put_loops place inner values)) list
+      ran : run (box_points boxes.funcs) inputs statement values funcs ≡ all (λ inner. run (box_points boxes.funcs) inputs store (put_loops func_index inner values)) list
           funcs
       ran =
           repeats.runs (box_points boxes.funcs) inputs values funcs small
-          ∙ ap (λ (t : loops.Values). all (λ inner. run (box_points boxes.funcs) inputs store (put_loops place inner values)) (wholes extents stage.splits
+          ∙ ap (λ (t : loops.Values). all (λ inner. run (box_points boxes.funcs) inputs store (put_loops func_index inner values)) (wholes extents stage.splits
           stage.loops t) funcs) begun_none
 
-      reads_own : ReadsOwn corners place values inputs begin
+      reads_own : ReadsOwn corners func_index values inputs begin
       reads_own = own_read inputs begin values corner_is
 
-      left : (i j : ℕ) → has_point (Some own) i j ≡ true → all (λ inner. run (box_points boxes.funcs) inputs store (put_loops place inner values)) list funcs
-          place i j ≡ stage_from pipeline inputs place func begin (suc at) i j
+      left : (i j : ℕ) → has_point (Some source_box) i j ≡ true → all (λ inner. run (box_points boxes.funcs) inputs store (put_loops func_index inner values)) list funcs
+          func_index i j ≡ stage_from pipeline inputs func_index func begin (suc at) i j
       left i j e =
-          leaves pipeline schedule boxes rules accepted is place func own at_it.func_is at_it.box_is standing there computed at update it.update_is inputs begun
+          leaves pipeline schedule boxes rules accepted is func_index func source_box at_it.func_is at_it.box_is standing there computed at update it.update_is inputs begun
           iterations below begin begins corners values corner corner_is reads_own
           store stores funcs reads_others list all_visits reduced in_all (λ i j e. e) closed in_order holds i j e
 
-      kept : (other i j : ℕ) → (other ≡ place → has_point (Some own) i j ≡ false)
-          → all (λ inner. run (box_points boxes.funcs) inputs store (put_loops place inner values)) list funcs other i j ≡ funcs other i j
+      kept : (other i j : ℕ) → (other ≡ func_index → has_point (Some source_box) i j ≡ false)
+          → all (λ inner. run (box_points boxes.funcs) inputs store (put_loops func_index inner values)) list funcs other i j ≡ funcs other i j
       kept other i j free =
-          stays pipeline schedule boxes rules accepted is place func own at_it.func_is at_it.box_is standing there computed at update it.update_is inputs begun
+          stays pipeline schedule boxes rules accepted is func_index func source_box at_it.func_is at_it.box_is standing there computed at update it.update_is inputs begun
           iterations below begin begins corners values corner corner_is reads_own
           store stores funcs reads_others list all_visits reduced in_all (λ i j e. e) closed in_order holds other i j free
 
   -- ---- what it touches
 
-  pub sound_nest : IsSoundUpdate corners (flags pipeline schedule) pipeline.funcs place corner update store
-      → AreSoundLoops pipeline schedule boxes corners place corner own update made
+  pub sound_nest : IsSoundUpdate corners (flags pipeline schedule) pipeline.funcs func_index corner update store
+      → AreSoundLoops pipeline schedule boxes corners func_index corner source_box update statement
   sound_nest sound reads words written loaded writes loads standing there iterations below begin begins values corner_is not_begun others =
       repeats.sound reads written loaded values (λ id. omega (arith, not_begun id))
-      ∙ ap (λ (t : loops.Values). list_all (λ inner. is_sound reads written loaded store (put_loops place inner values)) (wholes extents stage.splits
+      ∙ ap (λ (t : loops.Values). list_all (λ inner. is_sound reads written loaded store (put_loops func_index inner values)) (wholes extents stage.splits
       stage.loops t)) (fun_ext not_begun)
-      ∙ all_pass (λ inner. is_sound reads written loaded store (put_loops place inner values)) list
-      (all_sound pipeline schedule boxes rules is place func own at_it.func_is at_it.box_is standing there computed at update it.update_is iterations below begin
+      ∙ all_pass (λ inner. is_sound reads written loaded store (put_loops func_index inner values)) list
+      (all_sound pipeline schedule boxes rules is func_index func source_box at_it.func_is at_it.box_is standing there computed at update it.update_is iterations below begin
       begins corners values corner corner_is store sound
       reads words written loaded own_placed others in_all writes loads list all_visits reduced closed)
     where
-      computed : IsComputed place standing.place
-      computed = subst (λ (s : FuncPlacement). IsComputed place s.place) (one_standing schedule.standings place at_it.standing standing at_it.there.standing
+      computed : IsComputed func_index standing.place
+      computed = subst (λ (s : FuncPlacement). IsComputed func_index s.place) (one_standing schedule.standings func_index at_it.standing standing at_it.there.standing
           there.standing) at_it.computed
 
-      own_placed : (inner : loops.Values) (a b : ℕ) → place_in corners (put_loops place inner values) (record { source = sources.Func place; x = a; y = b })
-          ≡ record { source = sources.Func place; x = word.subtract a begin.x; y = word.subtract b begin.y }
+      own_placed : (inner : loops.Values) (a b : ℕ) → place_in corners (put_loops func_index inner values) (record { source = sources.Func func_index; x = a; y = b })
+          ≡ record { source = sources.Func func_index; x = word.subtract a begin.x; y = word.subtract b begin.y }
       own_placed inner a b = rw (corner_there, (corner_is inner).0, (corner_is inner).1) refl

@@ -16,7 +16,7 @@ use Rattle.halide_pipeline.specs.Points.{Point}
 use Rattle.schedule_lines.specs.declared.stages.Stage.{Stage}
 use Rattle.schedule.specs.declared.plans.FuncPlan.{FuncPlan}
 use Rattle.schedule.specs.declared.schedules.Schedule.{Schedule}
-use Rattle.schedule.specs.declared.placements.LoopPlace.{LoopPlace}
+use Rattle.schedule.specs.declared.placements.LoopPosition.{LoopPosition}
 use Rattle.schedule.specs.declared.placements.ComputeLevel.{ComputeLevel}
 use Rattle.schedule.specs.declared.placements.ComputeLevel.TheVariants as places
 use Rattle.schedule.specs.declared.placements.FuncPlacement.{FuncPlacement}
@@ -63,9 +63,9 @@ no_stage (first ∷ others) at stage found none = omega (arith, none)
 
 module _ (pipeline : Pipeline) (schedule : Schedule) (accepted : IsAccepted pipeline schedule) where
   -- No Func is computed at a loop of one with an update.
-  pub consumers_none : (place : ℕ) (plan : FuncPlan) (at : ℕ) (stage : Stage) → slice_get schedule.funcs place ≡ Some plan
-      → slice_get plan.updates at ≡ Some stage → ConsumersNone schedule.standings place
-  consumers_none place plan at stage plan_is stage_is other own consumer there place_is same =
+  pub consumers_none : (func_index : ℕ) (plan : FuncPlan) (at : ℕ) (stage : Stage) → slice_get schedule.funcs func_index ≡ Some plan
+      → slice_get plan.updates at ≡ Some stage → ConsumersNone schedule.standings func_index
+  consumers_none func_index plan at stage plan_is stage_is other own consumer there place_is same =
       let here : 0 + other ≡ other = omega arith in
       let produced : IsProduced pipeline schedule.funcs other own =
       subst (λ (n : ℕ). IsProduced pipeline schedule.funcs n own) here (numbered_at (IsProduced pipeline schedule.funcs) 0 schedule.standings accepted.consumers
@@ -76,14 +76,15 @@ module _ (pipeline : Pipeline) (schedule : Schedule) (accepted : IsAccepted pipe
       no_stage plan.updates at stage stage_is (ap (λ (p : FuncPlan). length p.updates) (sym plan_same) ∙ h.no_updates)
 
   -- So nothing that is computed at a loop is read by a root that consumers none.
-  pub none_within : (place : ℕ) (its : FuncPlacement) → IsReached schedule.standings place its → its.place ≡ places.Root → ConsumersNone schedule.standings place
-      → (k : ℕ) (w : IsReadWithin schedule place k) (consumer : LoopPlace) → w.own.place ≡ places.At consumer → ⊥
-  none_within place its there root none k w consumer e = by_stand (w.within consumer e)
+  pub none_within : (func_index : ℕ) (its : FuncPlacement) → IsReached schedule.standings func_index its → its.place ≡ places.Root → ConsumersNone schedule.standings func_index
+      → (k : ℕ) (w : IsReadWithin schedule func_index k) (consumer : LoopPosition) → w.own.place ≡ places.At consumer
+      → ⊥
+  none_within func_index its there root none k w consumer e = by_stand (w.within consumer e)
     where
-      by_stand : StandsAt schedule consumer place → ⊥
+      by_stand : StandsAt schedule consumer func_index → ⊥
       by_stand (HasLoop same) = none k w.own consumer w.there e (sym same)
       by_stand (IsWithin standing other there_too other_place inside) =
-          let same = one_standing schedule.standings place standing its there_too.standing there.standing in
+          let same = one_standing schedule.standings func_index standing its there_too.standing there.standing in
           let wrong : places.At other ≡ places.Root = sym other_place ∙ ap (λ (s : FuncPlacement). s.place) same ∙ root in
           cc
 
@@ -95,32 +96,33 @@ module _ (pipeline : Pipeline) (schedule : Schedule) (accepted : IsAccepted pipe
 
 module _ (pipeline : Pipeline) (schedule : Schedule) (boxes : Boxes) (rules : IsWellFormed pipeline) (accepted : IsAccepted pipeline schedule)
     (is : inferred pipeline schedule ≡ Ok boxes)
-    (place : ℕ) (func : Func) (plan : FuncPlan) (own : SourceBox) (at : IsAtRoot pipeline schedule boxes place func plan own)
-    (number_at : ℕ) (update : Update) (stage : Stage) (it : IsUpdateAt schedule place func plan number_at update stage)
+    (func_index : ℕ) (func : Func) (plan : FuncPlan) (source_box : SourceBox) (at : IsAtRoot pipeline schedule boxes func_index func plan source_box)
+    (number_at : ℕ) (update : Update) (stage : Stage) (it : IsUpdateAt schedule func_index func plan number_at update
+    stage)
     (inputs : Planes) (begun : AnswerWords pipeline.inputs (reads_of inputs (pixels pipeline.funcs inputs 0)))
     (corners : List Corner) (are : AreCorners schedule.funcs boxes.funcs schedule.standings corners) (before : Values) (buffers : Planes)
-    (hold : (k x y : ℕ) → (k ≡ place → ⊥) → is_private schedule.standings k ≡ false → box_points boxes.funcs k x y ≡ true
-    → buffers k x y ≡ held boxes.funcs (pixels pipeline.funcs inputs place) k x y) where
-  computed : IsComputed place at.standing.place
-  computed = subst (λ (p : ComputeLevel). IsComputed place p) (sym at.placed_is) tt
+    (hold : (k x y : ℕ) → (k ≡ func_index → ⊥) → is_private schedule.standings k ≡ false → box_points boxes.funcs k x y ≡ true
+    → buffers k x y ≡ held boxes.funcs (pixels pipeline.funcs inputs func_index) k x y) where
+  computed : IsComputed func_index at.standing.place
+  computed = subst (λ (p : ComputeLevel). IsComputed func_index p) (sym at.placed_is) tt
 
-  plain : flagged (flags_of schedule.standings) place ≡ false
-  plain = flag_is schedule.standings place at.standing at.there.standing ∙ ap is_inlined at.placed_is
+  plain : flagged (flags_of schedule.standings) func_index ≡ false
+  plain = flag_is schedule.standings func_index at.standing at.there.standing ∙ ap is_inlined at.placed_is
 
-  none_produced : ConsumersNone schedule.standings place
-  none_produced = consumers_none pipeline schedule accepted place plan number_at stage it.plan_is it.stage_is
+  none_produced : ConsumersNone schedule.standings func_index
+  none_produced = consumers_none pipeline schedule accepted func_index plan number_at stage it.plan_is it.stage_is
 
   -- ---- which Funcs are read
 
-  somewhere : (k : ℕ) → k < place → (standing : FuncPlacement) → IsReached schedule.standings k standing → is_nowhere standing.place ≡ false
-  somewhere k earlier standing there =
-      let f = some_before pipeline.funcs place k func at.func_is earlier in
+  somewhere : (k : ℕ) → k < func_index → (placement : FuncPlacement) → IsReached schedule.standings k placement → is_nowhere placement.place ≡ false
+  somewhere k earlier placement there =
+      let f = some_before pipeline.funcs func_index k func at.func_is earlier in
       let p = pair_there IsPlan pipeline.funcs schedule.funcs k f.value accepted.plans f.is in
-      (pair_at IsLegal schedule.funcs schedule.standings k p.value standing accepted.legal p.is there.standing there.reached).somewhere
+      (pair_at IsLegal schedule.funcs schedule.standings k p.value placement accepted.legal p.is there.standing there.reached).somewhere
 
-  root_read : (k : ℕ) (w : IsReadWithin schedule place k) → flagged (flags_of schedule.standings) k ≡ false → (p : ComputeLevel) → w.own.place ≡ p → p ≡ places.Root
+  root_read : (k : ℕ) (w : IsReadWithin schedule func_index k) → flagged (flags_of schedule.standings) k ≡ false → (p : ComputeLevel) → w.own.place ≡ p → p ≡ places.Root
   root_read k w unflagged places.Root e = refl
-  root_read k w unflagged (places.At consumer) e = absurd (none_within pipeline schedule accepted place at.standing at.there at.placed_is none_produced k w
+  root_read k w unflagged (places.At consumer) e = absurd (none_within pipeline schedule accepted func_index at.standing at.there at.placed_is none_produced k w
       consumer e)
   root_read k w unflagged places.Inlined e = absurd (true≢false (sym (flag_is schedule.standings k w.own w.there.standing ∙ ap is_inlined e) ∙ unflagged))
   root_read k w unflagged places.Nowhere e = absurd (true≢false (sym (ap is_nowhere e) ∙ somewhere k w.before w.own w.there))
@@ -128,18 +130,18 @@ module _ (pipeline : Pipeline) (schedule : Schedule) (boxes : Boxes) (rules : Is
   -- ---- a point that is read
 
   abbrev found : loops.Values → Reads
-  found inner = placed corners (put_loops place inner before) (reads_of inputs buffers)
+  found inner = placed corners (put_loops func_index inner before) (reads_of inputs buffers)
 
   abbrev wanted : Reads
-  wanted = reads_of inputs (pixels pipeline.funcs inputs place)
+  wanted = reads_of inputs (pixels pipeline.funcs inputs func_index)
 
   module _ (inner : loops.Values) where
     found_in : (k a b : ℕ) (box : SourceBox) (sought : FuncPlacement) → slice_get schedule.standings k ≡ Some sought → sought.place ≡ places.Root
-        → slice_get boxes.funcs k ≡ Some (Some box) → LiesIn no_loops box a b → box.lasts ≡ no_loops → is_private schedule.standings k ≡ false → k < place
+        → slice_get boxes.funcs k ≡ Some (Some box) → LiesIn no_loops box a b → box.lasts ≡ no_loops → is_private schedule.standings k ≡ false → k < func_index
         → found inner (sources.Func k) a b ≡ wanted (sources.Func k) a b
     unfolding placed
     found_in k a b box sought sought_is sought_root box_is lies lasts public_so earlier =
-        let now : Values = put_loops place inner before in
+        let now : Values = put_loops func_index inner before in
         let c = root_corner_at schedule boxes corners k box sought are box_is sought_is sought_root in
         let i = word.subtract a (word_at box.x.low) in
         let j = word.subtract b (word_at box.y.low) in
@@ -149,11 +151,11 @@ module _ (pipeline : Pipeline) (schedule : Schedule) (boxes : Boxes) (rules : Is
         rw box_is (and_from (nat_lt i (extent box.x)) (nat_lt j (extent box.y)) (lt-ltb i (extent box.x) (offset_within box.x a first)) (lt-ltb j (extent box.y)
         (offset_within box.y b second))) in
         let lies_at : found inner (sources.Func k) a b ≡ buffers k i j = rw (c.there, (c.is now).0, (c.is now).1) refl in
-        let held_so : held boxes.funcs (pixels pipeline.funcs inputs place) k i j ≡ pixels pipeline.funcs inputs place k (word.add (word_at box.x.low) i)
+        let held_so : held boxes.funcs (pixels pipeline.funcs inputs func_index) k i j ≡ pixels pipeline.funcs inputs func_index k (word.add (word_at box.x.low) i)
         (word.add (word_at box.y.low) j) = rw box_is refl in
         lies_at ∙ hold k i j (λ e. omega (arith, e, earlier)) public_so inside ∙ held_so
-        ∙ ap (λ (n : ℕ). pixels pipeline.funcs inputs place k n (word.add (word_at box.y.low) j)) (offset_back box.x a first)
-        ∙ ap (λ (n : ℕ). pixels pipeline.funcs inputs place k a n) (offset_back box.y b second)
+        ∙ ap (λ (n : ℕ). pixels pipeline.funcs inputs func_index k n (word.add (word_at box.y.low) j)) (offset_back box.x a first)
+        ∙ ap (λ (n : ℕ). pixels pipeline.funcs inputs func_index k a n) (offset_back box.y b second)
 
     lasts_at : (k : ℕ) (sought : FuncPlacement) → IsReached schedule.standings k sought → sought.place ≡ places.Root → (box : SourceBox)
         → slice_get boxes.funcs k ≡ Some (Some box) → box.lasts ≡ no_loops
@@ -164,32 +166,33 @@ module _ (pipeline : Pipeline) (schedule : Schedule) (boxes : Boxes) (rules : Is
 
     -- what is known of points that are read
     record AreRead (list : List Point) : Type 0 where
-      funcs : (k : ℕ) (sought : FuncPlacement) → k < place → IsReached schedule.standings k sought → sought.place ≡ places.Root
+      funcs : (k : ℕ) (sought : FuncPlacement) → k < func_index → IsReached schedule.standings k sought → sought.place ≡ places.Root
           → AreBoxed no_loops (sources.Func k) (slice_get boxes.funcs k) list
-      through : AreReadThrough pipeline schedule.standings place (suc place) list
+      through : AreReadThrough pipeline schedule.standings func_index (suc func_index) list
 
     one_found : (s : Source) (a b : ℕ) (list : List Point) → AreRead (record { source = s; x = a; y = b } ∷ list)
-        → IsReadThrough pipeline schedule.standings place (suc place) s → same_source s (sources.Func place) ≡ false
+        → IsReadThrough pipeline schedule.standings func_index (suc func_index) s
+        → same_source s (sources.Func func_index) ≡ false
         → found inner s a b ≡ wanted s a b
     unfolding placed
     one_found (sources.Input k) a b list r through differs = refl
-    one_found (sources.Func k) a b list r (unflagged, (few, inl e)) differs = absurd (true≢false (sym (eq-eqb k place e) ∙ differs))
+    one_found (sources.Func k) a b list r (unflagged, (few, inl e)) differs = absurd (true≢false (sym (eq-eqb k func_index e) ∙ differs))
     one_found (sources.Func k) a b list r (unflagged, (few, inr through)) differs =
-        let w = readers_stand_within pipeline schedule accepted place at.standing at.there computed k through in
+        let w = readers_stand_within pipeline schedule accepted func_index at.standing at.there computed k through in
         let root : w.own.place ≡ places.Root = root_read k w unflagged w.own.place refl in
-        by_box w root (slice_get boxes.funcs k) refl (some_before boxes.funcs place k (Some own) at.box_is w.before) ((r.funcs k w.own w.before w.there root).0
+        by_box w root (slice_get boxes.funcs k) refl (some_before boxes.funcs func_index k (Some source_box) at.box_is w.before) ((r.funcs k w.own w.before w.there root).0
         (same_self k))
       where
-        by_box : (w : IsReadWithin schedule place k) → w.own.place ≡ places.Root → (answer : Option (Option SourceBox)) → slice_get boxes.funcs k ≡ answer
+        by_box : (w : IsReadWithin schedule func_index k) → w.own.place ≡ places.Root → (answer : Option (Option SourceBox)) → slice_get boxes.funcs k ≡ answer
             → IsSome answer → IsBoxed no_loops answer a b
-            → found inner (sources.Func k) a b ≡ pixels pipeline.funcs inputs place k a b
+            → found inner (sources.Func k) a b ≡ pixels pipeline.funcs inputs func_index k a b
         by_box w root None e some lies = let wrong = some.is in absurd cc
         by_box w root (Some None) e some lies = absurd lies
         by_box w root (Some (Some box)) e some lies =
             found_in k a b box w.own w.there.standing root e lies (lasts_at k w.own w.there root box e) (roots_are_shared pipeline schedule accepted k w.own
             w.there root) w.before
 
-    all_found : (list : List Point) → AreRead list → AllByRecursion (λ point. same_source point.source (sources.Func place) ≡ false
+    all_found : (list : List Point) → AreRead list → AllByRecursion (λ point. same_source point.source (sources.Func func_index) ≡ false
         → found inner point.source point.x point.y ≡ wanted point.source point.x point.y) list
     all_found [] r = tt
     all_found (point ∷ list) r = (
@@ -197,29 +200,29 @@ module _ (pipeline : Pipeline) (schedule : Schedule) (boxes : Boxes) (rules : Is
       all_found list (record { funcs = λ k sought earlier there root. (r.funcs k sought earlier there root).1; through = r.through.1 }),
     )
 
-    module _ (number x y : ℕ) (few : number < points update) (lies : LiesIn no_loops own x y) (reads : Reads) (words : AnswerWords pipeline.inputs reads) where
-      lasts : own.lasts ≡ no_loops
-      lasts = no_lasts pipeline schedule boxes place func plan own accepted is at
+    module _ (number x y : ℕ) (few : number < points update) (lies : LiesIn no_loops source_box x y) (reads : Reads) (words : AnswerWords pipeline.inputs reads) where
+      lasts : source_box.lasts ≡ no_loops
+      lasts = no_lasts pipeline schedule boxes func_index func plan source_box accepted is at
 
-      below : Below no_loops own.lasts
+      below : Below no_loops source_box.lasts
       below = subst (λ (l : List ℕ). Below no_loops l) (sym lasts) no_below
 
-      are_read : AreRead (update_points pipeline schedule reads place update number x y)
+      are_read : AreRead (update_points pipeline schedule reads func_index update number x y)
       are_read = record {
         funcs = λ k sought earlier there root.
-            let near = points_are_near own (is_box pipeline schedule boxes place func plan own accepted is at) no_loops below x y lies in
-            update_reads_of_funcs_lie pipeline schedule boxes rules is place func own at.func_is at.box_is number_at update it.update_is k sought earlier
+            let near = points_are_near source_box (is_box pipeline schedule boxes func_index func plan source_box accepted is at) no_loops below x y lies in
+            update_reads_of_funcs_lie pipeline schedule boxes rules is func_index func source_box at.func_is at.box_is number_at update it.update_is k sought earlier
             there.standing there.reached
-            (subst (λ (p : ComputeLevel). IsComputed k p) (sym root) tt) None (ap (λ (p : ComputeLevel). consumer_in schedule boxes.funcs p) root) own refl reads words
+            (subst (λ (p : ComputeLevel). IsComputed k p) (sym root) tt) None (ap (λ (p : ComputeLevel). consumer_in schedule boxes.funcs p) root) source_box refl reads words
             no_loops below no_below x y lies near.0 near.1 number few;
-        through = update_points_are_read_through pipeline schedule rules place func at.func_is plain number_at update it.update_is reads number x y;
+        through = update_points_are_read_through pipeline schedule rules func_index func at.func_is plain number_at update it.update_is reads number x y;
       }
 
-      pub reads_found : AllByRecursion (λ point. same_source point.source (sources.Func place) ≡ false → found inner point.source point.x point.y
+      pub reads_found : AllByRecursion (λ point. same_source point.source (sources.Func func_index) ≡ false → found inner point.source point.x point.y
           ≡ wanted point.source point.x point.y)
-          (update_points pipeline schedule reads place update number x y)
-      reads_found = all_found (update_points pipeline schedule reads place update number x y) are_read
+          (update_points pipeline schedule reads func_index update number x y)
+      reads_found = all_found (update_points pipeline schedule reads func_index update number x y) are_read
 
-  pub reads_pixels : ReadsPixels pipeline schedule corners place update no_loops own inputs before buffers
+  pub reads_pixels : ReadsPixels pipeline schedule corners func_index update no_loops source_box inputs before buffers
   reads_pixels inner number x y few lies plane words = reads_found inner number x y few lies
-      (reads_of inputs (with_plane place plane (pixels pipeline.funcs inputs place))) words
+      (reads_of inputs (with_plane func_index plane (pixels pipeline.funcs inputs func_index))) words

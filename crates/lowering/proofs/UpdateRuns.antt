@@ -1,4 +1,4 @@
--- Visits of an update, one after the other: they leave what stands after it in the slices that they go through.
+-- Visits of an update, one after the other: they leave what is after it in the slices that they go through.
 use Rattle.std.proofs.Common.{◌≡◌, ℕ, suc, ◌+◌, ◌<◌, Bool, true, false, List, [], ◌∷◌, map, Option, Some, refl, sym, ap, ◌∙◌, arith}
 use Rattle.std.specs.Prelude.{◌||◌, slice_get, Ok}
 use Rattle.std.specs.List.{AllByRecursion, list_any}
@@ -66,46 +66,49 @@ members {A} (x ∷ xs) = (
 
 module _ (pipeline : Pipeline) (schedule : Schedule) (boxes : Boxes) (rules : IsWellFormed pipeline) (accepted : IsAccepted pipeline schedule)
     (is : inferred pipeline schedule ≡ Ok boxes)
-    (place : ℕ) (func : Func) (own : SourceBox) (func_is : slice_get pipeline.funcs place ≡ Some func) (box_is : slice_get boxes.funcs place ≡ Some (Some own))
-    (standing : FuncPlacement) (there : IsReached schedule.standings place standing) (computed : IsComputed place standing.place)
+    (func_index : ℕ) (func : Func) (source_box : SourceBox) (func_is : slice_get pipeline.funcs func_index ≡ Some func) (box_is : slice_get boxes.funcs func_index ≡ Some (Some source_box))
+    (placement : FuncPlacement) (there : IsReached schedule.standings func_index placement) (computed : IsComputed func_index placement.place)
     (at : ℕ) (update : Update) (update_is : slice_get func.updates at ≡ Some update)
     (inputs : Planes) (begun : AnswerWords pipeline.inputs (reads_of inputs (pixels pipeline.funcs inputs 0)))
-    (iterations : List ℕ) (below : Below (produced_iterations schedule boxes standing iterations) (lasts_of (consumer_at schedule boxes standing)))
-    (begin : BoxCorner) (begins : IsBegin (produced_iterations schedule boxes standing iterations) own begin)
-    (corners : List Corner) (before : Values) (corner : Corner) (corner_is : IsCornerAt place before corner begin) (reads_own : ReadsOwn corners place before
+    (iterations : List ℕ) (below : Below (produced_iterations schedule boxes placement iterations) (lasts_of (consumer_at schedule boxes placement)))
+    (begin : BoxCorner) (begins : IsBegin (produced_iterations schedule boxes placement iterations) source_box begin)
+    (corners : List Corner) (before : Values) (corner : Corner) (corner_is : IsCornerAt func_index before corner begin) (reads_own : ReadsOwn corners func_index before
     inputs begin)
-    (store : Stmt) (stores : StoresUpdate corners (flags pipeline schedule) pipeline.funcs place corner update store)
-    (funcs : Planes) (reads_others : ReadsPixels pipeline schedule corners place update (produced_iterations schedule boxes standing iterations) own inputs before funcs)
+    (store : Stmt) (stores : StoresUpdate corners (flags pipeline schedule) pipeline.funcs func_index corner update
+    store)
+    (funcs : Planes) (reads_others : ReadsPixels pipeline schedule corners func_index update (produced_iterations schedule boxes placement iterations) source_box inputs before funcs)
     (list : List loops.Values)
-    (visits : AllByRecursion (IsVisitOf func (Some update) (update_extents own update)) (map (visit_of (update_extents own update)) list))
+    (visits : AllByRecursion (IsVisitOf func (Some update) (update_extents source_box update)) (map (visit_of (update_extents source_box update)) list))
     (reduced : AllByRecursion (λ inner. inner (ids.Whole variables.FirstReduction) < update.first.extent) list)
-    (inside : ℕ → ℕ → Bool) (in_box : (i j : ℕ) → inside i j ≡ true → has_point (Some own) i j ≡ true)
-    (closed : AllByRecursion (λ visit. (i j : ℕ) → has_point (Some own) i j ≡ true → is_visited update i j visit ≡ true
-    → inside i j ≡ true) (map (visit_of (update_extents own update)) list)) where
+    (inside : ℕ → ℕ → Bool) (in_box : (i j : ℕ) → inside i j ≡ true → has_point (Some source_box) i j ≡ true)
+    (closed : AllByRecursion (λ visit. (i j : ℕ) → has_point (Some source_box) i j ≡ true
+    → is_visited update i j visit ≡ true
+    → inside i j ≡ true) (map (visit_of (update_extents source_box update)) list)) where
   abbrev extents : Extents
-  extents = update_extents own update
+  extents = update_extents source_box update
 
   abbrev stands_at : ℕ → Plane
-  stands_at = from_begin pipeline schedule boxes rules accepted is place func own func_is box_is standing there computed at update update_is inputs begun iterations
+  stands_at = from_begin pipeline schedule boxes rules accepted is func_index func source_box func_is box_is placement there computed at update update_is inputs begun iterations
       below begin begins corners before corner corner_is reads_own store stores funcs reads_others inside
 
   abbrev columns : ℕ → ℕ
-  columns = column_in pipeline schedule boxes rules accepted is place func own func_is box_is standing there computed at update update_is inputs begun iterations
+  columns = column_in pipeline schedule boxes rules accepted is func_index func source_box func_is box_is placement there computed at update update_is inputs begun iterations
       below begin begins corners before corner corner_is reads_own store stores funcs reads_others inside
 
   abbrev rows : ℕ → ℕ
-  rows = row_in pipeline schedule boxes rules accepted is place func own func_is box_is standing there computed at update update_is inputs begun iterations below
+  rows = row_in pipeline schedule boxes rules accepted is func_index func source_box func_is box_is placement there computed at update update_is inputs begun iterations below
       begin begins corners before corner corner_is reads_own store stores funcs reads_others inside
 
   abbrev pub steps : loops.Values → Planes → Planes
-  steps = step pipeline schedule boxes rules accepted is place func own func_is box_is standing there computed at update update_is inputs begun iterations below
+  steps = step pipeline schedule boxes rules accepted is func_index func source_box func_is box_is placement there computed at update update_is inputs begun iterations below
       begin begins corners before corner corner_is reads_own store stores funcs reads_others inside
 
   abbrev IsGone : loops.Values → Type 0
-  IsGone inner = Goes place funcs inside columns rows stands_at (visit_of extents inner) (steps inner)
+  IsGone inner = Goes func_index funcs inside columns rows stands_at (visit_of extents inner) (steps inner)
 
   abbrev Closed : Visit → Type 0
-  Closed visit = (i j : ℕ) → has_point (Some own) i j ≡ true → is_visited update i j visit ≡ true → inside i j ≡ true
+  Closed visit = (i j : ℕ) → has_point (Some source_box) i j ≡ true → is_visited update i j visit ≡ true
+      → inside i j ≡ true
 
   abbrev Known : loops.Values → Type 0
   Known inner = (IsVisitOf func (Some update) extents (visit_of extents inner) × Closed (visit_of extents inner))
@@ -124,63 +127,65 @@ module _ (pipeline : Pipeline) (schedule : Schedule) (boxes : Boxes) (rules : Is
   all_go =
       all_so Known IsGone
       (λ inner p.
-      goes pipeline schedule boxes rules accepted is place func own func_is box_is standing there computed at update update_is inputs begun iterations below begin
+      goes pipeline schedule boxes rules accepted is func_index func source_box func_is box_is placement there computed at update update_is inputs begun iterations below begin
       begins corners before corner corner_is reads_own store stores funcs reads_others inside
       inner p.0.0 p.1 p.0.1 in_box)
       list all_known
 
   -- the left side names the point at the visit
   abbrev pub is_hit : ℕ → ℕ → loops.Values → Bool
-  is_hit x y inner = is_point x y (named_point (reads_of inputs (pixels pipeline.funcs inputs place)) begin update (visit_of extents inner))
+  is_hit x y inner = is_point x y (named_point (reads_of inputs (pixels pipeline.funcs inputs func_index)) begin update (visit_of extents inner))
 
   pub names_inside : (x y : ℕ) → list_any (is_hit x y) list ≡ true → inside x y ≡ true
   names_inside x y e =
       any_gives Known (inside x y ≡ true) (is_hit x y)
       (λ inner p hit.
-      named_inside pipeline schedule boxes rules accepted is place func own func_is box_is standing there computed at update update_is inputs begun iterations below
+      named_inside pipeline schedule boxes rules accepted is func_index func source_box func_is box_is placement there computed at update update_is inputs begun iterations below
       begin begins corners before corner corner_is reads_own store stores funcs
       reads_others inside inner p.0.0 p.1 p.0.1 in_box x y hit)
       list all_known e
 
   -- before the first point
-  at_first : (i j : ℕ) → stage_from pipeline inputs place func begin at i j ≡ stands_at 0 i j
+  at_first : (i j : ℕ) → stage_from pipeline inputs func_index func begin at i j ≡ stands_at 0 i j
   unfolding after
   at_first i j = refl
 
   -- after the last one
-  at_last : (i j : ℕ) → stands_at (points update) i j ≡ stage_from pipeline inputs place func begin (suc at) i j
+  at_last : (i j : ℕ) → stands_at (points update) i j ≡ stage_from pipeline inputs func_index func begin (suc at) i j
   unfolding stage
   at_last i j =
-      ap (λ (found : Option Update). after_all place found inputs (pixels pipeline.funcs inputs place) (stage place func inputs (pixels pipeline.funcs inputs
-      place) at) (word.add begin.x i) (word.add begin.y j)) (sym update_is)
+      ap (λ (found_update : Option Update). after_all func_index found_update inputs (pixels pipeline.funcs inputs func_index) (stage func_index func inputs (pixels pipeline.funcs inputs
+      func_index) at) (word.add begin.x i) (word.add begin.y j)) (sym update_is)
 
   module _ (in_order : (i j : ℕ) → inside i j ≡ true → slice (columns i) (rows j) (map (visit_of extents) list) ≡ rising (columns i) (rows j) 0 (points update))
-      (holds : (i j : ℕ) → inside i j ≡ true → funcs place i j ≡ stage_from pipeline inputs place func begin at i j) where
-    gone : Gone place funcs inside columns rows stands_at (λ x y. 0) (λ x y. points update) funcs (all steps list funcs)
+      (holds : (i j : ℕ) → inside i j ≡ true → funcs func_index i j ≡ stage_from pipeline inputs func_index func begin at i j) where
+    gone : Gone func_index funcs inside columns rows stands_at (λ x y. 0) (λ x y. points update) funcs
+        (all steps list funcs)
     gone =
-        slices_go place funcs inside columns rows stands_at (visit_of extents) steps list (λ x y. 0) (λ x y. points update) funcs all_go in_order
+        slices_go func_index funcs inside columns rows stands_at (visit_of extents) steps list (λ x y. 0) (λ x y. points update) funcs all_go in_order
         (λ k i j other. refl)
         (λ i j e. holds i j e ∙ at_first i j)
 
-    pub leaves : (i j : ℕ) → inside i j ≡ true → all steps list funcs place i j ≡ stage_from pipeline inputs place func begin (suc at) i j
+    pub leaves : (i j : ℕ) → inside i j ≡ true → all steps list funcs func_index i j ≡ stage_from pipeline inputs func_index func begin (suc at) i j
     leaves i j e =
         let none_before : 0 + points update ≡ points update = omega arith in
         gone.does i j e ∙ ap (λ (n : ℕ). stands_at n i j) none_before ∙ at_last i j
 
-    pub stays : (other i j : ℕ) → (other ≡ place → inside i j ≡ false) → all steps list funcs other i j ≡ funcs other i j
+    pub stays : (other i j : ℕ) → (other ≡ func_index → inside i j ≡ false) → all steps list funcs other i j ≡ funcs other i j
     stays = gone.keeps
 
     -- ---- beside a trace
 
-    module _ (hits : HitsUpdate corners (flags pipeline schedule) pipeline.funcs place corner update store) (x y : ℕ) where
+    module _ (hits : HitsUpdate corners (flags pipeline schedule) pipeline.funcs func_index corner update store) (x y : ℕ) where
       abbrev traced : loops.Values → Trace → Trace
-      traced inner = trace (box_points boxes.funcs) inputs place x y store (put_loops place inner before)
+      traced inner = trace (box_points boxes.funcs) inputs func_index x y store (put_loops func_index inner before)
 
-      all_mark : AllByRecursion (Marks place funcs inside columns rows stands_at (visit_of extents) steps traced (is_hit x y)) list
+      all_mark : AllByRecursion (Marks func_index funcs inside columns rows stands_at (visit_of extents) steps traced (is_hit x y)) list
       all_mark =
-          all_so Known (Marks place funcs inside columns rows stands_at (visit_of extents) steps traced (is_hit x y))
+          all_so Known (Marks func_index funcs inside columns rows stands_at (visit_of extents) steps traced
+          (is_hit x y))
           (λ inner p.
-          marks pipeline schedule boxes rules accepted is place func own func_is box_is standing there computed at update update_is inputs begun iterations below
+          marks pipeline schedule boxes rules accepted is func_index func source_box func_is box_is placement there computed at update update_is inputs begun iterations below
           begin begins corners before corner corner_is reads_own store stores funcs reads_others
           inside inner p.0.0 p.1 p.0.1 in_box hits x y)
           list all_known
@@ -188,6 +193,6 @@ module _ (pipeline : Pipeline) (schedule : Schedule) (boxes : Boxes) (rules : Is
       -- the point is stored at if the left side names it at one of the visits
       pub stores_named : (all traced list (record { funcs = funcs; is_stored = false })).is_stored ≡ list_any (is_hit x y) list
       stores_named =
-          slices_mark place funcs inside columns rows stands_at (visit_of extents) steps traced (is_hit x y) list (λ i j. 0) (λ i j. points update)
+          slices_mark func_index funcs inside columns rows stands_at (visit_of extents) steps traced (is_hit x y) list (λ i j. 0) (λ i j. points update)
           (record { funcs = funcs; is_stored = false }) all_go all_mark in_order (λ k i j other. refl)
           (λ i j e. holds i j e ∙ at_first i j)

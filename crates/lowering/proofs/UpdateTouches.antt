@@ -56,30 +56,32 @@ use Rattle.lowering.proofs.Loads.{placed_words}
 use Rattle.lowering.proofs.UpdateRuns.{all_and, all_so}
 
 module _ (pipeline : Pipeline) (schedule : Schedule) (boxes : Boxes) (rules : IsWellFormed pipeline) (is : inferred pipeline schedule ≡ Ok boxes)
-    (place : ℕ) (func : Func) (own : SourceBox) (func_is : slice_get pipeline.funcs place ≡ Some func) (box_is : slice_get boxes.funcs place ≡ Some (Some own))
-    (standing : FuncPlacement) (there : IsReached schedule.standings place standing) (computed : IsComputed place standing.place)
+    (func_index : ℕ) (func : Func) (source_box : SourceBox) (func_is : slice_get pipeline.funcs func_index ≡ Some func) (box_is : slice_get boxes.funcs func_index ≡ Some (Some source_box))
+    (placement : FuncPlacement) (there : IsReached schedule.standings func_index placement) (computed : IsComputed func_index placement.place)
     (at : ℕ) (update : Update) (update_is : slice_get func.updates at ≡ Some update)
-    (iterations : List ℕ) (below : Below (produced_iterations schedule boxes standing iterations) (lasts_of (consumer_at schedule boxes standing)))
-    (begin : BoxCorner) (begins : IsBegin (produced_iterations schedule boxes standing iterations) own begin)
-    (corners : List Corner) (before : Values) (corner : Corner) (corner_is : IsCornerAt place before corner begin)
-    (store : Stmt) (sound : IsSoundUpdate corners (flags pipeline schedule) pipeline.funcs place corner update store)
+    (iterations : List ℕ) (below : Below (produced_iterations schedule boxes placement iterations) (lasts_of (consumer_at schedule boxes placement)))
+    (begin : BoxCorner) (begins : IsBegin (produced_iterations schedule boxes placement iterations) source_box begin)
+    (corners : List Corner) (before : Values) (corner : Corner) (corner_is : IsCornerAt func_index before corner begin)
+    (store : Stmt) (sound : IsSoundUpdate corners (flags pipeline schedule) pipeline.funcs func_index corner update
+    store)
     (reads : Reads) (words : AnswerWords pipeline.inputs reads) (written : Points) (loaded : Point → Bool)
-    (own_placed : (inner : loops.Values) (a b : ℕ) → place_in corners (put_loops place inner before) (record { source = sources.Func place; x = a; y = b })
-    ≡ record { source = sources.Func place; x = word.subtract a begin.x; y = word.subtract b begin.y })
-    (others : LoadsOthers pipeline schedule corners place update (produced_iterations schedule boxes standing iterations) own reads loaded before)
-    (inside : ℕ → ℕ → Bool) (own_writes : (i j : ℕ) → inside i j ≡ true → written place i j ≡ true)
-    (own_loads : (i j : ℕ) → inside i j ≡ true → loaded (record { source = sources.Func place; x = i; y = j }) ≡ true) where
+    (own_placed : (inner : loops.Values) (a b : ℕ) → place_in corners (put_loops func_index inner before) (record { source = sources.Func func_index; x = a; y = b })
+    ≡ record { source = sources.Func func_index; x = word.subtract a begin.x; y = word.subtract b begin.y })
+    (others : LoadsOthers pipeline schedule corners func_index update (produced_iterations schedule boxes placement iterations) source_box reads loaded before)
+    (inside : ℕ → ℕ → Bool) (own_writes : (i j : ℕ) → inside i j ≡ true → written func_index i j ≡ true)
+    (own_loads : (i j : ℕ) → inside i j ≡ true → loaded (record { source = sources.Func func_index; x = i; y = j }) ≡ true) where
   abbrev values : List ℕ
-  values = produced_iterations schedule boxes standing iterations
+  values = produced_iterations schedule boxes placement iterations
 
   abbrev extents : Extents
-  extents = update_extents own update
+  extents = update_extents source_box update
 
   abbrev Closed : Visit → Type 0
-  Closed visit = (i j : ℕ) → has_point (Some own) i j ≡ true → is_visited update i j visit ≡ true → inside i j ≡ true
+  Closed visit = (i j : ℕ) → has_point (Some source_box) i j ≡ true → is_visited update i j visit ≡ true
+      → inside i j ≡ true
 
   abbrev IsSoundAt : loops.Values → Type 0
-  IsSoundAt inner = is_sound reads written loaded store (put_loops place inner before) ≡ true
+  IsSoundAt inner = is_sound reads written loaded store (put_loops func_index inner before) ≡ true
 
   -- ---- one visit
 
@@ -89,7 +91,7 @@ module _ (pipeline : Pipeline) (schedule : Schedule) (boxes : Boxes) (rules : Is
     visit = visit_of extents inner
 
     abbrev now : Values
-    now = put_loops place inner before
+    now = put_loops func_index inner before
 
     abbrev x : ℕ
     x = word.add visit.x begin.x
@@ -104,45 +106,46 @@ module _ (pipeline : Pipeline) (schedule : Schedule) (boxes : Boxes) (rules : Is
     answers = placed corners now reads
 
     abbrev all_read : List Point
-    all_read = update_points pipeline schedule answers place update visit.number x y
+    all_read = update_points pipeline schedule answers func_index update visit.number x y
 
     abbrev Loaded : List Point → Type 0
-    Loaded list = Hold (λ own. loaded (place_in corners now own)) list
+    Loaded list = Hold (λ source_box. loaded (place_in corners now source_box)) list
 
     answer_words : AnswerWords pipeline.inputs answers
     answer_words = placed_words pipeline corners now reads words
 
-    lies : LiesIn values own x y
-    lies = visiting.lies pipeline schedule boxes rules is place func own func_is box_is standing there computed at update update_is iterations below begin begins
+    lies : LiesIn values source_box x y
+    lies = visiting.lies pipeline schedule boxes rules is func_index func source_box func_is box_is placement there computed at update update_is iterations below begin begins
         before corner corner_is inner v reduced
 
     few : visit.number < points update
-    few = visiting.few_points pipeline schedule boxes rules is place func own func_is box_is standing there computed at update update_is iterations below begin
+    few = visiting.few_points pipeline schedule boxes rules is func_index func source_box func_is box_is placement there computed at update update_is iterations below begin
         begins before corner corner_is inner v reduced
 
     near : IsNear x × IsNear y
-    near = visiting.near pipeline schedule boxes rules is place func own func_is box_is standing there computed at update update_is iterations below begin begins
+    near = visiting.near pipeline schedule boxes rules is func_index func source_box func_is box_is placement there computed at update update_is iterations below begin begins
         before corner corner_is inner v reduced
 
-    all_lie : AreBoxed values (sources.Func place) (Some (Some own)) all_read
+    all_lie : AreBoxed values (sources.Func func_index) (Some (Some source_box)) all_read
     all_lie =
-        own_points_lie pipeline schedule boxes rules is place func standing func_is there.standing there.reached computed (consumer_at schedule boxes standing)
-        refl iterations below own box_is at update update_is
+        own_points_lie pipeline schedule boxes rules is func_index func placement func_is there.standing there.reached computed (consumer_at schedule boxes placement)
+        refl iterations below source_box box_is at update update_is
         answers answer_words x y lies.first.word lies.second.word near.0 near.1 visit.number few (record { first = λ e. lies.first; second = λ e. lies.second })
 
-    all_stay : AllByRecursion (λ own. same_source own.source (sources.Func place) ≡ true → IsInPlace update x y own) all_read
-    all_stay = own_reads_stay pipeline schedule rules place func func_is at update update_is answers visit.number x y
+    all_stay : AllByRecursion (λ source_box. same_source source_box.source (sources.Func func_index) ≡ true → IsInPlace update x y source_box) all_read
+    all_stay = own_reads_stay pipeline schedule rules func_index func func_is at update update_is answers visit.number x
+        y
 
-    own_inside : (a b : ℕ) → LiesIn values own a b → IsInPlace update x y (record { source = sources.Func place; x = a; y = b })
+    own_inside : (a b : ℕ) → LiesIn values source_box a b → IsInPlace update x y (record { source = sources.Func func_index; x = a; y = b })
         → inside (word.subtract a begin.x) (word.subtract b begin.y) ≡ true
     own_inside a b boxed stays =
         closed (word.subtract a begin.x) (word.subtract b begin.y)
-        (visiting.boxed_at pipeline schedule boxes rules is place func own func_is box_is standing there computed at update update_is iterations below begin begins
+        (visiting.boxed_at pipeline schedule boxes rules is func_index func source_box func_is box_is placement there computed at update update_is iterations below begin begins
         before corner corner_is inner v reduced a b boxed)
-        (visiting.on_slice pipeline schedule boxes rules is place func own func_is box_is standing there computed at update update_is iterations below begin begins
+        (visiting.on_slice pipeline schedule boxes rules is func_index func source_box func_is box_is placement there computed at update update_is iterations below begin begins
         before corner corner_is inner v reduced a b stays)
 
-    one_loads : (s : Source) (a b : ℕ) (test : Bool) → same_source s (sources.Func place) ≡ test → (test ≡ true → LiesIn values own a b)
+    one_loads : (s : Source) (a b : ℕ) (test : Bool) → same_source s (sources.Func func_index) ≡ test → (test ≡ true → LiesIn values source_box a b)
         → (test ≡ true → IsInPlace update x y (record { source = s; x = a; y = b }))
         → (test ≡ false → loaded (place_in corners now (record { source = s; x = a; y = b })) ≡ true)
         → loaded (place_in corners now (record { source = s; x = a; y = b })) ≡ true
@@ -150,17 +153,18 @@ module _ (pipeline : Pipeline) (schedule : Schedule) (boxes : Boxes) (rules : Is
     one_loads (sources.Input k) a b true same boxed stays other = absurd cc
     one_loads (sources.Func k) a b true same boxed stays other =
         let p = stays refl in
-        subst (λ (n : ℕ). loaded (place_in corners now (record { source = sources.Func n; x = a; y = b })) ≡ true) (sym (eqb-true k place same))
+        subst (λ (n : ℕ). loaded (place_in corners now (record { source = sources.Func n; x = a; y = b })) ≡ true) (sym (eqb-true k func_index same))
         (ap loaded (own_placed inner a b) ∙ own_loads (word.subtract a begin.x) (word.subtract b begin.y) (own_inside a b (boxed refl)
         (record { first = p.first; second = p.second })))
 
-    all_loads : (list : List Point) → AllByRecursion (λ own_point. same_source own_point.source (sources.Func place) ≡ true
-        → LiesIn values own own_point.x own_point.y) list
-        → AllByRecursion (λ own. same_source own.source (sources.Func place) ≡ true → IsInPlace update x y own) list
-        → AllByRecursion (λ own. same_source own.source (sources.Func place) ≡ false → loaded (place_in corners now own) ≡ true) list → Loaded list
+    all_loads : (list : List Point) → AllByRecursion (λ own_point. same_source own_point.source (sources.Func func_index) ≡ true
+        → LiesIn values source_box own_point.x own_point.y) list
+        → AllByRecursion (λ source_box. same_source source_box.source (sources.Func func_index) ≡ true
+        → IsInPlace update x y source_box) list
+        → AllByRecursion (λ source_box. same_source source_box.source (sources.Func func_index) ≡ false → loaded (place_in corners now source_box) ≡ true) list → Loaded list
     all_loads [] lie stay other = tt
     all_loads (first ∷ list) lie stay other = (
-      one_loads first.source first.x first.y (same_source first.source (sources.Func place)) refl lie.0 (λ e. let p = stay.0 e in
+      one_loads first.source first.x first.y (same_source first.source (sources.Func func_index)) refl lie.0 (λ e. let p = stay.0 e in
           record { first = p.first; second = p.second }) other.0,
       all_loads list lie.1 stay.1 other.1,
     )
@@ -171,21 +175,21 @@ module _ (pipeline : Pipeline) (schedule : Schedule) (boxes : Boxes) (rules : Is
     -- ---- its parts
 
     abbrev left : List Point
-    left = (seen_in pipeline schedule answers place point update.left_x).points
+    left = (seen_in pipeline schedule answers func_index point update.left_x).points
 
     abbrev second : List Point
-    second = (second_seen pipeline schedule answers place point update.left_y).points
+    second = (second_seen pipeline schedule answers func_index point update.left_y).points
 
     abbrev target : Point
     target = record {
-      source = sources.Func place;
-      x = (seen_in pipeline schedule answers place point update.left_x).value;
+      source = sources.Func func_index;
+      x = (seen_in pipeline schedule answers func_index point update.left_x).value;
       y =
-          (second_seen pipeline schedule answers place point update.left_y).value;
+          (second_seen pipeline schedule answers func_index point update.left_y).value;
     }
 
     abbrev right : List Point
-    right = (seen_in pipeline schedule answers (suc place) point update.right).points
+    right = (seen_in pipeline schedule answers (suc func_index) point update.right).points
 
     behind_left : (P : Point → Type 0) → AllByRecursion P all_read → AllByRecursion P left × (AllByRecursion P second × (P target × AllByRecursion P right))
     behind_left P all =
@@ -195,53 +199,54 @@ module _ (pipeline : Pipeline) (schedule : Schedule) (boxes : Boxes) (rules : Is
 
     target_inside : inside (word.subtract target.x begin.x) (word.subtract target.y begin.y) ≡ true
     target_inside =
-        let same = eq-eqb place place refl in
-        let p = (behind_left (λ own. same_source own.source (sources.Func place) ≡ true → IsInPlace update x y own) all_stay).1.1.0 same in
-        own_inside target.x target.y ((behind_left (λ own_point. same_source own_point.source (sources.Func place) ≡ true
-        → LiesIn values own own_point.x own_point.y) all_lie).1.1.0 same) (record { first = p.first; second = p.second })
+        let same = eq-eqb func_index func_index refl in
+        let p = (behind_left (λ source_box. same_source source_box.source (sources.Func func_index) ≡ true → IsInPlace update x y source_box) all_stay).1.1.0 same in
+        own_inside target.x target.y ((behind_left (λ own_point. same_source own_point.source (sources.Func func_index) ≡ true
+        → LiesIn values source_box own_point.x own_point.y) all_lie).1.1.0 same) (record { first = p.first; second = p.second })
 
-    row_is : (index : Option Expr) → (second_seen pipeline schedule answers place point index).value
-        ≡ index_of (inlined (valuing answers) (flags pipeline schedule) pipeline.funcs place (variable point)) index
+    row_is : (index : Option Expr) → (second_seen pipeline schedule answers func_index point index).value
+        ≡ index_of (inlined (valuing answers) (flags pipeline schedule) pipeline.funcs func_index (variable point))
+        index
     row_is None = refl
-    row_is (Some index) = sees_inlined_values answers (flags pipeline schedule) pipeline.funcs place point index
+    row_is (Some index) = sees_inlined_values answers (flags pipeline schedule) pipeline.funcs func_index point index
 
-    index_points : (index : Option Expr) → (second_seen pipeline schedule answers place point index).points
-        ≡ points_of_index (λ e. (inlined (seeing answers) (flags pipeline schedule) pipeline.funcs place (seen_variable point) e).points) index
+    index_points : (index : Option Expr) → (second_seen pipeline schedule answers func_index point index).points
+        ≡ points_of_index (λ e. (inlined (seeing answers) (flags pipeline schedule) pipeline.funcs func_index (seen_variable point) e).points) index
     index_points None = refl
     index_points (Some index) = refl
 
-    writes : written place (word.subtract (inlined (valuing answers) (flags pipeline schedule) pipeline.funcs place (variable point) update.left_x) begin.x)
-        (word.subtract (index_of (inlined (valuing answers) (flags pipeline schedule) pipeline.funcs place (variable point)) update.left_y) begin.y) ≡ true
+    writes : written func_index (word.subtract (inlined (valuing answers) (flags pipeline schedule) pipeline.funcs func_index (variable point) update.left_x) begin.x)
+        (word.subtract (index_of (inlined (valuing answers) (flags pipeline schedule) pipeline.funcs func_index (variable point)) update.left_y) begin.y) ≡ true
     writes =
-        ap (λ (n : ℕ). written place (word.subtract n begin.x) (word.subtract (index_of (inlined (valuing answers) (flags pipeline schedule) pipeline.funcs
-        place (variable point)) update.left_y) begin.y))
-        (sym (sees_inlined_values answers (flags pipeline schedule) pipeline.funcs place point update.left_x))
-        ∙ ap (λ (n : ℕ). written place (word.subtract target.x begin.x) (word.subtract n begin.y)) (sym (row_is update.left_y))
+        ap (λ (n : ℕ). written func_index (word.subtract n begin.x) (word.subtract (index_of (inlined (valuing answers) (flags pipeline schedule) pipeline.funcs
+        func_index (variable point)) update.left_y) begin.y))
+        (sym (sees_inlined_values answers (flags pipeline schedule) pipeline.funcs func_index point update.left_x))
+        ∙ ap (λ (n : ℕ). written func_index (word.subtract target.x begin.x) (word.subtract n begin.y)) (sym (row_is update.left_y))
         ∙ own_writes (word.subtract target.x begin.x) (word.subtract target.y begin.y) target_inside
 
     -- ---- the store
 
     abbrev WritesAt : Environment → ℕ → ℕ → Type 0
     WritesAt p c r =
-        written place (word.subtract (inlined (valuing answers) (flags pipeline schedule) pipeline.funcs place (variable p) update.left_x) c)
-        (word.subtract (index_of (inlined (valuing answers) (flags pipeline schedule) pipeline.funcs place (variable p)) update.left_y) r) ≡ true
+        written func_index (word.subtract (inlined (valuing answers) (flags pipeline schedule) pipeline.funcs func_index (variable p) update.left_x) c)
+        (word.subtract (index_of (inlined (valuing answers) (flags pipeline schedule) pipeline.funcs func_index (variable p)) update.left_y) r) ≡ true
 
     sound_at : IsSoundAt inner
     sound_at =
-        let point_is : visited_point now place corner update ≡ point = visiting.point_is pipeline schedule boxes rules is place func own func_is box_is standing
+        let point_is : visited_point now func_index corner update ≡ point = visiting.point_is pipeline schedule boxes rules is func_index func source_box func_is box_is placement
         there computed at update update_is iterations below begin begins before corner corner_is inner v reduced in
         let back = sym point_is in
-        let parts = behind_left (λ own. loaded (place_in corners now own) ≡ true) loads in
+        let parts = behind_left (λ source_box. loaded (place_in corners now source_box) ≡ true) loads in
         sound reads written loaded now
         (subst (λ (p : Environment). WritesAt p (linear_value now corner.x) (linear_value now corner.y)) back
         (subst (λ (n : ℕ). WritesAt point n (linear_value now corner.y)) (sym (corner_is inner).0) (subst (λ (n : ℕ). WritesAt point begin.x n)
         (sym (corner_is inner).1) writes)))
-        (subst (λ (p : Environment). Loaded (inlined (seeing answers) (flags pipeline schedule) pipeline.funcs place (seen_variable p) update.left_x).points)
+        (subst (λ (p : Environment). Loaded (inlined (seeing answers) (flags pipeline schedule) pipeline.funcs func_index (seen_variable p) update.left_x).points)
         back parts.0)
-        (subst (λ (p : Environment). Loaded (points_of_index (λ (e : Expr). (inlined (seeing answers) (flags pipeline schedule) pipeline.funcs place
+        (subst (λ (p : Environment). Loaded (points_of_index (λ (e : Expr). (inlined (seeing answers) (flags pipeline schedule) pipeline.funcs func_index
         (seen_variable p) e).points) update.left_y)) back
         (subst Loaded (index_points update.left_y) parts.1.0))
-        (subst (λ (p : Environment). Loaded (inlined (seeing answers) (flags pipeline schedule) pipeline.funcs (suc place) (seen_variable p)
+        (subst (λ (p : Environment). Loaded (inlined (seeing answers) (flags pipeline schedule) pipeline.funcs (suc func_index) (seen_variable p)
         update.right).points) back parts.1.1.1)
 
   -- ---- all that are listed

@@ -30,7 +30,7 @@ use Rattle.lowering.proofs.Lists.{any_gives, none_kept, all_upto, before_last}
 kept_some : {A : Type 0} (test : A → Bool) (xs : List A) → list_any test xs ≡ true → filter test xs ≡ [] → ⊥
 kept_some test xs e none = true≢false (sym e ∙ none_kept test xs none)
 
-module _ (func : Func) (update : Update) (extents : Extents) (stage : Stage) (stage_is : IsStageOf func (Some update) stage) (place : ℕ) where
+module _ (func : Func) (update : Update) (extents : Extents) (stage : Stage) (stage_is : IsStageOf func (Some update) stage) (func_index : ℕ) where
   -- ---- all visits
 
   -- where no loop has begun
@@ -47,9 +47,9 @@ module _ (func : Func) (update : Update) (extents : Extents) (stage : Stage) (st
   -- ---- tasks
 
   module _ (legal : KeepsRules stage) where
-    pub listed : (found : Option Loop) → parallel stage ≡ found → (number : ℕ) → number < count_of (counts extents stage.splits) found
-        → visits_in extents stage number ≡ map (visit_of extents) (wholes extents stage.splits (inside_of found stage.loops)
-        (loops_of place (task_values (counter_of place found) number)))
+    pub listed : (stage_loop : Option Loop) → parallel stage ≡ stage_loop → (number : ℕ) → number < count_of (counts extents stage.splits) stage_loop
+        → visits_in extents stage number ≡ map (visit_of extents) (wholes extents stage.splits (inside_of stage_loop stage.loops)
+        (loops_of func_index (task_values (counter_of func_index stage_loop) number)))
     listed None is number l =
         let first : number ≡ 0 = omega (arith, l) in
         ap (visits_in extents stage) first
@@ -65,7 +65,7 @@ module _ (func : Func) (update : Update) (extents : Extents) (stage : Stage) (st
         ∙ visits_of_wholes extents stage.splits o.last.inside iterations
         ∙ ap (λ (ls : List Loop). map (visit_of extents) (wholes extents stage.splits ls iterations)) (sym taken)
         ∙ ap (λ (t : loops.Values). map (visit_of extents) (wholes extents stage.splits (take (length stage.loops - 1) stage.loops) t))
-        (sym (loops_with place own.id number no_values))
+        (sym (loops_with func_index own.id number no_values))
 
     pub task_within : (number : ℕ) → number < iteration_count extents stage
         → AllByRecursion (IsVisitOf func (Some update) extents) (visits_in extents stage number)

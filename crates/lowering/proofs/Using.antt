@@ -115,19 +115,19 @@ module _ (bound : ℕ) (some : 0 < bound) (picture : PictureContents) (is : IsPi
   plane_below = by_test (nat_lt x picture.width && nat_lt y picture.height) refl
 
 module _ (inputs : List Input) (funcs : List Func) (pictures : List PictureContents) (are : AreInputs inputs pictures) where
-  word_by : (place x y : ℕ) (found : Option PictureContents) → slice_get pictures place ≡ found → input_plane found x y < 2 ^ 32
-  word_by place x y None e = omega arith
-  word_by place x y (Some picture) e = let is = are.each place picture e in plane_below (2 ^ 32) (omega arith) picture is is.words x y
+  word_by : (func_index x y : ℕ) (picture_contents : Option PictureContents) → slice_get pictures func_index ≡ picture_contents → input_plane picture_contents x y < 2 ^ 32
+  word_by func_index x y None e = omega arith
+  word_by func_index x y (Some picture) e = let is = are.each func_index picture e in plane_below (2 ^ 32) (omega arith) picture is is.words x y
 
   word : (s : Source) (x y : ℕ) → reads_of (input_planes pictures) (pixels funcs (input_planes pictures) 0) s x y < 2 ^ 32
   unfolding pixels
-  word (sources.Input place) x y = word_by place x y (slice_get pictures place) refl
-  word (sources.Func place) x y = omega arith
+  word (sources.Input func_index) x y = word_by func_index x y (slice_get pictures func_index) refl
+  word (sources.Func func_index) x y = omega arith
 
-  byte_by : (place x y : ℕ) (input : Input) → slice_get inputs place ≡ Some input → input.is_bytes ≡ true → (found : Option PictureContents)
-      → slice_get pictures place ≡ found → input_plane found x y < 256
-  byte_by place x y input there is_bytes None e = omega arith
-  byte_by place x y input there is_bytes (Some picture) e = plane_below 256 (omega arith) picture (are.each place picture e) (are.bytes place input picture
+  byte_by : (func_index x y : ℕ) (input : Input) → slice_get inputs func_index ≡ Some input → input.is_bytes ≡ true → (picture_contents : Option PictureContents)
+      → slice_get pictures func_index ≡ picture_contents → input_plane picture_contents x y < 256
+  byte_by func_index x y input there is_bytes None e = omega arith
+  byte_by func_index x y input there is_bytes (Some picture) e = plane_below 256 (omega arith) picture (are.each func_index picture e) (are.bytes func_index input picture
       there e is_bytes) x y
 
 pub pictures_answer_words : PicturesAnswerWords

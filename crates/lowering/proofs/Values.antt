@@ -16,7 +16,7 @@ use Rattle.halide_pipeline.specs.Points.{Point, Seen, Agree}
 use Rattle.schedule_lines.specs.declared.stages.LoopId.{LoopId}
 use Rattle.schedule.specs.declared.plans.FuncPlan.{FuncPlan}
 use Rattle.schedule.specs.declared.schedules.Schedule.{Schedule}
-use Rattle.schedule.specs.declared.placements.LoopPlace.{LoopPlace}
+use Rattle.schedule.specs.declared.placements.LoopPosition.{LoopPosition}
 use Rattle.schedule.specs.declared.placements.ComputeLevel.{ComputeLevel}
 use Rattle.schedule.specs.declared.placements.ComputeLevel.TheVariants as places
 use Rattle.schedule.specs.declared.placements.FuncPlacement.{FuncPlacement}
@@ -61,29 +61,30 @@ use Rattle.lowering.proofs.Offsets.{offset_within, offset_back}
 
 -- ---- corners
 
-pub record HasCorner (plans : List FuncPlan) (corners : List Corner) (k : ℕ) (place : ComputeLevel) (own : Option SourceBox) : Type 0 where
+pub record HasCorner (plans : List FuncPlan) (corners : List Corner) (k : ℕ) (level : ComputeLevel) (source_box : Option SourceBox) : Type 0 where
   pub corner : Corner
   pub there : slice_get corners k ≡ Some corner
-  pub is : IsCornerOf plans place own corner
+  pub is : IsCornerOf plans level source_box corner
 
-pub corner_at : (plans : List FuncPlan) (boxes : List (Option SourceBox)) (standings : List FuncPlacement) (corners : List Corner) (k : ℕ) (own : Option SourceBox)
-    (standing : FuncPlacement)
-    → AreCorners plans boxes standings corners → slice_get boxes k ≡ Some own → slice_get standings k ≡ Some standing
-    → HasCorner plans corners k standing.place own
-corner_at plans [] standings corners k own standing are there stands = absurd cc
-corner_at plans (first ∷ boxes) [] corners k own standing are there stands = absurd cc
-corner_at plans (first ∷ boxes) (other ∷ standings) [] k own standing are there stands = absurd are
-corner_at plans (first ∷ boxes) (other ∷ standings) (corner ∷ corners) zero own standing are there stands =
-    let same : first ≡ own = cc in
-    let same_standing : other ≡ standing = cc in
+pub corner_at : (plans : List FuncPlan) (boxes : List (Option SourceBox)) (standings : List FuncPlacement) (corners : List Corner) (k : ℕ) (source_box : Option SourceBox)
+    (placement : FuncPlacement)
+    → AreCorners plans boxes standings corners → slice_get boxes k ≡ Some source_box
+    → slice_get standings k ≡ Some placement
+    → HasCorner plans corners k placement.place source_box
+corner_at plans [] standings corners k source_box placement are there stands = absurd cc
+corner_at plans (first ∷ boxes) [] corners k source_box placement are there stands = absurd cc
+corner_at plans (first ∷ boxes) (other ∷ standings) [] k source_box placement are there stands = absurd are
+corner_at plans (first ∷ boxes) (other ∷ standings) (corner ∷ corners) zero source_box placement are there stands =
+    let same : first ≡ source_box = cc in
+    let same_standing : other ≡ placement = cc in
     record {
       corner = corner;
       there = refl;
-      is = subst (λ (o : Option SourceBox). IsCornerOf plans standing.place o corner) same
+      is = subst (λ (o : Option SourceBox). IsCornerOf plans placement.place o corner) same
           (subst (λ (s : FuncPlacement). IsCornerOf plans s.place first corner) same_standing are.0);
     }
-corner_at plans (first ∷ boxes) (other ∷ standings) (corner ∷ corners) (suc k) own standing are there stands =
-    let h = corner_at plans boxes standings corners k own standing are.1 there stands in
+corner_at plans (first ∷ boxes) (other ∷ standings) (corner ∷ corners) (suc k) source_box placement are there stands =
+    let h = corner_at plans boxes standings corners k source_box placement are.1 there stands in
     record { corner = h.corner; there = h.there; is = h.is }
 
 not_inlined : (k : ℕ) (p : ComputeLevel) → IsComputed k p → is_inlined p ≡ false
@@ -97,8 +98,8 @@ same_self k = eq-eqb k k refl
 
 module _ (pipeline : Pipeline) (schedule : Schedule) (boxes : Boxes) (rules : IsWellFormed pipeline) (accepted : IsAccepted pipeline schedule)
     (is : inferred pipeline schedule ≡ Ok boxes)
-    (placed_at : ComputeLevel) (reader : ℕ) (func : Func) (plan : FuncPlan) (own : SourceBox) (here : IsComputed reader placed_at) (at : IsComputedAt pipeline schedule
-    boxes placed_at reader func plan own)
+    (placed_at : ComputeLevel) (reader : ℕ) (func : Func) (plan : FuncPlan) (source_box : SourceBox) (here : IsComputed reader placed_at) (at : IsComputedAt pipeline schedule
+    boxes placed_at reader func plan source_box)
     (inputs : Planes) where
   -- what reads are answered by
   abbrev wanted : Reads
@@ -109,27 +110,27 @@ module _ (pipeline : Pipeline) (schedule : Schedule) (boxes : Boxes) (rules : Is
   reader_computed : IsComputed reader at.standing.place
   reader_computed = subst (λ (p : ComputeLevel). IsComputed reader p) (sym at.placed_is) here
 
-  somewhere : (k : ℕ) → k < reader → (standing : FuncPlacement) → IsReached schedule.standings k standing → is_nowhere standing.place ≡ false
-  somewhere k before standing there =
+  somewhere : (k : ℕ) → k < reader → (placement : FuncPlacement) → IsReached schedule.standings k placement → is_nowhere placement.place ≡ false
+  somewhere k before placement there =
       let f = some_before pipeline.funcs reader k func at.func_is before in
       let p = pair_there IsPlan pipeline.funcs schedule.funcs k f.value accepted.plans f.is in
-      (pair_at IsLegal schedule.funcs schedule.standings k p.value standing accepted.legal p.is there.standing there.reached).somewhere
+      (pair_at IsLegal schedule.funcs schedule.standings k p.value placement accepted.legal p.is there.standing there.reached).somewhere
 
-  computed_by : (k : ℕ) (standing : FuncPlacement) → IsReached schedule.standings k standing → (p : ComputeLevel) → standing.place ≡ p → is_inlined p ≡ false
+  computed_by : (k : ℕ) (placement : FuncPlacement) → IsReached schedule.standings k placement → (p : ComputeLevel) → placement.place ≡ p → is_inlined p ≡ false
       → is_nowhere p ≡ false → IsComputed k p
-  computed_by k standing there places.Root e plain some = tt
-  computed_by k standing there (places.At consumer) e plain some = produced_before pipeline schedule accepted k standing there consumer e
-  computed_by k standing there places.Inlined e plain some = absurd (true≢false plain)
-  computed_by k standing there places.Nowhere e plain some = absurd (true≢false some)
+  computed_by k placement there places.Root e plain some = tt
+  computed_by k placement there (places.At consumer) e plain some = produced_before pipeline schedule accepted k placement there consumer e
+  computed_by k placement there places.Inlined e plain some = absurd (true≢false plain)
+  computed_by k placement there places.Nowhere e plain some = absurd (true≢false some)
 
   module _ (begun : AnswerWords pipeline.inputs (reads_of inputs (pixels pipeline.funcs inputs 0)))
       (consumer : ℕ) (consumer_func : Func) (consumer_plan : FuncPlan) (consuming : SourceBox) (consumer_at : IsAtRoot pipeline schedule boxes consumer
       consumer_func consumer_plan consuming) (in_task : loops.Values)
       (funcs : Planes)
-      (roots_hold : (k : ℕ) (standing : FuncPlacement) → k < reader → IsReached schedule.standings k standing → standing.place ≡ places.Root
+      (roots_hold : (k : ℕ) (placement : FuncPlacement) → k < reader → IsReached schedule.standings k placement → placement.place ≡ places.Root
       → (box : SourceBox) → slice_get boxes.funcs k ≡ Some (Some box) → Holds k box no_loops (pixels pipeline.funcs inputs reader k) funcs)
-      (of_consumer : (k : ℕ) (w : IsReadWithin schedule reader k) (loop : LoopPlace) → w.own.place ≡ places.At loop → loop.func ≡ consumer)
-      (loops_hold : (k : ℕ) (w : IsReadWithin schedule reader k) (loop : LoopPlace) → w.own.place ≡ places.At loop
+      (of_consumer : (k : ℕ) (w : IsReadWithin schedule reader k) (loop : LoopPosition) → w.own.place ≡ places.At loop → loop.func ≡ consumer)
+      (loops_hold : (k : ℕ) (w : IsReadWithin schedule reader k) (loop : LoopPosition) → w.own.place ≡ places.At loop
       → (box : SourceBox) → slice_get boxes.funcs k ≡ Some (Some box)
       → Holds k box (values_in consumer_plan loop.inside in_task) (pixels pipeline.funcs inputs reader k) funcs)
       (counters : Values) (counters_are : (id : LoopId) → values_in consumer_plan id (loops_of consumer counters) ≡ values_in consumer_plan id in_task)
@@ -137,39 +138,39 @@ module _ (pipeline : Pipeline) (schedule : Schedule) (boxes : Boxes) (rules : Is
     words : AnswerWords pipeline.inputs wanted
     words = pixels_are_words pipeline.inputs pipeline.funcs inputs rules.funcs begun reader
 
-    abbrev found : Reads
-    found = placed corners counters (reads_of inputs now)
+    abbrev found_reads : Reads
+    found_reads = placed corners counters (reads_of inputs now)
 
     -- ---- a point that is read
 
-    ordered : (k : ℕ) (standing : FuncPlacement) → IsReached schedule.standings k standing → IsComputed k standing.place → (box : SourceBox)
+    ordered : (k : ℕ) (placement : FuncPlacement) → IsReached schedule.standings k placement → IsComputed k placement.place → (box : SourceBox)
         → slice_get boxes.funcs k ≡ Some (Some box) → IsBox box
-    ordered k standing there computed box box_is = (boxes_are_produced pipeline schedule boxes is k standing there.standing there.reached computed box
+    ordered k placement there computed box box_is = (boxes_are_produced pipeline schedule boxes is k placement there.standing there.reached computed box
         box_is).box
 
-    found_in : (k a b : ℕ) (box : SourceBox) (values : List ℕ) (standing : FuncPlacement) → IsReached schedule.standings k standing → IsComputed k standing.place
+    found_in : (k a b : ℕ) (box : SourceBox) (values : List ℕ) (placement : FuncPlacement) → IsReached schedule.standings k placement → IsComputed k placement.place
         → slice_get boxes.funcs k ≡ Some (Some box)
-        → iterations_for schedule.funcs standing.place counters ≡ values → LiesIn values box a b → k < reader
+        → iterations_for schedule.funcs placement.place counters ≡ values → LiesIn values box a b → k < reader
         → Holds k box values (pixels pipeline.funcs inputs reader k) funcs
-        → found (sources.Func k) a b ≡ pixels pipeline.funcs inputs reader k a b
+        → found_reads (sources.Func k) a b ≡ pixels pipeline.funcs inputs reader k a b
     unfolding placed
-    found_in k a b box values standing there computed box_is iterations_are lies before holds =
-        let c = corner_at schedule.funcs boxes.funcs schedule.standings corners k (Some box) standing are box_is there.standing in
+    found_in k a b box values placement there computed box_is iterations_are lies before holds =
+        let c = corner_at schedule.funcs boxes.funcs schedule.standings corners k (Some box) placement are box_is there.standing in
         let i = word.subtract a (first_of box.x values) in
         let j = word.subtract b (first_of box.y values) in
-        let o = ordered k standing there computed box box_is in
+        let o = ordered k placement there computed box box_is in
         let x_is = (c.is counters).0 ∙ ap (first_of box.x) iterations_are in
         let y_is = (c.is counters).1 ∙ ap (first_of box.y) iterations_are in
-        let lies_at : found (sources.Func k) a b ≡ now k i j = rw (c.there, x_is, y_is) refl in
+        let lies_at : found_reads (sources.Func k) a b ≡ now k i j = rw (c.there, x_is, y_is) refl in
         lies_at ∙ keeps k i j (λ e. omega (arith, e, before))
         ∙ holds i j (offset_within box.lasts values box.x a lies.first o.x.ordered) (offset_within box.lasts values box.y b lies.second o.y.ordered)
         ∙ ap (λ (n : ℕ). pixels pipeline.funcs inputs reader k n (word.add (first_of box.y values) j)) (offset_back box.lasts values box.x a lies.first)
         ∙ ap (λ (n : ℕ). pixels pipeline.funcs inputs reader k a n) (offset_back box.lasts values box.y b lies.second)
 
     -- the iterations of its consumer's loops that a Func at one of them is counted from
-    iterations_are : (place : ComputeLevel) (loop : LoopPlace) → place ≡ places.At loop → loop.func ≡ consumer → iterations_for schedule.funcs place counters
+    iterations_are : (level : ComputeLevel) (loop : LoopPosition) → level ≡ places.At loop → loop.func ≡ consumer → iterations_for schedule.funcs level counters
         ≡ values_in consumer_plan loop.inside in_task
-    iterations_are place loop e same =
+    iterations_are level loop e same =
         ap (λ (p : ComputeLevel). iterations_for schedule.funcs p counters) e
         ∙ ap (λ (p : Option FuncPlan). iterations_at loop p counters) (ap (λ (n : ℕ). slice_get schedule.funcs n) same ∙ consumer_at.plan_is)
         ∙ ap (λ (n : ℕ). values_in consumer_plan loop.inside (loops_of n counters)) same
@@ -178,27 +179,27 @@ module _ (pipeline : Pipeline) (schedule : Schedule) (boxes : Boxes) (rules : Is
     -- ---- all points that are read
 
     record AreRead (list : List Point) : Type 0 where
-      roots : (k : ℕ) (standing : FuncPlacement) → k < reader → IsReached schedule.standings k standing → standing.place ≡ places.Root
+      roots : (k : ℕ) (placement : FuncPlacement) → k < reader → IsReached schedule.standings k placement → placement.place ≡ places.Root
           → AreBoxed no_loops (sources.Func k) (slice_get boxes.funcs k) list
-      produced : (k : ℕ) (w : IsReadWithin schedule reader k) (loop : LoopPlace) → w.own.place ≡ places.At loop
+      produced : (k : ℕ) (w : IsReadWithin schedule reader k) (loop : LoopPosition) → w.own.place ≡ places.At loop
           → AreBoxed (values_in consumer_plan loop.inside in_task) (sources.Func k) (slice_get boxes.funcs k) list
       through : AreReadThrough pipeline schedule.standings reader reader list
 
     -- where a point of a Func lies that is read
     record LiesThere (k a b : ℕ) : Type 0 where
-      roots : (standing : FuncPlacement) → k < reader → IsReached schedule.standings k standing → standing.place ≡ places.Root
+      roots : (placement : FuncPlacement) → k < reader → IsReached schedule.standings k placement → placement.place ≡ places.Root
           → IsBoxed no_loops (slice_get boxes.funcs k) a b
-      produced : (w : IsReadWithin schedule reader k) (loop : LoopPlace) → w.own.place ≡ places.At loop
+      produced : (w : IsReadWithin schedule reader k) (loop : LoopPosition) → w.own.place ≡ places.At loop
           → IsBoxed (values_in consumer_plan loop.inside in_task) (slice_get boxes.funcs k) a b
 
     of_list : (k a b : ℕ) (list : List Point) → AreRead (record { source = sources.Func k; x = a; y = b } ∷ list) → LiesThere k a b
     of_list k a b list r = record {
-      roots = λ standing before there root. (r.roots k standing before there root).0 (same_self k);
+      roots = λ placement before there root. (r.roots k placement before there root).0 (same_self k);
       produced = λ w loop e. (r.produced k w loop e).0 (same_self k);
     }
 
     one_through : (k a b : ℕ) → LiesThere k a b → flagged (flags_of schedule.standings) k ≡ false → ReadsThrough pipeline schedule.standings reader k
-        → found (sources.Func k) a b ≡ pixels pipeline.funcs inputs reader k a b
+        → found_reads (sources.Func k) a b ≡ pixels pipeline.funcs inputs reader k a b
     one_through k a b r plain through =
         let w = readers_stand_within pipeline schedule accepted reader at.standing at.there reader_computed k through in
         by_place w w.own.place refl (sym (flag_is schedule.standings k w.own w.there.standing) ∙ plain) (somewhere k w.before w.own w.there)
@@ -206,110 +207,110 @@ module _ (pipeline : Pipeline) (schedule : Schedule) (boxes : Boxes) (rules : Is
         by_box : (w : IsReadWithin schedule reader k) → IsComputed k w.own.place → (values : List ℕ) → iterations_for schedule.funcs w.own.place counters ≡ values
             → ((box : SourceBox) → slice_get boxes.funcs k ≡ Some (Some box) → Holds k box values (pixels pipeline.funcs inputs reader k) funcs)
             → (answer : Option (Option SourceBox)) → slice_get boxes.funcs k ≡ answer → IsSome answer → IsBoxed values answer a b
-            → found (sources.Func k) a b ≡ pixels pipeline.funcs inputs reader k a b
+            → found_reads (sources.Func k) a b ≡ pixels pipeline.funcs inputs reader k a b
         by_box w computed values iterations holds None e some lies = let wrong = some.is in absurd cc
         by_box w computed values iterations holds (Some None) e some lies = absurd lies
         by_box w computed values iterations holds (Some (Some box)) e some lies = found_in k a b box values w.own w.there computed e iterations lies w.before
             (holds box e)
 
         by_place : (w : IsReadWithin schedule reader k) (p : ComputeLevel) → w.own.place ≡ p → is_inlined w.own.place ≡ false → is_nowhere w.own.place ≡ false
-            → found (sources.Func k) a b ≡ pixels pipeline.funcs inputs reader k a b
+            → found_reads (sources.Func k) a b ≡ pixels pipeline.funcs inputs reader k a b
         by_place w places.Root e plain some =
             by_box w (subst (λ (p : ComputeLevel). IsComputed k p) (sym e) tt) no_loops (ap (λ (p : ComputeLevel). iterations_for schedule.funcs p counters) e)
             (roots_hold k w.own w.before w.there e)
-            (slice_get boxes.funcs k) refl (some_before boxes.funcs reader k (Some own) at.box_is w.before) (r.roots w.own w.before w.there e)
+            (slice_get boxes.funcs k) refl (some_before boxes.funcs reader k (Some source_box) at.box_is w.before) (r.roots w.own w.before w.there e)
         by_place w (places.At loop) e plain some =
             by_box w (subst (λ (p : ComputeLevel). IsComputed k p) (sym e) (produced_before pipeline schedule accepted k w.own w.there loop e))
             (values_in consumer_plan loop.inside in_task)
             (iterations_are w.own.place loop e (of_consumer k w loop e)) (loops_hold k w loop e)
-            (slice_get boxes.funcs k) refl (some_before boxes.funcs reader k (Some own) at.box_is w.before) (r.produced w loop e)
+            (slice_get boxes.funcs k) refl (some_before boxes.funcs reader k (Some source_box) at.box_is w.before) (r.produced w loop e)
         by_place w places.Inlined e plain some = absurd (true≢false (sym (ap is_inlined e) ∙ plain))
         by_place w places.Nowhere e plain some = absurd (true≢false (sym (ap is_nowhere e) ∙ some))
 
     one_agrees : (s : Source) (a b : ℕ) (list : List Point) → AreRead (record { source = s; x = a; y = b } ∷ list)
-        → IsReadThrough pipeline schedule.standings reader reader s → found s a b ≡ wanted s a b
+        → IsReadThrough pipeline schedule.standings reader reader s → found_reads s a b ≡ wanted s a b
     unfolding placed
     one_agrees (sources.Input k) a b list r through = refl
     one_agrees (sources.Func k) a b list r (plain, (few, inl e)) = absurd (omega (arith, few, e))
     one_agrees (sources.Func k) a b list r (plain, (few, inr through)) = one_through k a b (of_list k a b list r) plain through
 
-    all_agree : (list : List Point) → AreRead list → Agree wanted found list
+    all_agree : (list : List Point) → AreRead list → Agree wanted found_reads list
     all_agree [] r = tt
     all_agree (point ∷ list) r = (
       one_agrees point.source point.x point.y list r r.through.0,
       all_agree list (record {
-        roots = λ k standing before there root. (r.roots k standing before there root).1;
+        roots = λ k placement before there root. (r.roots k placement before there root).1;
         produced = λ k w loop e. (r.produced k w loop e).1;
         through = r.through.1;
       }),
     )
 
-    module _ (values : List ℕ) (below : Below values own.lasts) (x y : ℕ) (lies : LiesIn values own x y)
-        (may_be : (k : ℕ) (w : IsReadWithin schedule reader k) (loop : LoopPlace) → w.own.place ≡ places.At loop
-        → MayBeArguments consumer_func consumer_plan consuming loop.inside in_task placed_at own x y) where
+    module _ (values : List ℕ) (below : Below values source_box.lasts) (x y : ℕ) (lies : LiesIn values source_box x y)
+        (may_be : (k : ℕ) (w : IsReadWithin schedule reader k) (loop : LoopPosition) → w.own.place ≡ places.At loop
+        → MayBeArguments consumer_func consumer_plan consuming loop.inside in_task placed_at source_box x y) where
       are_read : AreRead (pure_points pipeline schedule wanted reader func x y)
       are_read = record {
-        roots = λ k standing before there root.
-            pure_reads_of_funcs_lie pipeline schedule boxes rules is reader func own at.func_is at.box_is k standing before there.standing there.reached
+        roots = λ k placement before there root.
+            pure_reads_of_funcs_lie pipeline schedule boxes rules is reader func source_box at.func_is at.box_is k placement before there.standing there.reached
             (subst (λ (p : ComputeLevel). IsComputed k p) (sym root) tt)
-            None (ap (λ (p : ComputeLevel). consumer_in schedule boxes.funcs p) root) own refl wanted words values below no_below x y lies;
+            None (ap (λ (p : ComputeLevel). consumer_in schedule boxes.funcs p) root) source_box refl wanted words values below no_below x y lies;
         produced = λ k w loop e.
             let same = of_consumer k w loop e in
             pure_reads_in_loops_lie pipeline schedule boxes rules accepted is k w.own loop w.there.standing w.there.reached e consumer_func consumer_plan
             consuming
             (ap (λ (n : ℕ). slice_get pipeline.funcs n) same ∙ consumer_at.func_is) (ap (λ (n : ℕ). slice_get schedule.funcs n) same
             ∙ consumer_at.plan_is) (ap (λ (n : ℕ). slice_get boxes.funcs n) same ∙ consumer_at.box_is)
-            reader func at.standing own w.before at.func_is at.there.standing at.there.reached at.box_is wanted words in_task x y
-            (subst (λ (p : ComputeLevel). MayBeArguments consumer_func consumer_plan consuming loop.inside in_task p own x y) (sym at.placed_is) (may_be k w loop e));
+            reader func at.standing source_box w.before at.func_is at.there.standing at.there.reached at.box_is wanted words in_task x y
+            (subst (λ (p : ComputeLevel). MayBeArguments consumer_func consumer_plan consuming loop.inside in_task p source_box x y) (sym at.placed_is) (may_be k w loop e));
         through = pure_points_are_read_through pipeline schedule rules reader func at.func_is wanted x y;
       }
 
-      pub answered : Agree wanted found (pure_points pipeline schedule wanted reader func x y)
+      pub answered : Agree wanted found_reads (pure_points pipeline schedule wanted reader func x y)
       answered = all_agree (pure_points pipeline schedule wanted reader func x y) are_read
 
     -- ---- all points that an update reads of other Funcs
 
     record AreReadBeside (list : List Point) : Type 0 where
-      roots : (k : ℕ) (standing : FuncPlacement) → k < reader → IsReached schedule.standings k standing → standing.place ≡ places.Root
+      roots : (k : ℕ) (placement : FuncPlacement) → k < reader → IsReached schedule.standings k placement → placement.place ≡ places.Root
           → AreBoxed no_loops (sources.Func k) (slice_get boxes.funcs k) list
-      produced : (k : ℕ) (w : IsReadWithin schedule reader k) (loop : LoopPlace) → w.own.place ≡ places.At loop
+      produced : (k : ℕ) (w : IsReadWithin schedule reader k) (loop : LoopPosition) → w.own.place ≡ places.At loop
           → AreBoxed (values_in consumer_plan loop.inside in_task) (sources.Func k) (slice_get boxes.funcs k) list
       through : AreReadThrough pipeline schedule.standings reader (suc reader) list
 
     one_beside : (s : Source) (a b : ℕ) (list : List Point) → AreReadBeside (record { source = s; x = a; y = b } ∷ list)
         → IsReadThrough pipeline schedule.standings reader (suc reader) s
-        → same_source s (sources.Func reader) ≡ false → found s a b ≡ wanted s a b
+        → same_source s (sources.Func reader) ≡ false → found_reads s a b ≡ wanted s a b
     unfolding placed
     one_beside (sources.Input k) a b list r through other = refl
     one_beside (sources.Func k) a b list r (plain, (few, inl e)) other = absurd (true≢false (sym (eq-eqb k reader e) ∙ other))
     one_beside (sources.Func k) a b list r (plain, (few, inr through)) other =
         one_through k a b
         (record {
-          roots = λ standing before there root. (r.roots k standing before there root).0 (same_self k);
+          roots = λ placement before there root. (r.roots k placement before there root).0 (same_self k);
           produced = λ w loop e. (r.produced k w loop e).0 (same_self k);
         })
         plain through
 
     all_beside : (list : List Point) → AreReadBeside list
         → AllByRecursion (λ point. same_source point.source (sources.Func reader) ≡ false
-        → found point.source point.x point.y ≡ wanted point.source point.x point.y) list
+        → found_reads point.source point.x point.y ≡ wanted point.source point.x point.y) list
     all_beside [] r = tt
     all_beside (point ∷ list) r = (
       one_beside point.source point.x point.y list r r.through.0,
       all_beside list (record {
-        roots = λ k standing before there root. (r.roots k standing before there root).1;
+        roots = λ k placement before there root. (r.roots k placement before there root).1;
         produced = λ k w loop e. (r.produced k w loop e).1;
         through = r.through.1;
       }),
     )
 
-    module _ (values : List ℕ) (below : Below values own.lasts) (x y : ℕ) (lies : LiesIn values own x y)
-        (may_be : (k : ℕ) (w : IsReadWithin schedule reader k) (loop : LoopPlace) → w.own.place ≡ places.At loop
-        → MayBeArguments consumer_func consumer_plan consuming loop.inside in_task placed_at own x y)
+    module _ (values : List ℕ) (below : Below values source_box.lasts) (x y : ℕ) (lies : LiesIn values source_box x y)
+        (may_be : (k : ℕ) (w : IsReadWithin schedule reader k) (loop : LoopPosition) → w.own.place ≡ places.At loop
+        → MayBeArguments consumer_func consumer_plan consuming loop.inside in_task placed_at source_box x y)
         (number_at : ℕ) (update : Update) (update_is : slice_get func.updates number_at ≡ Some update) (number : ℕ) (few : number < pixel.points update)
         (reads : Reads) (read_words : AnswerWords pipeline.inputs reads) where
       near : IsNear x × IsNear y
-      near = points_are_near own (boxes_are_produced pipeline schedule boxes is reader at.standing at.there.standing at.there.reached reader_computed own
+      near = points_are_near source_box (boxes_are_produced pipeline schedule boxes is reader at.standing at.there.standing at.there.reached reader_computed source_box
           at.box_is).box values below x y lies
 
       unflagged : flagged (flags_of schedule.standings) reader ≡ false
@@ -317,10 +318,10 @@ module _ (pipeline : Pipeline) (schedule : Schedule) (boxes : Boxes) (rules : Is
 
       update_read : AreReadBeside (update_points pipeline schedule reads reader update number x y)
       update_read = record {
-        roots = λ k standing before there root.
-            update_reads_of_funcs_lie pipeline schedule boxes rules is reader func own at.func_is at.box_is number_at update update_is k standing before
+        roots = λ k placement before there root.
+            update_reads_of_funcs_lie pipeline schedule boxes rules is reader func source_box at.func_is at.box_is number_at update update_is k placement before
             there.standing there.reached
-            (subst (λ (p : ComputeLevel). IsComputed k p) (sym root) tt) None (ap (λ (p : ComputeLevel). consumer_in schedule boxes.funcs p) root) own refl reads read_words
+            (subst (λ (p : ComputeLevel). IsComputed k p) (sym root) tt) None (ap (λ (p : ComputeLevel). consumer_in schedule boxes.funcs p) root) source_box refl reads read_words
             values below no_below x y lies near.0 near.1 number few;
         produced = λ k w loop e.
             let same = of_consumer k w loop e in
@@ -328,14 +329,14 @@ module _ (pipeline : Pipeline) (schedule : Schedule) (boxes : Boxes) (rules : Is
             consuming
             (ap (λ (n : ℕ). slice_get pipeline.funcs n) same ∙ consumer_at.func_is) (ap (λ (n : ℕ). slice_get schedule.funcs n) same
             ∙ consumer_at.plan_is) (ap (λ (n : ℕ). slice_get boxes.funcs n) same ∙ consumer_at.box_is)
-            reader func at.standing own w.before at.func_is at.there.standing at.there.reached at.box_is number_at update update_is reads read_words in_task x y
-            (subst (λ (p : ComputeLevel). MayBeArguments consumer_func consumer_plan consuming loop.inside in_task p own x y) (sym at.placed_is) (may_be k w loop e))
+            reader func at.standing source_box w.before at.func_is at.there.standing at.there.reached at.box_is number_at update update_is reads read_words in_task x y
+            (subst (λ (p : ComputeLevel). MayBeArguments consumer_func consumer_plan consuming loop.inside in_task p source_box x y) (sym at.placed_is) (may_be k w loop e))
             near.0 near.1 number few;
         through = update_points_are_read_through pipeline schedule rules reader func at.func_is unflagged number_at update update_is reads number x y;
       }
 
       pub answered_beside : AllByRecursion (λ point. same_source point.source (sources.Func reader) ≡ false
-          → found point.source point.x point.y ≡ wanted point.source point.x point.y)
+          → found_reads point.source point.x point.y ≡ wanted point.source point.x point.y)
           (update_points pipeline schedule reads reader update number x y)
       answered_beside = all_beside (update_points pipeline schedule reads reader update number x y) update_read
 
@@ -348,11 +349,12 @@ module _ (pipeline : Pipeline) (schedule : Schedule) (boxes : Boxes) (rules : Is
   unfolding place_calls func_calls
   calling other e = ap (place_calls_of other) at.func_is ∙ or_left (calls other func.pure) (updates_call other func.updates) e
 
-  pub value_is : (found : Reads) (x y : ℕ) → Agree wanted found (pure_points pipeline schedule wanted reader func x y)
-      → inlined (valuing found) (flagged (flags_of schedule.standings)) pipeline.funcs reader (variable (at_point x y)) func.pure ≡ value wanted (at_point x y)
+  pub value_is : (found_reads : Reads) (x y : ℕ) → Agree wanted found_reads
+      (pure_points pipeline schedule wanted reader func x y)
+      → inlined (valuing found_reads) (flagged (flags_of schedule.standings)) pipeline.funcs reader (variable (at_point x y)) func.pure ≡ value wanted (at_point x y)
       func.pure
-  value_is found x y agree =
-      inlined_values_depend_on_reads wanted found (flags pipeline schedule) pipeline.funcs reader (at_point x y) func.pure agree
+  value_is found_reads x y agree =
+      inlined_values_depend_on_reads wanted found_reads (flags pipeline schedule) pipeline.funcs reader (at_point x y) func.pure agree
       ∙ sym (sees_inlined_values wanted (flags pipeline schedule) pipeline.funcs reader (at_point x y) func.pure)
       ∙ ap (λ (s : Seen). s.value)
       (same_seen pipeline schedule rules accepted wanted reader (at_point x y) (is_argument (dimensions func)) func.pure (rules.funcs reader func

@@ -41,22 +41,22 @@ use Rattle.schedule_loops.specs.Runs.{is_vectorized_loop}
 
 -- an inner loop has as many iterations as the factor of its split
 abbrev pub fits : Values → Loop → Option ℕ → Bool
-fits counted own None = true
-fits counted own (Some factor) = counted own.id == factor
+fits counted stage_loop None = true
+fits counted stage_loop (Some factor) = counted stage_loop.id == factor
 
 abbrev pub is_fine : Values → Values → List Loop → Loop → Bool
-is_fine strided counted start own = nat_le 1 (strided own.id) && (fits counted own own.inner_of && has_variable own.variable start)
+is_fine strided counted start stage_loop = nat_le 1 (strided stage_loop.id) && (fits counted stage_loop stage_loop.inner_of && has_variable stage_loop.variable start)
 
 abbrev pub flaw : Values → Values → List Loop → Loop → ℕ
-flaw strided counted start own = cond (is_fine strided counted start own) 0 1
+flaw strided counted start stage_loop = cond (is_fine strided counted start stage_loop) 0 1
 
-same_total : (f g : Loop → ℕ) (loops : List Loop) → ((own : Loop) → 1 ≤ total (has_id own.id) loops → f own ≡ g own) → total f loops ≡ total g loops
+same_total : (f g : Loop → ℕ) (loops : List Loop) → ((stage_loop : Loop) → 1 ≤ total (has_id stage_loop.id) loops → f stage_loop ≡ g stage_loop) → total f loops ≡ total g loops
 same_total f g [] each = refl
-same_total f g (own ∷ others) each = omega (arith, each own (omega (arith, has_same own)), same_total f g others (λ o there. each o (omega (arith, there))))
+same_total f g (stage_loop ∷ others) each = omega (arith, each stage_loop (omega (arith, has_same stage_loop)), same_total f g others (λ o there. each o (omega (arith, there))))
 
-same_fits : (one other : Values) (own : Loop) (factor : Option ℕ) → one own.id ≡ other own.id → fits one own factor ≡ fits other own factor
-same_fits one other own None e = refl
-same_fits one other own (Some factor) e = ap (λ (n : ℕ). n == factor) e
+same_fits : (one other : Values) (stage_loop : Loop) (factor : Option ℕ) → one stage_loop.id ≡ other stage_loop.id → fits one stage_loop factor ≡ fits other stage_loop factor
+same_fits one other stage_loop None e = refl
+same_fits one other stage_loop (Some factor) e = ap (λ (n : ℕ). n == factor) e
 
 module _ (extents : Extents) (is_update : Bool) (start : List Loop) where
   abbrev counted : List Split → Values
@@ -69,13 +69,13 @@ module _ (extents : Extents) (is_update : Bool) (start : List Loop) where
 
   -- ---- one more split
 
-  module _ (before : List Loop) (own : Loop) (after : List Loop) (splits : List Split) (line : SplitLine) (is : IsSplit is_update line) (begun : Sound start [])
-      (fine : Fine (before ++ own ∷ after) splits) where
+  module _ (before : List Loop) (stage_loop : Loop) (after : List Loop) (splits : List Split) (line : SplitLine) (is : IsSplit is_update line) (begun : Sound start [])
+      (fine : Fine (before ++ stage_loop ∷ after) splits) where
     abbrev place : ℕ
     place = length splits
 
     abbrev new : Split
-    new = split_by own line
+    new = split_by stage_loop line
 
     abbrev more : List Split
     more = splits ++ new ∷ []
@@ -110,36 +110,37 @@ module _ (extents : Extents) (is_update : Bool) (start : List Loop) where
         ∙ ap (λ (b : Bool). cond {A = ℕ} (nat_le 1 (strides splits other.id) && (b && has_variable other.variable start)) 0 1) (same_fits (counted more)
         (counted splits) other other.inner_of (old_count other.id old))
 
-    old_total : total (flaw (strides more) (counted more) start) (before ++ own ∷ after) ≡ 0
+    old_total : total (flaw (strides more) (counted more) start) (before ++ stage_loop ∷ after) ≡ 0
     old_total =
-        same_total (flaw (strides more) (counted more) start) (flaw (strides splits) (counted splits) start) (before ++ own ∷ after) (λ other there. old_flaw
+        same_total (flaw (strides more) (counted more) start) (flaw (strides splits) (counted splits) start) (before ++ stage_loop ∷ after) (λ other there. old_flaw
         other (fine.is_sound.old other.id there))
         ∙ fine.flawless
 
-    own_there : 1 ≤ total (has_id own.id) (before ++ own ∷ after)
-    own_there = omega (arith, total-append (has_id own.id) before (own ∷ after), has_same own)
+    own_there : 1 ≤ total (has_id stage_loop.id) (before ++ stage_loop ∷ after)
+    own_there = omega (arith, total-append (has_id stage_loop.id) before (stage_loop ∷ after), has_same stage_loop)
 
-    own_fine : is_fine (strides splits) (counted splits) start own ≡ true
-    own_fine = by_test (is_fine (strides splits) (counted splits) start own) refl
+    own_fine : is_fine (strides splits) (counted splits) start stage_loop ≡ true
+    own_fine = by_test (is_fine (strides splits) (counted splits) start stage_loop) refl
       where
-        by_test : (b : Bool) → is_fine (strides splits) (counted splits) start own ≡ b → b ≡ true
+        by_test : (b : Bool) → is_fine (strides splits) (counted splits) start stage_loop ≡ b → b ≡ true
         by_test true e = refl
         by_test false e =
-            let one : flaw (strides splits) (counted splits) start own ≡ 1 = ap (λ (t : Bool). cond {A = ℕ} t 0 1) e in
-            absurd (omega (arith, fine.flawless, one, total-append (flaw (strides splits) (counted splits) start) before (own ∷ after)))
+            let one : flaw (strides splits) (counted splits) start stage_loop ≡ 1 = ap
+            (λ (t : Bool). cond {A = ℕ} t 0 1) e in
+            absurd (omega (arith, fine.flawless, one, total-append (flaw (strides splits) (counted splits) start) before (stage_loop ∷ after)))
 
-    own_parts : (1 ≤ strides splits own.id) × (has_variable own.variable start ≡ true)
+    own_parts : (1 ≤ strides splits stage_loop.id) × (has_variable stage_loop.variable start ≡ true)
     own_parts =
-        let p = and_parts (nat_le 1 (strides splits own.id)) (fits (counted splits) own own.inner_of && has_variable own.variable start) own_fine in
-        (leb-true 1 (strides splits own.id) p.0, (and_parts (fits (counted splits) own own.inner_of) (has_variable own.variable start) p.1).1)
+        let p = and_parts (nat_le 1 (strides splits stage_loop.id)) (fits (counted splits) stage_loop stage_loop.inner_of && has_variable stage_loop.variable start) own_fine in
+        (leb-true 1 (strides splits stage_loop.id) p.0, (and_parts (fits (counted splits) stage_loop stage_loop.inner_of) (has_variable stage_loop.variable start) p.1).1)
 
     abbrev inner : Loop
     inner = record {
       id = ids.Inner place;
       name = line.inner;
-      variable = own.variable;
+      variable = stage_loop.variable;
       inner_of = Some line.factor;
-      is_from_shift = own.is_from_shift
+      is_from_shift = stage_loop.is_from_shift
           || is_shift line.tail;
       marked = None;
     }
@@ -148,20 +149,20 @@ module _ (extents : Extents) (is_update : Bool) (start : List Loop) where
     outer = record {
       id = ids.Outer place;
       name = line.outer;
-      variable = own.variable;
+      variable = stage_loop.variable;
       inner_of = None;
-      is_from_shift = own.is_from_shift
+      is_from_shift = stage_loop.is_from_shift
           || is_shift line.tail;
       marked = None;
     }
 
-    inner_stride : strides more (ids.Inner place) ≡ strides splits own.id
+    inner_stride : strides more (ids.Inner place) ≡ strides splits stage_loop.id
     inner_stride = ap (λ (v : Values). v (ids.Inner place)) strides_are ∙ rw (same_id-self (ids.Inner place)) refl
 
     inner_count : counted more (ids.Inner place) ≡ line.factor
     inner_count = ap (λ (v : Values). v (ids.Inner place)) counts_are ∙ rw (same_id-self (ids.Inner place)) refl
 
-    outer_stride : strides more (ids.Outer place) ≡ strides splits own.id * line.factor
+    outer_stride : strides more (ids.Outer place) ≡ strides splits stage_loop.id * line.factor
     outer_stride = ap (λ (v : Values). v (ids.Outer place)) strides_are ∙ rw (same_id-self (ids.Outer place)) refl
 
     fine_by : (b : Bool) → b ≡ true → cond {A = ℕ} b 0 1 ≡ 0
@@ -170,9 +171,9 @@ module _ (extents : Extents) (is_update : Bool) (start : List Loop) where
     inner_flaw : flaw (strides more) (counted more) start inner ≡ 0
     inner_flaw =
         fine_by (is_fine (strides more) (counted more) start inner)
-        (and_from (nat_le 1 (strides more (ids.Inner place))) (counted more (ids.Inner place) == line.factor && has_variable own.variable start)
+        (and_from (nat_le 1 (strides more (ids.Inner place))) (counted more (ids.Inner place) == line.factor && has_variable stage_loop.variable start)
         (le-leb 1 (strides more (ids.Inner place)) (omega (arith, own_parts.0, inner_stride)))
-        (and_from (counted more (ids.Inner place) == line.factor) (has_variable own.variable start) (eq-eqb (counted more (ids.Inner place)) line.factor
+        (and_from (counted more (ids.Inner place) == line.factor) (has_variable stage_loop.variable start) (eq-eqb (counted more (ids.Inner place)) line.factor
         inner_count) own_parts.1))
 
     product_some : (a b : ℕ) → 1 ≤ a → 1 ≤ b → 1 ≤ a * b
@@ -183,30 +184,33 @@ module _ (extents : Extents) (is_update : Bool) (start : List Loop) where
     outer_flaw : flaw (strides more) (counted more) start outer ≡ 0
     outer_flaw =
         fine_by (is_fine (strides more) (counted more) start outer)
-        (and_from (nat_le 1 (strides more (ids.Outer place))) (true && has_variable own.variable start)
-        (le-leb 1 (strides more (ids.Outer place)) (omega (arith, product_some (strides splits own.id) line.factor own_parts.0 is.some, outer_stride)))
+        (and_from (nat_le 1 (strides more (ids.Outer place))) (true && has_variable stage_loop.variable start)
+        (le-leb 1 (strides more (ids.Outer place)) (omega (arith, product_some (strides splits stage_loop.id) line.factor own_parts.0 is.some, outer_stride)))
         own_parts.1)
 
-    more_fine : Fine (before ++ (parts own (length splits) line ++ after)) (splits ++ split_by own line ∷ [])
+    more_fine : Fine (before ++ (parts stage_loop (length splits) line ++ after))
+        (splits ++ split_by stage_loop line ∷ [])
     more_fine = record {
-      is_sound = (sound_stays is_update start begun).parted before own after splits line is fine.is_sound;
-      flawless = omega (arith, total_parts (flaw (strides more) (counted more) start) before own after place line, old_total, inner_flaw, outer_flaw);
+      is_sound = (sound_stays is_update start begun).parted before stage_loop after splits line is fine.is_sound;
+      flawless = omega (arith, total_parts (flaw (strides more) (counted more) start) before stage_loop after place line, old_total, inner_flaw, outer_flaw);
       even = λ update id. ap (λ (u : LoopId → Bool). u id) uneven_is ∙ even_by update (same_id id (ids.Inner place)) (same_id id (ids.Outer place)) id;
     }
       where
         even_by : is_update ≡ true → (a b : Bool) (id : LoopId)
-            → cond a (is_uneven splits own.id) (cond b (is_uneven splits own.id || is_shift line.tail) (is_uneven splits id)) ≡ false
-        even_by update true b id = fine.even update own.id
-        even_by update false true id = rw (fine.even update own.id) (ap (λ (u : Bool). u && is_shift line.tail) (sym update) ∙ is.unshifted)
+            → cond a (is_uneven splits stage_loop.id) (cond b (is_uneven splits stage_loop.id || is_shift line.tail) (is_uneven splits id)) ≡ false
+        even_by update true b id = fine.even update stage_loop.id
+        even_by update false true id = rw (fine.even update stage_loop.id) (ap (λ (u : Bool). u && is_shift line.tail) (sym update) ∙ is.unshifted)
         even_by update false false id = fine.even update id
 
   fine_stays : Fine start [] → Stays is_update start Fine
   fine_stays begun = record {
     begun = begun;
-    parted = λ before own after splits line is fine. more_fine before own after splits line is begun.is_sound fine;
+    parted = λ before stage_loop after splits line is fine. more_fine before stage_loop after splits line is
+        begun.is_sound fine;
     marked = λ loops new splits same fine. record {
       is_sound = (sound_stays is_update start begun.is_sound).marked loops new splits same fine.is_sound;
-      flawless = bare_total (flaw (strides splits) (counted splits) start) (λ own. refl) new loops same ∙ fine.flawless;
+      flawless = bare_total (flaw (strides splits) (counted splits) start) (λ stage_loop. refl) new loops same ∙
+          fine.flawless;
       even = fine.even;
     };
     moved = λ loops new splits same order fine. record {
@@ -256,21 +260,21 @@ first_bare func (Some update) =
     variables.SecondArgument first) first
 
 module _ (extents : Extents) (start : List Loop) where
-  one_begun : (own : Loop) → own.id ≡ ids.Whole own.variable → own.inner_of ≡ None → has_variable own.variable start ≡ true
-      → flaw (strides []) (counts extents []) start own ≡ 0
-  one_begun own id_is inner_is there =
-      ap (λ (i : LoopId). cond {A = ℕ} (nat_le 1 (strides [] i) && (fits (counts extents []) own own.inner_of && has_variable own.variable start)) 0 1) id_is
-      ∙ ap (λ (o : Option ℕ). cond {A = ℕ} (fits (counts extents []) own o && has_variable own.variable start) 0 1) inner_is
+  one_begun : (stage_loop : Loop) → stage_loop.id ≡ ids.Whole stage_loop.variable → stage_loop.inner_of ≡ None → has_variable stage_loop.variable start ≡ true
+      → flaw (strides []) (counts extents []) start stage_loop ≡ 0
+  one_begun stage_loop id_is inner_is there =
+      ap (λ (i : LoopId). cond {A = ℕ} (nat_le 1 (strides [] i) && (fits (counts extents []) stage_loop stage_loop.inner_of && has_variable stage_loop.variable start)) 0 1) id_is
+      ∙ ap (λ (o : Option ℕ). cond {A = ℕ} (fits (counts extents []) stage_loop o && has_variable stage_loop.variable start) 0 1) inner_is
       ∙ ap (λ (b : Bool). cond {A = ℕ} b 0 1) there
 
   all_begun : (loops : List Loop) → AreBare loops → ((v : Variable) → has_variable v loops ≡ true → has_variable v start ≡ true)
       → total (flaw (strides []) (counts extents []) start) loops ≡ 0
   unfolding AreBare
   all_begun [] are there = refl
-  all_begun (own ∷ loops) are there =
-      let one = one_begun own are.0.0 are.0.1 (there own.variable (ap (λ (b : Bool). b || has_variable own.variable loops) (same_variable-self own.variable)))
+  all_begun (stage_loop ∷ loops) are there =
+      let one = one_begun stage_loop are.0.0 are.0.1 (there stage_loop.variable (ap (λ (b : Bool). b || has_variable stage_loop.variable loops) (same_variable-self stage_loop.variable)))
       in
-      omega (arith, one, all_begun loops are.1 (λ v e. there v (or_right (same_variable own.variable v) (has_variable v loops) e)))
+      omega (arith, one, all_begun loops are.1 (λ v e. there v (or_right (same_variable stage_loop.variable v) (has_variable v loops) e)))
 
 -- ---- loops of stages
 
@@ -299,53 +303,56 @@ module _ (func : Func) (update : Option Update) (extents : Extents) (stage : Sta
   pub unique_loops : Unique stage.loops
   unique_loops = stage_fine.is_sound.unique
 
-  pub record IsVectorized (own : Loop) (outside : List Loop) : Type 0 where
-    pub count : is_lane_count (counts extents stage.splits own.id) ≡ true
-    pub stride : 1 ≤ strides stage.splits own.id
-    pub argument : is_reduction own.variable ≡ false
-    pub there : has_variable own.variable start ≡ true
+  pub record IsVectorized (stage_loop : Loop) (outside : List Loop) : Type 0 where
+    pub count : is_lane_count (counts extents stage.splits stage_loop.id) ≡ true
+    pub stride : 1 ≤ strides stage.splits stage_loop.id
+    pub argument : is_reduction stage_loop.variable ≡ false
+    pub there : has_variable stage_loop.variable start ≡ true
 
   -- outside of the innermost loop, none is vectorized
   none_outside : (at_root : Bool) (outside : List Loop) → keeps rules_of.VectorizedInnermost at_root false outside ≡ true
       → AllByRecursion (λ other. is_vectorized_loop other ≡ false) outside
   none_outside at_root [] kept = tt
-  none_outside at_root (own ∷ outside) kept =
-      let p = and_parts (not (breaks rules_of.VectorizedInnermost at_root false (is_empty outside) own)) (keeps rules_of.VectorizedInnermost at_root false
+  none_outside at_root (stage_loop ∷ outside) kept =
+      let p = and_parts (not (breaks rules_of.VectorizedInnermost at_root false (is_empty outside) stage_loop)) (keeps rules_of.VectorizedInnermost at_root false
       outside) kept in
-      (by_test (is_vectorized_loop own) p.0, none_outside at_root outside p.1)
+      (by_test (is_vectorized_loop stage_loop) p.0, none_outside at_root outside p.1)
     where
       by_test : (b : Bool) → not (b && true) ≡ true → b ≡ false
       by_test true e = cc
       by_test false e = refl
 
-  module _ (rules : KeepsRules stage) (own : Loop) (outside : List Loop) (loops_are : stage.loops ≡ own ∷ outside) where
-    kept : keeps rules_of.VectorizedInnermost rules.0 true (own ∷ outside) ≡ true
+  module _ (rules : KeepsRules stage) (stage_loop : Loop) (outside : List Loop)
+      (loops_are : stage.loops ≡ stage_loop ∷ outside) where
+    kept : keeps rules_of.VectorizedInnermost rules.0 true (stage_loop ∷ outside) ≡ true
     kept = subst (λ (ls : List Loop). keeps rules_of.VectorizedInnermost rules.0 true ls ≡ true) loops_are (rules.1 rules_of.VectorizedInnermost)
 
     pub others_are : AllByRecursion (λ other. is_vectorized_loop other ≡ false) outside
-    others_are = none_outside rules.0 outside (and_parts (not (breaks rules_of.VectorizedInnermost rules.0 true (is_empty outside) own))
+    others_are = none_outside rules.0 outside (and_parts (not (breaks rules_of.VectorizedInnermost rules.0 true (is_empty outside) stage_loop))
         (keeps rules_of.VectorizedInnermost rules.0 false outside) kept).1
 
-    own_is : is_fine (strides stage.splits) (counts extents stage.splits) start own ≡ true
-    own_is = by_test (is_fine (strides stage.splits) (counts extents stage.splits) start own) refl
+    own_is : is_fine (strides stage.splits) (counts extents stage.splits) start stage_loop ≡ true
+    own_is = by_test (is_fine (strides stage.splits) (counts extents stage.splits) start stage_loop) refl
       where
-        by_test : (b : Bool) → is_fine (strides stage.splits) (counts extents stage.splits) start own ≡ b → b ≡ true
+        by_test : (b : Bool) → is_fine (strides stage.splits) (counts extents stage.splits) start stage_loop ≡ b
+            → b ≡ true
         by_test true e = refl
         by_test false e =
-            let one : flaw (strides stage.splits) (counts extents stage.splits) start own ≡ 1 = ap (λ (t : Bool). cond {A = ℕ} t 0 1) e in
-            let all : total (flaw (strides stage.splits) (counts extents stage.splits) start) (own ∷ outside) ≡ 0 =
+            let one : flaw (strides stage.splits) (counts extents stage.splits) start stage_loop ≡ 1 = ap (λ (t : Bool). cond {A = ℕ} t 0 1) e in
+            let all : total (flaw (strides stage.splits) (counts extents stage.splits) start) (stage_loop ∷ outside) ≡ 0
+            =
             subst (λ (ls : List Loop). total (flaw (strides stage.splits) (counts extents stage.splits) start) ls ≡ 0) loops_are stage_fine.flawless in
             absurd (omega (arith, all, one))
 
-    vector_by : (b r : Bool) → is_vectorized_loop own ≡ true → not (is_vectorized_loop own && (false || not b || r)) ≡ true → (b ≡ true) × (r ≡ false)
+    vector_by : (b r : Bool) → is_vectorized_loop stage_loop ≡ true → not (is_vectorized_loop stage_loop && (false || not b || r)) ≡ true → (b ≡ true) × (r ≡ false)
     vector_by true false e k = (refl, refl)
     vector_by true true e k = absurd (true≢false (sym k ∙ ap (λ (t : Bool). not (t && true)) e))
     vector_by false r e k = absurd (true≢false (sym k ∙ ap (λ (t : Bool). not (t && true)) e))
 
-    count_by : (factor : Option ℕ) → is_vector_length factor ≡ true → fits (counts extents stage.splits) own factor ≡ true
-        → is_lane_count (counts extents stage.splits own.id) ≡ true
+    count_by : (factor : Option ℕ) → is_vector_length factor ≡ true → fits (counts extents stage.splits) stage_loop factor ≡ true
+        → is_lane_count (counts extents stage.splits stage_loop.id) ≡ true
     count_by None long fit = cc
-    count_by (Some factor) long fit = ap is_lane_count (eqb-true (counts extents stage.splits own.id) factor fit)
+    count_by (Some factor) long fit = ap is_lane_count (eqb-true (counts extents stage.splits stage_loop.id) factor fit)
         ∙ swapped (factor == 4) (factor == 8) (factor == 16) long
       where
         swapped : (a b c : Bool) → (a || b || c) ≡ true → (a || (b || c)) ≡ true
@@ -353,12 +360,13 @@ module _ (func : Func) (update : Option Update) (extents : Extents) (stage : Sta
         swapped false true c e = refl
         swapped false false c e = e
 
-    pub vectorized : is_vectorized_loop own ≡ true → IsVectorized own outside
+    pub vectorized : is_vectorized_loop stage_loop ≡ true → IsVectorized stage_loop outside
     vectorized e =
-        let k = vector_by (is_vector_length own.inner_of) (is_reduction own.variable) e
-        (and_parts (not (breaks rules_of.VectorizedInnermost rules.0 true (is_empty outside) own)) (keeps rules_of.VectorizedInnermost rules.0 false outside)
+        let k = vector_by (is_vector_length stage_loop.inner_of) (is_reduction stage_loop.variable) e
+        (and_parts (not (breaks rules_of.VectorizedInnermost rules.0 true (is_empty outside) stage_loop)) (keeps rules_of.VectorizedInnermost rules.0 false outside)
         kept).0 in
-        let p = and_parts (nat_le 1 (strides stage.splits own.id)) (fits (counts extents stage.splits) own own.inner_of && has_variable own.variable start)
+        let p = and_parts (nat_le 1 (strides stage.splits stage_loop.id)) (fits (counts extents stage.splits) stage_loop stage_loop.inner_of && has_variable stage_loop.variable start)
         own_is in
-        let q = and_parts (fits (counts extents stage.splits) own own.inner_of) (has_variable own.variable start) p.1 in
-        record { count = count_by own.inner_of k.0 q.0; stride = leb-true 1 (strides stage.splits own.id) p.0; argument = k.1; there = q.1 }
+        let q = and_parts (fits (counts extents stage.splits) stage_loop stage_loop.inner_of)
+        (has_variable stage_loop.variable start) p.1 in
+        record { count = count_by stage_loop.inner_of k.0 q.0; stride = leb-true 1 (strides stage.splits stage_loop.id) p.0; argument = k.1; there = q.1 }

@@ -67,13 +67,13 @@ module _ (flags : List Bool) (all : List Func) where
       let r = updates-most func updates stages are.1 n in
       omega (arith, e, r)
 
-  func-most : (plans : List FuncPlan) (func : Func) (plan : FuncPlan) (own : FuncPlacement) → IsPlan func plan
-      → placed_share flags all plans func plan own ≤ func_weight flags all plans func plan own
-  func-most plans func plan own is =
+  func-most : (plans : List FuncPlan) (func : Func) (plan : FuncPlan) (placement : FuncPlacement) → IsPlan func plan
+      → placed_share flags all plans func plan placement ≤ func_weight flags all plans func plan placement
+  func-most plans func plan placement is =
       let s = shares-are func plan (length func.updates) in
       let u = updates-most func func.updates plan.updates is.updates (length func.updates) in
       times-most (func_share flags all func plan) (stage_weight (nodes_in flags all func.pure) plan.pure + updates_weight flags all func.updates plan.updates)
-      (consumer_copies plans own.place) (omega (arith, s, u))
+      (consumer_copies plans placement.place) (omega (arith, s, u))
 
 -- ---- all that is computed
 
@@ -82,7 +82,7 @@ module _ (pipeline : Pipeline) (schedule : Schedule) (boxes : Boxes) (accepted :
   flagged = flags_of schedule.standings
 
   abbrev share : Option Func → Option FuncPlan → Option FuncPlacement → ℕ
-  share func plan own = computed_share pipeline schedule boxes func plan own
+  share func plan placement = computed_share pipeline schedule boxes func plan placement
 
   abbrev listed : List Func → List FuncPlan → List FuncPlacement → ℕ → ℕ
   listed funcs plans standings at = share (slice_get funcs at) (slice_get plans at) (slice_get standings at)
@@ -91,8 +91,8 @@ module _ (pipeline : Pipeline) (schedule : Schedule) (boxes : Boxes) (accepted :
   none-listed f none at zero = refl
   none-listed f none at (suc n) = let z = none at in let r = none-listed f none (suc at) n in omega (arith, z, r)
 
-  no-func : (plan : Option FuncPlan) (own : Option FuncPlacement) → share None plan own ≡ 0
-  no-func plan own = refl
+  no-func : (plan : Option FuncPlan) (placement : Option FuncPlacement) → share None plan placement ≡ 0
+  no-func plan placement = refl
 
   no-standing : (func : Option Func) (plan : Option FuncPlan) → share func plan None ≡ 0
   no-standing None plan = refl
@@ -103,13 +103,14 @@ module _ (pipeline : Pipeline) (schedule : Schedule) (boxes : Boxes) (accepted :
   nothing zero = refl
   nothing (suc k) = refl
 
-  computed-most : (func : Func) (plan : FuncPlan) (own : FuncPlacement) → IsPlan func plan
-      → share (Some func) (Some plan) (Some own) ≤ computed_weight flagged pipeline.funcs schedule.funcs func plan own
-  computed-most func plan own is = by-test (is_computed own)
+  computed-most : (func : Func) (plan : FuncPlan) (placement : FuncPlacement) → IsPlan func plan
+      → share (Some func) (Some plan) (Some placement) ≤ computed_weight flagged pipeline.funcs schedule.funcs func plan
+      placement
+  computed-most func plan placement is = by-test (is_computed placement)
     where
-      by-test : (t : Bool) → (if t then placed_share flagged pipeline.funcs schedule.funcs func plan own else 0) ≤ (if t then func_weight flagged pipeline.funcs
-          schedule.funcs func plan own else 0)
-      by-test true = func-most flagged pipeline.funcs schedule.funcs func plan own is
+      by-test : (t : Bool) → (if t then placed_share flagged pipeline.funcs schedule.funcs func plan placement else 0) ≤ (if t then func_weight flagged pipeline.funcs
+          schedule.funcs func plan placement else 0)
+      by-test true = func-most flagged pipeline.funcs schedule.funcs func plan placement is
       by-test false = omega arith
 
   lists-most : (funcs : List Func) (plans : List FuncPlan) (standings : List FuncPlacement) → Pairwise IsPlan funcs plans → (n : ℕ)
@@ -123,14 +124,14 @@ module _ (pipeline : Pipeline) (schedule : Schedule) (boxes : Boxes) (accepted :
       (λ k. ap (λ (o : Option FuncPlacement). share (slice_get (func ∷ funcs) k) (slice_get (plan ∷ plans) k) o) (nothing k)
       ∙ no-standing (slice_get (func ∷ funcs) k) (slice_get (plan ∷ plans) k)) 0 n in
       omega (arith, z)
-  lists-most (func ∷ funcs) (plan ∷ plans) (own ∷ standings) are zero = omega arith
-  lists-most (func ∷ funcs) (plan ∷ plans) (own ∷ standings) are (suc n) =
-      let l = computed-most func plan own are.0 in
-      let e = shifted flagged pipeline.funcs (listed (func ∷ funcs) (plan ∷ plans) (own ∷ standings)) (listed funcs plans standings) (λ k. refl) 0 n in
+  lists-most (func ∷ funcs) (plan ∷ plans) (placement ∷ standings) are zero = omega arith
+  lists-most (func ∷ funcs) (plan ∷ plans) (placement ∷ standings) are (suc n) =
+      let l = computed-most func plan placement are.0 in
+      let e = shifted flagged pipeline.funcs (listed (func ∷ funcs) (plan ∷ plans) (placement ∷ standings)) (listed funcs plans standings) (λ k. refl) 0 n in
       let r = lists-most funcs plans standings are.1 n in
       omega (arith, l, e, r)
 
-  -- the phases of all Funcs, with what stands around their tasks
+  -- the phases of all Funcs, with what is around their tasks
   pub all-light : (count : ℕ) (phases : List Phase) → AreLowered pipeline schedule boxes count phases → words_of phases ≤ 64 * weight pipeline schedule
   unfolding weight
   all-light count phases are =

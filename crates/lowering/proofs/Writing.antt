@@ -52,32 +52,33 @@ use Rattle.lowering.proofs.Offsets.{from_first_on, add_swapped}
 use Rattle.lowering.proofs.Painting.{Writes}
 use Rattle.lowering.proofs.Values.{value_is}
 
-put_same : (points : Points) (place : ℕ) (funcs : Planes) (f : ℕ → ℕ → ℕ) (a x b y : ℕ) → a ≡ x → b ≡ y
-    → put points place a b (f a b) funcs ≡ put points place x y (f x y) funcs
-put_same points place funcs f a x b y e g = ap (λ (n : ℕ). put points place n b (f n b) funcs) e ∙ ap (λ (n : ℕ). put points place x n (f x n) funcs) g
+put_same : (points : Points) (func_index : ℕ) (funcs : Planes) (f : ℕ → ℕ → ℕ) (a x b y : ℕ) → a ≡ x → b ≡ y
+    → put points func_index a b (f a b) funcs ≡ put points func_index x y (f x y) funcs
+put_same points func_index funcs f a x b y e g = ap (λ (n : ℕ). put points func_index n b (f n b) funcs) e ∙ ap (λ (n : ℕ). put points func_index x n (f x n) funcs) g
 
 module _ (pipeline : Pipeline) (schedule : Schedule) (boxes : Boxes) (rules : IsWellFormed pipeline) (accepted : IsAccepted pipeline schedule)
     (is : inferred pipeline schedule ≡ Ok boxes)
-    (placed_at : ComputeLevel) (place : ℕ) (func : Func) (plan : FuncPlan) (own : SourceBox) (here : IsComputed place placed_at) (at : IsComputedAt pipeline schedule
-    boxes placed_at place func plan own)
-    (store : Stmt) (store_of : IsStoreOf pipeline schedule boxes placed_at place func own store) (inputs : Planes)
-    (values : List ℕ) (below : Below values own.lasts) (counters : Values)
-    (iterations_same : (inner : loops.Values) → iterations_for schedule.funcs placed_at (put_loops place inner counters) ≡ values) where
+    (placed_at : ComputeLevel) (func_index : ℕ) (func : Func) (plan : FuncPlan) (source_box : SourceBox) (here : IsComputed func_index placed_at) (at : IsComputedAt pipeline schedule
+    boxes placed_at func_index func plan source_box)
+    (store : Stmt) (store_of : IsStoreOf pipeline schedule boxes placed_at func_index func source_box store)
+    (inputs : Planes)
+    (values : List ℕ) (below : Below values source_box.lasts) (counters : Values)
+    (iterations_same : (inner : loops.Values) → iterations_for schedule.funcs placed_at (put_loops func_index inner counters) ≡ values) where
   abbrev extents : Extents
-  extents = extents_of own
+  extents = extents_of source_box
 
   abbrev points : ℕ → ℕ → ℕ → Bool
   points = box_points boxes.funcs
 
   abbrev wanted : Reads
-  wanted = reads_of inputs (pixels pipeline.funcs inputs place)
+  wanted = reads_of inputs (pixels pipeline.funcs inputs func_index)
 
   -- the pixels of the pure definition, from where the box begins on
   abbrev pub plane : Plane
-  plane x y = stage place func inputs (pixels pipeline.funcs inputs place) 0 (word.add (first_of own.x values) x) (word.add (first_of own.y values) y)
+  plane x y = stage func_index func inputs (pixels pipeline.funcs inputs func_index) 0 (word.add (first_of source_box.x values) x) (word.add (first_of source_box.y values) y)
 
   abbrev pub step : loops.Values → Planes → Planes
-  step inner = run points inputs store (put_loops place inner counters)
+  step inner = run points inputs store (put_loops func_index inner counters)
 
   abbrev pub x_of : loops.Values → ℕ
   x_of inner = inner (ids.Whole variables.FirstArgument)
@@ -86,81 +87,85 @@ module _ (pipeline : Pipeline) (schedule : Schedule) (boxes : Boxes) (rules : Is
   y_of inner = inner (ids.Whole variables.SecondArgument)
 
   abbrev pub across : loops.Values → ℕ
-  across inner = word.add (x_of inner) (first_of own.x values)
+  across inner = word.add (x_of inner) (first_of source_box.x values)
 
   abbrev pub down : loops.Values → ℕ
-  down inner = word.add (y_of inner) (first_of own.y values)
+  down inner = word.add (y_of inner) (first_of source_box.y values)
 
-  box_facts : IsBox own
-  box_facts = is_box pipeline schedule boxes place func plan own accepted is placed_at here at
+  box_facts : IsBox source_box
+  box_facts = is_box pipeline schedule boxes func_index func plan source_box accepted is placed_at here at
 
-  stands_at : (inner : loops.Values) (v : Variable) (most : ℕ) → most ≤ 2 ^ 20 → inner (ids.Whole v) < most → whole_at (put_loops place inner counters) place v
+  stands_at : (inner : loops.Values) (v : Variable) (most : ℕ) → most ≤ 2 ^ 20 → inner (ids.Whole v) < most → whole_at (put_loops func_index inner counters) func_index v
       ≡ inner (ids.Whole v)
   stands_at inner v most l e =
-      ap (λ (b : Bool). cond b (inner (ids.Whole v)) (counters (record { func = place; id = ids.Whole v })) % 2 ^ 32) (eq-eqb place place refl)
+      ap (λ (b : Bool). cond b (inner (ids.Whole v)) (counters (record { func = func_index; id = ids.Whole v })) % 2 ^ 32) (eq-eqb func_index func_index refl)
       ∙ mod-eq_of_lt {n = inner (ids.Whole v)} {m = 2 ^ 32} (omega (arith, l, e))
 
   module _ (inner : loops.Values) (v : IsVisitOf func None extents (visit_of extents inner)) where
-    parts : (x_of inner < extent own.x) × (y_of inner < extent own.y)
-    parts = parts_of pipeline schedule boxes rules accepted is placed_at place func plan own here at (visit_of extents inner) v
+    parts : (x_of inner < extent source_box.x) × (y_of inner < extent source_box.y)
+    parts = parts_of pipeline schedule boxes rules accepted is placed_at func_index func plan source_box here at (visit_of extents inner) v
 
-    pub first_from : IsFrom values own.x (x_of inner) (across inner)
-    first_from = from_first_on own.lasts values own.x (x_of inner) box_facts.x below parts.0
+    pub first_from : IsFrom values source_box.x (x_of inner) (across inner)
+    first_from = from_first_on source_box.lasts values source_box.x (x_of inner) box_facts.x below parts.0
 
-    pub second_from : IsFrom values own.y (y_of inner) (down inner)
-    second_from = from_first_on own.lasts values own.y (y_of inner) box_facts.y below parts.1
+    pub second_from : IsFrom values source_box.y (y_of inner) (down inner)
+    second_from = from_first_on source_box.lasts values source_box.y (y_of inner) box_facts.y below parts.1
 
-    pub lies : LiesIn values own (across inner) (down inner)
-    lies = visits_lie func None own box_facts values below extents refl refl (visit_of extents inner) v (across inner) (down inner) first_from second_from
+    pub lies : LiesIn values source_box (across inner) (down inner)
+    lies = visits_lie func None source_box box_facts values below extents refl refl (visit_of extents inner) v (across inner) (down inner) first_from second_from
 
-    pub at_x : whole_at (put_loops place inner counters) place variables.FirstArgument ≡ x_of inner
-    at_x = stands_at inner variables.FirstArgument (extent own.x) (few pipeline schedule boxes place func plan own accepted is placed_at here at
+    pub at_x : whole_at (put_loops func_index inner counters) func_index variables.FirstArgument ≡ x_of inner
+    at_x = stands_at inner variables.FirstArgument (extent source_box.x) (few pipeline schedule boxes func_index func plan source_box accepted is placed_at here at
         variables.FirstArgument) parts.0
 
-    pub at_y : whole_at (put_loops place inner counters) place variables.SecondArgument ≡ y_of inner
-    at_y = stands_at inner variables.SecondArgument (extent own.y) (few pipeline schedule boxes place func plan own accepted is placed_at here at
+    pub at_y : whole_at (put_loops func_index inner counters) func_index variables.SecondArgument ≡ y_of inner
+    at_y = stands_at inner variables.SecondArgument (extent source_box.y) (few pipeline schedule boxes func_index func plan source_box accepted is placed_at here at
         variables.SecondArgument) parts.1
 
-    pub corner_x : linear_value (put_loops place inner counters) store_of.corner.x ≡ first_of own.x values
-    corner_x = (store_of.is_corner (put_loops place inner counters)).0 ∙ ap (first_of own.x) (iterations_same inner)
+    pub corner_x : linear_value (put_loops func_index inner counters) store_of.corner.x ≡ first_of source_box.x values
+    corner_x = (store_of.is_corner (put_loops func_index inner counters)).0 ∙ ap (first_of source_box.x)
+        (iterations_same inner)
 
-    pub corner_y : linear_value (put_loops place inner counters) store_of.corner.y ≡ first_of own.y values
-    corner_y = (store_of.is_corner (put_loops place inner counters)).1 ∙ ap (first_of own.y) (iterations_same inner)
+    pub corner_y : linear_value (put_loops func_index inner counters) store_of.corner.y ≡ first_of source_box.y values
+    corner_y = (store_of.is_corner (put_loops func_index inner counters)).1 ∙ ap (first_of source_box.y)
+        (iterations_same inner)
 
     pure_is : value wanted (at_point (across inner) (down inner)) func.pure ≡ plane (x_of inner) (y_of inner)
     unfolding stage
     pure_is =
-        ap (λ (n : ℕ). value wanted (at_point n (down inner)) func.pure) (add_swapped (x_of inner) (first_of own.x values))
-        ∙ ap (λ (n : ℕ). value wanted (at_point (word.add (first_of own.x values) (x_of inner)) n) func.pure) (add_swapped (y_of inner) (first_of own.y values))
+        ap (λ (n : ℕ). value wanted (at_point n (down inner)) func.pure) (add_swapped (x_of inner) (first_of source_box.x values))
+        ∙ ap (λ (n : ℕ). value wanted (at_point (word.add (first_of source_box.x values) (x_of inner)) n) func.pure) (add_swapped (y_of inner) (first_of source_box.y values))
 
     module _ (funcs : Planes)
-        (agree : Agree wanted (placed store_of.corners (put_loops place inner counters) (reads_of inputs funcs)) (pure_points pipeline schedule wanted place
+        (agree : Agree wanted (placed store_of.corners (put_loops func_index inner counters) (reads_of inputs funcs)) (pure_points pipeline schedule wanted func_index
         func (across inner) (down inner))) where
       abbrev found : Reads
-      found = placed store_of.corners (put_loops place inner counters) (reads_of inputs funcs)
+      found = placed store_of.corners (put_loops func_index inner counters) (reads_of inputs funcs)
 
       abbrev stored : ℕ → ℕ → ℕ
-      stored a b = inlined (valuing found) (flagged (flags_of schedule.standings)) pipeline.funcs place (variable (at_point a b)) func.pure
+      stored a b = inlined (valuing found) (flagged (flags_of schedule.standings)) pipeline.funcs func_index (variable (at_point a b)) func.pure
 
-      pub does : step inner funcs ≡ put points place (x_of inner) (y_of inner) (plane (x_of inner) (y_of inner)) funcs
+      pub does : step inner funcs ≡ put points func_index (x_of inner) (y_of inner) (plane (x_of inner) (y_of inner))
+          funcs
       does =
-          store_of.stores points inputs (put_loops place inner counters) funcs
-          ∙ put_same points place funcs (λ a b. stored (word.add a (linear_value (put_loops place inner counters) store_of.corner.x))
-          (word.add b (linear_value (put_loops place inner counters) store_of.corner.y)))
-          (whole_at (put_loops place inner counters) place variables.FirstArgument) (x_of inner) (whole_at (put_loops place inner counters) place
+          store_of.stores points inputs (put_loops func_index inner counters) funcs
+          ∙ put_same points func_index funcs (λ a b. stored (word.add a (linear_value (put_loops func_index inner counters) store_of.corner.x))
+          (word.add b (linear_value (put_loops func_index inner counters) store_of.corner.y)))
+          (whole_at (put_loops func_index inner counters) func_index variables.FirstArgument) (x_of inner) (whole_at (put_loops func_index inner counters) func_index
           variables.SecondArgument) (y_of inner) at_x at_y
-          ∙ ap (λ (n : ℕ). put points place (x_of inner) (y_of inner) (stored (word.add (x_of inner) n)
-          (word.add (y_of inner) (linear_value (put_loops place inner counters) store_of.corner.y))) funcs) corner_x
-          ∙ ap (λ (n : ℕ). put points place (x_of inner) (y_of inner) (stored (across inner) (word.add (y_of inner) n)) funcs) corner_y
-          ∙ ap (λ (n : ℕ). put points place (x_of inner) (y_of inner) n funcs)
-          (value_is pipeline schedule boxes rules accepted is placed_at place func plan own here at inputs found (across inner) (down inner) agree ∙ pure_is)
+          ∙ ap (λ (n : ℕ). put points func_index (x_of inner) (y_of inner) (stored (word.add (x_of inner) n)
+          (word.add (y_of inner) (linear_value (put_loops func_index inner counters) store_of.corner.y))) funcs)
+          corner_x
+          ∙ ap (λ (n : ℕ). put points func_index (x_of inner) (y_of inner) (stored (across inner) (word.add (y_of inner) n)) funcs) corner_y
+          ∙ ap (λ (n : ℕ). put points func_index (x_of inner) (y_of inner) n funcs)
+          (value_is pipeline schedule boxes rules accepted is placed_at func_index func plan source_box here at inputs found (across inner) (down inner) agree ∙ pure_is)
 
-    module _ (Ready : Planes → Type 0) (stays : (funcs after : Planes) → Keeps place funcs after → Ready funcs → Ready after)
-        (agrees : (funcs : Planes) → Ready funcs → Agree wanted (placed store_of.corners (put_loops place inner counters) (reads_of inputs funcs))
-        (pure_points pipeline schedule wanted place func (across inner) (down inner))) where
-      pub writes : Writes points place plane Ready stays x_of y_of step inner
+    module _ (Ready : Planes → Type 0) (stays : (funcs after : Planes) → Keeps func_index funcs after → Ready funcs → Ready after)
+        (agrees : (funcs : Planes) → Ready funcs → Agree wanted (placed store_of.corners (put_loops func_index inner counters) (reads_of inputs funcs))
+        (pure_points pipeline schedule wanted func_index func (across inner) (down inner))) where
+      pub writes : Writes points func_index plane Ready stays x_of y_of step inner
       writes = record {
-        there = point_there pipeline schedule boxes rules accepted is placed_at place func plan own here at (x_of inner) (y_of inner) parts.0 parts.1;
+        there = point_there pipeline schedule boxes rules accepted is placed_at func_index func plan source_box here at (x_of inner) (y_of inner) parts.0 parts.1;
         does = λ funcs ready. does funcs (agrees funcs ready);
       }
 
@@ -168,22 +173,24 @@ module _ (pipeline : Pipeline) (schedule : Schedule) (boxes : Boxes) (rules : Is
 
     module _ (reads : Reads) (written : Points) (loaded : Point → Bool) where
       abbrev answers : Reads
-      answers = placed store_of.corners (put_loops place inner counters) reads
+      answers = placed store_of.corners (put_loops func_index inner counters) reads
 
       abbrev Loads : ℕ → ℕ → Type 0
-      Loads a b = Hold (λ point. loaded (place_in store_of.corners (put_loops place inner counters) point)) (inlined (seeing answers)
-          (flagged (flags_of schedule.standings)) pipeline.funcs place (seen_variable (at_point a b)) func.pure).points
+      Loads a b = Hold (λ point. loaded (place_in store_of.corners (put_loops func_index inner counters) point)) (inlined (seeing answers)
+          (flagged (flags_of schedule.standings)) pipeline.funcs func_index (seen_variable (at_point a b))
+          func.pure).points
 
-      pub sound : written place (x_of inner) (y_of inner) ≡ true → Hold (λ point. loaded (place_in store_of.corners (put_loops place inner counters) point))
-          (pure_points pipeline schedule answers place func (across inner) (down inner))
-          → is_sound reads written loaded store (put_loops place inner counters) ≡ true
+      pub sound : written func_index (x_of inner) (y_of inner) ≡ true → Hold (λ point. loaded (place_in store_of.corners (put_loops func_index inner counters) point))
+          (pure_points pipeline schedule answers func_index func (across inner) (down inner))
+          → is_sound reads written loaded store (put_loops func_index inner counters) ≡ true
       sound writes all_loaded =
-          let first = ap (λ (n : ℕ). word.add n (linear_value (put_loops place inner counters) store_of.corner.x)) at_x ∙ ap (word.add (x_of inner)) corner_x in
-          let second = ap (λ (n : ℕ). word.add n (linear_value (put_loops place inner counters) store_of.corner.y)) at_y
+          let first = ap (λ (n : ℕ). word.add n (linear_value (put_loops func_index inner counters) store_of.corner.x)) at_x ∙ ap (word.add (x_of inner)) corner_x in
+          let second = ap (λ (n : ℕ). word.add n (linear_value (put_loops func_index inner counters) store_of.corner.y))
+          at_y
           ∙ ap (word.add (y_of inner)) corner_y in
-          store_of.sound reads written loaded (put_loops place inner counters)
-          (ap (λ (n : ℕ). written place n (whole_at (put_loops place inner counters) place variables.SecondArgument)) at_x
-          ∙ ap (written place (x_of inner)) at_y ∙ writes)
-          (subst (λ (n : ℕ). Loads n (word.add (whole_at (put_loops place inner counters) place variables.SecondArgument)
-          (linear_value (put_loops place inner counters) store_of.corner.y))) (sym first)
+          store_of.sound reads written loaded (put_loops func_index inner counters)
+          (ap (λ (n : ℕ). written func_index n (whole_at (put_loops func_index inner counters) func_index variables.SecondArgument)) at_x
+          ∙ ap (written func_index (x_of inner)) at_y ∙ writes)
+          (subst (λ (n : ℕ). Loads n (word.add (whole_at (put_loops func_index inner counters) func_index variables.SecondArgument)
+          (linear_value (put_loops func_index inner counters) store_of.corner.y))) (sym first)
           (subst (Loads (across inner)) (sym second) all_loaded))

@@ -6,7 +6,7 @@
 use Rattle.std.specs.Prelude.{◌≡◌, ℕ, ◌%◌, ◌^◌, List, [], ◌∷◌, slice_get, Option, Some, None}
 use Rattle.halide_pipeline.specs.Words as word
 use Rattle.schedule.specs.declared.plans.FuncPlan.{FuncPlan}
-use Rattle.schedule.specs.declared.placements.LoopPlace.{LoopPlace}
+use Rattle.schedule.specs.declared.placements.LoopPosition.{LoopPosition}
 use Rattle.schedule.specs.declared.placements.ComputeLevel.{ComputeLevel}
 use Rattle.schedule.specs.declared.placements.ComputeLevel.TheVariants as places
 use Rattle.schedule.specs.declared.placements.FuncPlacement.{FuncPlacement}
@@ -29,7 +29,7 @@ abbrev pub first_of : Range → List ℕ → ℕ
 first_of range values = word.subtract (word.add (word_at range.low) (more_sum range.base values % 2 ^ 32)) (less_sum range.base values % 2 ^ 32)
 
 -- what the bases of a Func at a loop count, while counters stand so
-abbrev pub iterations_at : LoopPlace → Option FuncPlan → Values → List ℕ
+abbrev pub iterations_at : LoopPosition → Option FuncPlan → Values → List ℕ
 iterations_at at None values = no_loops
 iterations_at at (Some plan) values = values_in plan at.inside (loops_of at.func values)
 
@@ -43,13 +43,13 @@ iterations_for plans places.Nowhere values = no_loops
 
 -- It is the corner of the box of a Func that is computed there.
 abbrev pub IsCorner : List FuncPlan → ComputeLevel → SourceBox → Corner → Type 0
-IsCorner plans place own corner =
-    (values : Values) → (linear_value values corner.x ≡ first_of own.x (iterations_for plans place values))
-    × (linear_value values corner.y ≡ first_of own.y (iterations_for plans place values))
+IsCorner plans level source_box corner =
+    (values : Values) → (linear_value values corner.x ≡ first_of source_box.x (iterations_for plans level values))
+    × (linear_value values corner.y ≡ first_of source_box.y (iterations_for plans level values))
 
 abbrev pub IsCornerOf : List FuncPlan → ComputeLevel → Option SourceBox → Corner → Type 0
-IsCornerOf plans place None corner = Unit {0}
-IsCornerOf plans place (Some own) corner = IsCorner plans place own corner
+IsCornerOf plans level None corner = Unit {0}
+IsCornerOf plans level (Some own) corner = IsCorner plans level own corner
 
 -- Each box has its corner.
 abbrev pub AreCorners : List FuncPlan → List (Option SourceBox) → List FuncPlacement → List Corner → Type 0
@@ -60,7 +60,7 @@ AreCorners plans (own ∷ boxes) (standing ∷ standings) (corner ∷ corners) =
 
 -- ---- counters
 
--- what stands at a counter; 0 where there is none
+-- what is at a counter; 0 where there is none
 abbrev pub counted_at : Values → Option Counter → ℕ
 counted_at values None = 0
 counted_at values (Some counter) = values counter

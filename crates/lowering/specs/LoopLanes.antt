@@ -19,7 +19,7 @@ LanesMayBeAtOnce phase = (task : ℕ) → task < phase.tasks → (reads : Reads)
 
 -- of a statement, wherever all counters are small
 abbrev pub MayAlwaysBeAtOnce : Stmt → Type 0
-MayAlwaysBeAtOnce made = (reads : Reads) (values : Values) → AllAreSmall values → may_be_at_once reads made values ≡ true
+MayAlwaysBeAtOnce statement = (reads : Reads) (values : Values) → AllAreSmall values → may_be_at_once reads statement values ≡ true
 
 abbrev pub at_once_first : Reads → Option Stmt → Values → Bool
 at_once_first reads None values = true

@@ -40,45 +40,49 @@ module _ (pipeline : Pipeline) (schedule : Schedule) (boxes : Boxes) where
   -- The phase of the stage with this number of a Func: how many tasks it has, which points each owns, which buffers are private, which
   -- inputs are bytes, what its tasks touch, that they take few registers and few words of code, which points its tasks store at, that the
   -- lanes of vectorized loops may be done at once, and which points a run of a pure definition's vectorized loop stores at.
-  pub data IsStagePhase (place : ℕ) (func : Func) (plan : FuncPlan) (own : SourceBox) : ℕ → Phase → Type 0 where
-    Pure : (phase : Phase) → phase.tasks ≡ iteration_count (extents_of own) plan.pure → phase.private ≡ produced_from place 0 schedule.standings
+  pub data IsStagePhase (func_index : ℕ) (func : Func) (plan : FuncPlan) (source_box : SourceBox) : ℕ → Phase
+      → Type 0 where
+    Pure : (phase : Phase) → phase.tasks ≡ iteration_count (extents_of source_box) plan.pure → phase.private ≡ produced_from func_index 0 schedule.standings
         → phase.bytes ≡ byte_places 0 pipeline.inputs
-        → DoesStage pipeline schedule boxes place func 0 (owns (extents_of own) plan.pure) phase
-        → TouchesItsOwn pipeline schedule boxes place (owns (extents_of own) plan.pure) phase → TakesFew pipeline schedule phase
-        × IsLight pipeline schedule place func plan 0 phase
-        → StoresItsOwn boxes place (owns (extents_of own) plan.pure) phase → LanesMayBeAtOnce phase → StoresInRuns place (extents_of own) plan.pure phase
-        → IsStagePhase place func plan own 0 phase
-    Updating : (at : ℕ) (update : Update) (stage : Stage) (phase : Phase) → IsUpdateAt schedule place func plan at update stage
-        → phase.tasks ≡ iteration_count (update_extents own update) stage → phase.private ≡ [] → phase.bytes ≡ byte_places 0 pipeline.inputs
-        → DoesStage pipeline schedule boxes place func (suc at) (owns_update own update stage) phase
-        → TouchesItsOwn pipeline schedule boxes place (owns_update own update stage) phase → TakesFew pipeline schedule phase
-        × IsLight pipeline schedule place func plan (suc at) phase
-        → StoresWhatItNames pipeline schedule boxes place func at own update stage phase → LanesMayBeAtOnce phase
-        → IsStagePhase place func plan own (suc at) phase
+        → DoesStage pipeline schedule boxes func_index func 0 (owns (extents_of source_box) plan.pure) phase
+        → TouchesItsOwn pipeline schedule boxes func_index (owns (extents_of source_box) plan.pure) phase → TakesFew pipeline schedule phase
+        × IsLight pipeline schedule func_index func plan 0 phase
+        → StoresItsOwn boxes func_index (owns (extents_of source_box) plan.pure) phase → LanesMayBeAtOnce phase → StoresInRuns func_index (extents_of source_box) plan.pure phase
+        → IsStagePhase func_index func plan source_box 0 phase
+    Updating : (at : ℕ) (update : Update) (stage : Stage) (phase : Phase) → IsUpdateAt schedule func_index func plan at update stage
+        → phase.tasks ≡ iteration_count (update_extents source_box update) stage → phase.private ≡ [] → phase.bytes ≡ byte_places 0 pipeline.inputs
+        → DoesStage pipeline schedule boxes func_index func (suc at) (owns_update source_box update stage) phase
+        → TouchesItsOwn pipeline schedule boxes func_index (owns_update source_box update stage) phase → TakesFew pipeline schedule phase
+        × IsLight pipeline schedule func_index func plan (suc at) phase
+        → StoresWhatItNames pipeline schedule boxes func_index func at source_box update stage phase
+        → LanesMayBeAtOnce phase
+        → IsStagePhase func_index func plan source_box (suc at) phase
 
   -- There is one exactly if there is the stage.
   abbrev pub IsStagePhaseIfThere : ℕ → Func → FuncPlan → SourceBox → ℕ → Option Phase → Type 0
-  IsStagePhaseIfThere place func plan own number None = length func.updates < number
-  IsStagePhaseIfThere place func plan own number (Some phase) = IsStagePhase place func plan own number phase
+  IsStagePhaseIfThere func_index func plan source_box number None = length func.updates < number
+  IsStagePhaseIfThere func_index func plan source_box number (Some phase) = IsStagePhase func_index func plan source_box
+      number phase
 
-  -- After other phases stand those of the first so many stages of a Func.
-  pub data ArePhasesOf (place : ℕ) (func : Func) (plan : FuncPlan) (own : SourceBox) (others : List Phase) : ℕ → List Phase → Type 0 where
-    None_yet : ArePhasesOf place func plan own others 0 others
-    One_more : (number : ℕ) (phases : List Phase) (phase : Phase) → ArePhasesOf place func plan own others number phases
-        → IsStagePhase place func plan own number phase
-        → ArePhasesOf place func plan own others (suc number) (phases ++ phase ∷ [])
+  -- After other phases stand those of the first this many stages of a Func.
+  pub data ArePhasesOf (func_index : ℕ) (func : Func) (plan : FuncPlan) (source_box : SourceBox) (others : List Phase) : ℕ → List Phase → Type 0 where
+    None_yet : ArePhasesOf func_index func plan source_box others 0 others
+    One_more : (number : ℕ) (phases : List Phase) (phase : Phase)
+        → ArePhasesOf func_index func plan source_box others number phases
+        → IsStagePhase func_index func plan source_box number phase
+        → ArePhasesOf func_index func plan source_box others (suc number) (phases ++ phase ∷ [])
 
   -- No phase is of this Func: the output doesn't reach it, or it isn't computed at root.
   abbrev pub IsNotAtRoot : ℕ → Type 0
-  IsNotAtRoot place = (func : Func) (plan : FuncPlan) (own : SourceBox) → IsAtRoot pipeline schedule boxes place func plan own → ⊥
+  IsNotAtRoot func_index = (func : Func) (plan : FuncPlan) (source_box : SourceBox) → IsAtRoot pipeline schedule boxes func_index func plan source_box → ⊥
 
-  -- the phases of the first so many Funcs
+  -- the phases of the first this many Funcs
   pub data AreLowered : ℕ → List Phase → Type 0 where
     No_func : AreLowered 0 []
-    Passed : (place : ℕ) (phases : List Phase) → AreLowered place phases → IsNotAtRoot place → AreLowered (suc place) phases
-    Computed : (place : ℕ) (before phases : List Phase) (func : Func) (plan : FuncPlan) (own : SourceBox) → AreLowered place before
-        → IsAtRoot pipeline schedule boxes place func plan own → ArePhasesOf place func plan own before (suc (length func.updates)) phases
-        → AreLowered (suc place) phases
+    Passed : (func_index : ℕ) (phases : List Phase) → AreLowered func_index phases → IsNotAtRoot func_index → AreLowered (suc func_index) phases
+    Computed : (func_index : ℕ) (before phases : List Phase) (func : Func) (plan : FuncPlan) (source_box : SourceBox) → AreLowered func_index before
+        → IsAtRoot pipeline schedule boxes func_index func plan source_box → ArePhasesOf func_index func plan source_box before (suc (length func.updates)) phases
+        → AreLowered (suc func_index) phases
 
   -- ---- what they leave
 
@@ -108,7 +112,7 @@ module _ (pipeline : Pipeline) (schedule : Schedule) (boxes : Boxes) where
   -- zeros in the buffers of the Funcs after its own, since those aren't its to write.)
   abbrev pub LeaveOutput : List Phase → Type 0
   LeaveOutput phases = (inputs : Planes) → AnswerWords pipeline.inputs (reads_of inputs (pixels pipeline.funcs inputs 0))
-      → (funcs after : Planes) → AgreeThere (box_points boxes.funcs) (is_private schedule.standings) funcs (λ place x y. 0)
+      → (funcs after : Planes) → AgreeThere (box_points boxes.funcs) (is_private schedule.standings) funcs (λ func_index x y. 0)
       → DoneInOrder (is_private schedule.standings) (map (tasks_of inputs) phases) funcs after
       → (x y : ℕ) → x < pipeline.output.width → y < pipeline.output.height
       → (has_output_at x y ≡ true) × (output_at after x y ≡ pixels pipeline.funcs inputs (length pipeline.funcs) pipeline.output.func x y)

@@ -19,15 +19,16 @@ pub data DoneInOrder (is_private : ℕ → Bool) : List Tasks → Planes → Pla
 
 -- Planes agree at the points that are there, private ones apart.
 abbrev pub AgreeThere : Points → (ℕ → Bool) → Planes → Planes → Type 0
-AgreeThere points is_private one other = (place x y : ℕ) → is_private place ≡ false → points place x y ≡ true → one place x y ≡ other place x y
+AgreeThere points is_private one other = (func_index x y : ℕ) → is_private func_index ≡ false → points func_index x y ≡ true → one func_index x y ≡ other func_index x y
 
 -- Each phase of a list does its part: it begins with what the one before it leaves.
 pub data DoPhases (points : Points) (is_private : ℕ → Bool) : List Tasks → Planes → Planes → Type 0 where
   None_left : (start : Planes) → DoPhases points is_private [] start start
   Same : (phases : List Tasks) (one other result : Planes) → AgreeThere points is_private one other
       → DoPhases points is_private phases other result → DoPhases points is_private phases one result
-  One_more : (first : Tasks) (others : List Tasks) (own : ℕ) (owns : ℕ → ℕ → ℕ → Bool) (start between result : Planes)
-      → DoesPhase points is_private own start between first.count owns first.run
+  One_more : (first : Tasks) (others : List Tasks) (func_index : ℕ) (owns : ℕ → ℕ → ℕ
+      → Bool) (start between result : Planes)
+      → DoesPhase points is_private func_index start between first.count owns first.run
       → DoPhases points is_private others between result → DoPhases points is_private (first ∷ others) start result
 
 -- From buffers that hold the start of the first phase, the phases leave the result of the last one at each point that is there.

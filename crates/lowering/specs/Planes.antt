@@ -30,4 +30,4 @@ box_points boxes place = has_point (box_in (slice_get boxes place))
 
 -- the pixels of the Funcs before this one, with those of its own pure definition
 abbrev pub with_pure : List Func → Planes → ℕ → Func → Planes
-with_pure funcs inputs place func = with_plane place (pure_plane func.pure inputs (pixels funcs inputs place)) (pixels funcs inputs place)
+with_pure funcs inputs func_index func = with_plane func_index (pure_plane func.pure inputs (pixels funcs inputs func_index)) (pixels funcs inputs func_index)

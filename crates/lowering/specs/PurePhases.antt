@@ -15,7 +15,7 @@ use Rattle.schedule_lines.specs.declared.stages.Loop.{Loop}
 use Rattle.schedule_lines.specs.declared.stages.LoopId.TheVariants as ids
 use Rattle.schedule.specs.declared.plans.FuncPlan.{FuncPlan}
 use Rattle.schedule.specs.declared.schedules.Schedule.{Schedule}
-use Rattle.schedule.specs.declared.placements.LoopPlace.{LoopPlace}
+use Rattle.schedule.specs.declared.placements.LoopPosition.{LoopPosition}
 use Rattle.schedule.specs.declared.placements.ComputeLevel.{ComputeLevel}
 use Rattle.schedule.specs.declared.placements.ComputeLevel.TheVariants as places
 use Rattle.schedule.specs.declared.placements.FuncPlacement.{FuncPlacement}
@@ -50,93 +50,99 @@ use Rattle.schedule_loops.specs.Visits.{owns}
 -- ---- which Func it is
 
 abbrev pub is_at_root : FuncPlacement → Bool
-is_at_root own = own.is_reached && is_root own.place
+is_at_root placement = placement.is_reached && is_root placement.place
 
 -- Funcs that are computed at root aren't private.
 abbrev pub RootsAreShared : List FuncPlacement → (ℕ → Bool) → Type 0
-RootsAreShared standings is_private = (other : ℕ) (own : FuncPlacement) → IsReached standings other own → own.place ≡ places.Root → is_private other ≡ false
+RootsAreShared standings is_private = (other : ℕ) (placement : FuncPlacement) → IsReached standings other placement → placement.place ≡ places.Root → is_private other ≡ false
 
 -- The buffers of Funcs that are computed at its loops are private.
 abbrev pub ProducedArePrivate : List FuncPlacement → (ℕ → Bool) → ℕ → Type 0
-ProducedArePrivate standings is_private consumer = (place : ℕ) (own : FuncPlacement) (at : LoopPlace)
-    → IsReached standings place own → own.place ≡ places.At at → at.func ≡ consumer → is_private place ≡ true
+ProducedArePrivate standings is_private consumer = (func_index : ℕ) (placement : FuncPlacement) (at : LoopPosition)
+    → IsReached standings func_index placement → placement.place ≡ places.At at → at.func ≡ consumer
+    → is_private func_index ≡ true
 
 -- ---- what its phase does
 
 -- From the pixels of the Funcs before it, it leaves those of its pure definition: each task at the points that its iteration visits. What
 -- is computed at its loops has buffers of its own.
 abbrev pub DoesPure : Pipeline → Schedule → Boxes → ℕ → Func → FuncPlan → SourceBox → Phase → Type 0
-DoesPure pipeline schedule boxes place func plan own phase =
-    (is_private : ℕ → Bool) → RootsAreShared schedule.standings is_private → ProducedArePrivate schedule.standings is_private place
+DoesPure pipeline schedule boxes func_index func plan source_box phase =
+    (is_private : ℕ → Bool) → RootsAreShared schedule.standings is_private → ProducedArePrivate schedule.standings is_private func_index
     → (inputs : Planes) → AnswerWords pipeline.inputs (reads_of inputs (pixels pipeline.funcs inputs 0))
-    → DoesPhase (box_points boxes.funcs) is_private place
-    (held boxes.funcs (pixels pipeline.funcs inputs place)) (held boxes.funcs (with_pure pipeline.funcs inputs place func))
-    phase.tasks (owns (extents_of own) plan.pure) (run_task (box_points boxes.funcs) inputs phase)
+    → DoesPhase (box_points boxes.funcs) is_private func_index
+    (held boxes.funcs (pixels pipeline.funcs inputs func_index)) (held boxes.funcs (with_pure pipeline.funcs inputs func_index func))
+    phase.tasks (owns (extents_of source_box) plan.pure) (run_task (box_points boxes.funcs) inputs phase)
 
 -- ---- its parts
 
--- where the loop over a whole variable stands
+-- where the loop over a whole variable is
 abbrev pub whole_at : Values → ℕ → Variable → ℕ
-whole_at values place variable = values (record { func = place; id = ids.Whole variable }) % 2 ^ 32
+whole_at values func_index variable = values (record { func = func_index; id = ids.Whole variable }) % 2 ^ 32
 
 -- It writes the value of a pure definition at the point at which the loops over whole variables stand, counted from a corner.
 abbrev pub StoresPure : List Corner → (ℕ → Bool) → List Func → ℕ → Corner → Expr → Stmt → Type 0
-StoresPure corners flags funcs place corner pure made =
+StoresPure corners flags funcs func_index corner pure statement =
     (points : Points) (inputs : Planes) (values : Values) (buffers : Planes)
-    → run points inputs made values buffers
-    ≡ put points place (whole_at values place variables.FirstArgument) (whole_at values place variables.SecondArgument)
-    (inlined (valuing (placed corners values (reads_of inputs buffers))) flags funcs place
-    (variable (at_point (word.add (whole_at values place variables.FirstArgument) (linear_value values corner.x))
-    (word.add (whole_at values place variables.SecondArgument) (linear_value values corner.y)))) pure)
+    → run points inputs statement values buffers
+    ≡ put points func_index (whole_at values func_index variables.FirstArgument)
+    (whole_at values func_index variables.SecondArgument)
+    (inlined (valuing (placed corners values (reads_of inputs buffers))) flags funcs func_index
+    (variable (at_point (word.add (whole_at values func_index variables.FirstArgument) (linear_value values corner.x))
+    (word.add (whole_at values func_index variables.SecondArgument) (linear_value values corner.y)))) pure)
     buffers
 
 -- It stores at that point alone, and in that buffer.
 abbrev pub HitsPure : ℕ → Stmt → Type 0
-HitsPure place made =
+HitsPure func_index statement =
     (points : Points) (inputs : Planes) (func x y : ℕ) (values : Values) (so_far : Trace)
-    → (trace points inputs func x y made values so_far).is_stored
-    ≡ (so_far.is_stored || (place == func && (whole_at values place variables.FirstArgument == x && whole_at values place variables.SecondArgument == y)))
+    → (trace points inputs func x y statement values so_far).is_stored
+    ≡ (so_far.is_stored || (func_index == func && (whole_at values func_index variables.FirstArgument == x && whole_at values func_index variables.SecondArgument == y)))
 
 -- It stores not at a point exactly if it stores at another one, whatever loads are answered.
 abbrev pub MissesPure : ℕ → Stmt → Type 0
-MissesPure place made =
+MissesPure func_index statement =
     (reads : Reads) (x y : ℕ) (values : Values)
-    → is_sound reads (all_but (point_of place x y)) all_points made values
-    ≡ not (x == whole_at values place variables.FirstArgument && y == whole_at values place variables.SecondArgument)
+    → is_sound reads (all_but (point_of func_index x y)) all_points statement values
+    ≡ not (x == whole_at values func_index variables.FirstArgument && y == whole_at values func_index
+    variables.SecondArgument)
 
 -- It is sound where that point may be written, and where all that the pure definition reads there may be loaded, counted from the corners.
 abbrev pub IsSoundPure : List Corner → (ℕ → Bool) → List Func → ℕ → Corner → Expr → Stmt → Type 0
-IsSoundPure corners flags funcs place corner pure made =
+IsSoundPure corners flags funcs func_index corner pure statement =
     (reads : Reads) (written : Points) (loaded : Point → Bool) (values : Values)
-    → written place (whole_at values place variables.FirstArgument) (whole_at values place variables.SecondArgument) ≡ true
+    → written func_index (whole_at values func_index variables.FirstArgument) (whole_at values func_index variables.SecondArgument) ≡ true
     → Hold (λ point. loaded (place_in corners values point))
-    (inlined (seeing (placed corners values reads)) flags funcs place
-    (seen_variable (at_point (word.add (whole_at values place variables.FirstArgument) (linear_value values corner.x))
-    (word.add (whole_at values place variables.SecondArgument) (linear_value values corner.y)))) pure).points
-    → is_sound reads written loaded made values ≡ true
+    (inlined (seeing (placed corners values reads)) flags funcs func_index
+    (seen_variable (at_point (word.add (whole_at values func_index variables.FirstArgument)
+    (linear_value values corner.x))
+    (word.add (whole_at values func_index variables.SecondArgument) (linear_value values corner.y)))) pure).points
+    → is_sound reads written loaded statement values ≡ true
 
 -- It does so for the pure definition of a Func with this box that is computed there, where inlined Funcs are put in place, and each buffer
 -- begins at its box's corner.
-pub record IsStoreOf (pipeline : Pipeline) (schedule : Schedule) (boxes : Boxes) (placed : ComputeLevel) (place : ℕ) (func : Func) (own : SourceBox) (made : Stmt) :
+pub record IsStoreOf (pipeline : Pipeline) (schedule : Schedule) (boxes : Boxes) (placed : ComputeLevel) (func_index : ℕ) (func : Func) (source_box : SourceBox) (statement : Stmt) :
     Type 0 where
   pub corners : List Corner
   pub are_corners : AreCorners schedule.funcs boxes.funcs schedule.standings corners
   pub corner : Corner
-  pub is_corner : IsCorner schedule.funcs placed own corner
-  pub stores : StoresPure corners (flagged (flags_of schedule.standings)) pipeline.funcs place corner func.pure made
-  pub hits : HitsPure place made
-  pub misses : MissesPure place made
-  pub sound : IsSoundPure corners (flagged (flags_of schedule.standings)) pipeline.funcs place corner func.pure made
+  pub is_corner : IsCorner schedule.funcs placed source_box corner
+  pub stores : StoresPure corners (flagged (flags_of schedule.standings)) pipeline.funcs func_index corner func.pure
+      statement
+  pub hits : HitsPure func_index statement
+  pub misses : MissesPure func_index statement
+  pub sound : IsSoundPure corners (flagged (flags_of schedule.standings)) pipeline.funcs func_index corner func.pure
+      statement
 
 -- the loops inside the parallel one, which is the outermost, where there is one
 abbrev pub inside_of : Option Loop → List Loop → List Loop
 inside_of None loops = loops
 inside_of (Some own) loops = take (length loops - 1) loops
 
--- what stands at the task's number
+-- what is at the task's number
 abbrev pub counter_of : ℕ → Option Loop → Option Counter
-counter_of place None = None
-counter_of place (Some own) = Some (record { func = place; id = own.id })
+counter_of func_index None = None
+counter_of func_index (Some own) = Some (record { func = func_index; id = own.id })
 
 -- the places of inputs of bytes, of which the first has this place
 abbrev pub byte_places : ℕ → List Input → List ℕ

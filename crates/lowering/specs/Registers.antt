@@ -16,7 +16,7 @@ use Rattle.lowering_expressions.specs.Needing.{taking}
 
 -- ---- stores
 
--- a definition that calls the first so many Funcs
+-- a definition that calls the first this many Funcs
 abbrev pub taken : List Bool → List Func → ℕ → Expr → ℕ
 taken flags funcs count e = inlined taking (flagged flags) funcs count (λ v. 1) e
 
@@ -26,8 +26,8 @@ second_taken flags funcs count (Some e) = taken flags funcs count e
 
 -- an update of the Func at a place
 abbrev pub update_taken : List Bool → List Func → ℕ → Update → ℕ
-update_taken flags funcs place update =
-    max (taken flags funcs place update.left_x) (max (second_taken flags funcs place update.left_y) (taken flags funcs (place + 1) update.right))
+update_taken flags funcs func_index update =
+    max (taken flags funcs func_index update.left_x) (max (second_taken flags funcs func_index update.left_y) (taken flags funcs (func_index + 1) update.right))
 
 -- ---- phases
 
@@ -35,7 +35,7 @@ update_taken flags funcs place update =
 abbrev pub most_need : Pipeline → Schedule → ℕ
 most_need pipeline schedule = max 1 (needs pipeline schedule).greatest
 
--- At most so many counters stand around a store, the task's own among them: five loops of a consumer, and five loops and four values of split
+-- At most this many counters stand around a store, the task's own among them: five loops of a consumer, and five loops and four values of split
 -- ones of a Func at the innermost. Its expressions need no more than the most, and harts can count its tasks in a word.
 abbrev pub TakesFew : Pipeline → Schedule → Phase → Type 0
 TakesFew pipeline schedule phase = (task_depth phase ≤ 14) × ((greatest_need phase.body ≤ most_need pipeline schedule) × (phase.tasks ≤ 2 ^ 31))

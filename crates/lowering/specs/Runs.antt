@@ -18,17 +18,17 @@ use Rattle.lowering_nests.specs.Nests.{loops_of}
 
 -- The run visits the point, while the other loops of the Func at a place are in the iterations that counters stand at, and these are iterations of theirs.
 abbrev pub is_in_run : Extents → Stage → ℕ → ℕ → ℕ → Values → Bool
-is_in_run extents stage place x y values =
-    are_iterations (counts extents stage.splits) (outside_innermost stage.loops) (loops_of place values)
-    && list_any (is_slice x y) (run_of extents stage (loops_of place values))
+is_in_run extents stage func_index x y values =
+    are_iterations (counts extents stage.splits) (outside_innermost stage.loops) (loops_of func_index values)
+    && list_any (is_slice x y) (run_of extents stage (loops_of func_index values))
 
 -- Where the stage of the Func at a place is vectorized, each task of the phase stores points of the Func in vectorized loops of the Func alone,
 -- and each run of such a loop stores exactly at the points that the stage visits in the run, while its other loops are in some of their iterations, however
 -- loads are answered.
 abbrev pub StoresInRuns : ℕ → Extents → Stage → Phase → Type 0
-StoresInRuns place extents stage phase =
+StoresInRuns func_index extents stage phase =
     is_vectorized_first stage.loops ≡ true → (task : ℕ) → task < phase.tasks → (reads : Reads) (x y : ℕ)
-    → stores_in_runs reads place x y (is_in_run extents stage place x y) phase.body (task_values phase.counter task) ≡ true
+    → stores_in_runs reads func_index x y (is_in_run extents stage func_index x y) phase.body (task_values phase.counter task) ≡ true
 
 -- ---- law
 

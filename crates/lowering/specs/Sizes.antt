@@ -22,9 +22,9 @@ use Rattle.lowering.specs.ProducedFuncs.{is_produced}
 
 -- ---- stores
 
--- the nodes of a definition that calls the first so many Funcs
+-- the nodes of a definition that calls the first this many Funcs
 abbrev pub counted : List Bool → List Func → ℕ → Expr → ℕ
-counted flags funcs count own = inlined counting (flagged flags) funcs count (λ v. 1) own
+counted flags funcs count expression = inlined counting (flagged flags) funcs count (λ v. 1) expression
 
 abbrev pub second_counted : List Bool → List Func → ℕ → Option Expr → ℕ
 second_counted flags funcs count None = 0
@@ -32,13 +32,13 @@ second_counted flags funcs count (Some own) = counted flags funcs count own
 
 -- of an update of the Func at a place
 abbrev pub update_counted : List Bool → List Func → ℕ → Update → ℕ
-update_counted flags funcs place update =
-    counted flags funcs (place + 1) update.right + (counted flags funcs place update.left_x + second_counted flags funcs place update.left_y)
+update_counted flags funcs func_index update =
+    counted flags funcs (func_index + 1) update.right + (counted flags funcs func_index update.left_x + second_counted flags funcs func_index update.left_y)
 
 -- what a second index comes to, which is 0 where none is written
 abbrev pub IsGivenIndex : List Bool → List Func → ℕ → Option Expr → loop.Expr → Type 0
-IsGivenIndex flags funcs place None made = made ≡ e.Number 0
-IsGivenIndex flags funcs place (Some own) made = IsGiven (size made) (counted flags funcs place own)
+IsGivenIndex flags funcs func_index None made = made ≡ e.Number 0
+IsGivenIndex flags funcs func_index (Some own) made = IsGiven (size made) (counted flags funcs func_index own)
 
 -- ---- stages
 
@@ -47,7 +47,7 @@ update_share flags funcs None stage = 0
 update_share flags funcs (Some update) None = 0
 update_share flags funcs (Some update) (Some stage) = stage_weight (update_nodes flags funcs update) stage
 
--- of a Func's pure definition and its first so many updates
+-- of a Func's pure definition and its first this many updates
 abbrev pub shares : List Bool → List Func → Func → FuncPlan → ℕ → ℕ
 shares flags funcs func plan zero = stage_weight (nodes_in flags funcs func.pure) plan.pure
 shares flags funcs func plan (suc n) = shares flags funcs func plan n + update_share flags funcs (slice_get func.updates n) (slice_get plan.updates n)
@@ -57,21 +57,22 @@ func_share flags funcs func plan = shares flags funcs func plan (length func.upd
 
 -- ---- Funcs at the loops of a consumer
 
--- over so many places, from one on
+-- over this many places, from one on
 abbrev pub summed : (ℕ → ℕ) → ℕ → ℕ → ℕ
 summed f at zero = 0
 summed f at (suc n) = f at + summed f (suc at) n
 
 -- in each copy of the code around it
 abbrev pub placed_share : List Bool → List Func → List FuncPlan → Func → FuncPlan → FuncPlacement → ℕ
-placed_share flags funcs plans func plan own = func_share flags funcs func plan * consumer_copies plans own.place
+placed_share flags funcs plans func plan placement = func_share flags funcs func plan * consumer_copies plans
+    placement.place
 
 abbrev pub produced_share : List Bool → List Func → List FuncPlan → ℕ → Option Func → Option FuncPlan → Option FuncPlacement → ℕ
-produced_share flags funcs plans consumer None plan own = 0
-produced_share flags funcs plans consumer (Some func) None own = 0
+produced_share flags funcs plans consumer None plan placement = 0
+produced_share flags funcs plans consumer (Some func) None placement = 0
 produced_share flags funcs plans consumer (Some func) (Some plan) None = 0
-produced_share flags funcs plans consumer (Some func) (Some plan) (Some own) =
-    if is_produced consumer own then placed_share flags funcs plans func plan own else 0
+produced_share flags funcs plans consumer (Some func) (Some plan) (Some placement) =
+    if is_produced consumer placement then placed_share flags funcs plans func plan placement else 0
 
 -- of all Funcs that are computed at loops of the consumer
 abbrev pub produced_shares : Pipeline → Schedule → ℕ → ℕ
@@ -83,15 +84,15 @@ produced_shares pipeline schedule consumer =
 
 -- what the stage with this number weighs of a Func at root, with the Funcs at the loops of its pure definition
 abbrev pub phase_share : Pipeline → Schedule → ℕ → Func → FuncPlan → ℕ → ℕ
-phase_share pipeline schedule place func plan zero =
+phase_share pipeline schedule func_index func plan zero =
     stage_weight (nodes_in (flags_of schedule.standings) pipeline.funcs func.pure) plan.pure
-    + produced_shares pipeline schedule place
-phase_share pipeline schedule place func plan (suc at) = update_share (flags_of schedule.standings) pipeline.funcs (slice_get func.updates at)
+    + produced_shares pipeline schedule func_index
+phase_share pipeline schedule func_index func plan (suc at) = update_share (flags_of schedule.standings) pipeline.funcs (slice_get func.updates at)
     (slice_get plan.updates at)
 
 -- Its task has no more words than 64 for each of these, with 24 that stand around it in a program.
 abbrev pub IsLight : Pipeline → Schedule → ℕ → Func → FuncPlan → ℕ → Phase → Type 0
-IsLight pipeline schedule place func plan number phase = whole_size phase.body + 24 ≤ 64 * phase_share pipeline schedule place func plan number
+IsLight pipeline schedule func_index func plan number phase = whole_size phase.body + 24 ≤ 64 * phase_share pipeline schedule func_index func plan number
 
 -- the words of the tasks of phases, with those around them
 abbrev pub words_of : List Phase → ℕ

@@ -29,21 +29,21 @@ is_private_in (Some own) = own.is_reached && is_at_loop own.place
 
 -- Each hart has buffers of its own of Funcs that are computed at loops, of whichever consumer.
 abbrev pub is_private : List FuncPlacement → ℕ → Bool
-is_private standings place = is_private_in (slice_get standings place)
+is_private standings func_index = is_private_in (slice_get standings func_index)
 
 -- ---- pixels after stages
 
--- the pixels of the Funcs before this one, and of this one after its first so many stages
+-- the pixels of the Funcs before this one, and of this one after its first this many stages
 abbrev pub after_stages : List Func → Planes → ℕ → Func → ℕ → Planes
-after_stages funcs inputs place func zero = pixels funcs inputs place
-after_stages funcs inputs place func (suc number) = with_plane place (stage place func inputs (pixels funcs inputs place) number) (pixels funcs inputs place)
+after_stages funcs inputs func_index func zero = pixels funcs inputs func_index
+after_stages funcs inputs func_index func (suc number) = with_plane func_index (stage func_index func inputs (pixels funcs inputs func_index) number) (pixels funcs inputs func_index)
 
 -- ---- what its phase does
 
 -- The phase of the stage with this number of a Func, each of whose tasks owns these points of it.
 abbrev pub DoesStage : Pipeline → Schedule → Boxes → ℕ → Func → ℕ → (ℕ → ℕ → ℕ → Bool) → Phase → Type 0
-DoesStage pipeline schedule boxes place func number owned phase =
+DoesStage pipeline schedule boxes func_index func number owned phase =
     (inputs : Planes) → AnswerWords pipeline.inputs (reads_of inputs (pixels pipeline.funcs inputs 0))
-    → DoesPhase (box_points boxes.funcs) (is_private schedule.standings) place
-    (held boxes.funcs (after_stages pipeline.funcs inputs place func number)) (held boxes.funcs (after_stages pipeline.funcs inputs place func (suc number)))
+    → DoesPhase (box_points boxes.funcs) (is_private schedule.standings) func_index
+    (held boxes.funcs (after_stages pipeline.funcs inputs func_index func number)) (held boxes.funcs (after_stages pipeline.funcs inputs func_index func (suc number)))
     phase.tasks owned (run_task (box_points boxes.funcs) inputs phase)

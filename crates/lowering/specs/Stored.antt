@@ -26,20 +26,21 @@ use Rattle.lowering.specs.Updates.{owns_update}
 -- Each task of the phase, of which each owns these points of the Func at a place, stores at a point of the Func exactly if it owns it,
 -- whatever buffers hold.
 abbrev pub StoresItsOwn : Boxes → ℕ → (ℕ → ℕ → ℕ → Bool) → Phase → Type 0
-StoresItsOwn boxes place owned phase =
-    (inputs funcs : Planes) (task : ℕ) → task < phase.tasks → (x y : ℕ) → is_stored_by_task (box_points boxes.funcs) inputs phase task place x y funcs
+StoresItsOwn boxes func_index owned phase =
+    (inputs funcs : Planes) (task : ℕ) → task < phase.tasks → (x y : ℕ) → is_stored_by_task (box_points boxes.funcs) inputs phase task func_index x y funcs
     ≡ owned task x y
 
 -- ---- updates
 
 -- Each task stores at a point exactly if the left side names it, from buffers that hold the start, at the points of the own Func that the task
 -- owns and at all points of others; and it owns what the left side names.
-pub record StoresWhatItNames (pipeline : Pipeline) (schedule : Schedule) (boxes : Boxes) (place : ℕ) (func : Func) (at : ℕ) (own : SourceBox) (update : Update)
+pub record StoresWhatItNames (pipeline : Pipeline) (schedule : Schedule) (boxes : Boxes) (func_index : ℕ) (func : Func) (at : ℕ) (source_box : SourceBox) (update : Update)
     (stage : Stage) (phase : Phase) : Type 0 where
   pub owned : (inputs : Planes) → AnswerWords pipeline.inputs (reads_of inputs (pixels pipeline.funcs inputs 0)) → (task : ℕ) → task < phase.tasks
-      → (x y : ℕ) → names pipeline inputs place own update stage task x y ≡ true → owns_update own update stage task x y ≡ true
+      → (x y : ℕ) → names pipeline inputs func_index source_box update stage task x y ≡ true → owns_update source_box update stage task x y ≡ true
   pub exactly : (inputs : Planes) → AnswerWords pipeline.inputs (reads_of inputs (pixels pipeline.funcs inputs 0)) → (funcs : Planes) (task : ℕ)
       → task < phase.tasks
-      → Hold (box_points boxes.funcs) (is_private schedule.standings) place (owns_update own update stage task)
-      (held boxes.funcs (after_stages pipeline.funcs inputs place func (suc at))) funcs
-      → (x y : ℕ) → is_stored_by_task (box_points boxes.funcs) inputs phase task place x y funcs ≡ names pipeline inputs place own update stage task x y
+      → Hold (box_points boxes.funcs) (is_private schedule.standings) func_index
+      (owns_update source_box update stage task)
+      (held boxes.funcs (after_stages pipeline.funcs inputs func_index func (suc at))) funcs
+      → (x y : ℕ) → is_stored_by_task (box_points boxes.funcs) inputs phase task func_index x y funcs ≡ names pipeline inputs func_index source_box update stage task x y

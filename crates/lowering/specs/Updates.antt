@@ -55,17 +55,17 @@ use Rattle.lowering.specs.PurePhases.{whole_at}
 -- ---- which update it is
 
 -- A Func that the output reaches and that is computed, with its loops and its box.
-pub record IsComputedIn (pipeline : Pipeline) (schedule : Schedule) (boxes : Boxes) (place : ℕ) (func : Func) (plan : FuncPlan) (own : SourceBox) : Type 0 where
-  pub func_is : slice_get pipeline.funcs place ≡ Some func
-  pub plan_is : slice_get schedule.funcs place ≡ Some plan
-  pub box_is : slice_get boxes.funcs place ≡ Some (Some own)
+pub record IsComputedIn (pipeline : Pipeline) (schedule : Schedule) (boxes : Boxes) (func_index : ℕ) (func : Func) (plan : FuncPlan) (source_box : SourceBox) : Type 0 where
+  pub func_is : slice_get pipeline.funcs func_index ≡ Some func
+  pub plan_is : slice_get schedule.funcs func_index ≡ Some plan
+  pub box_is : slice_get boxes.funcs func_index ≡ Some (Some source_box)
   pub standing : FuncPlacement
-  pub there : IsReached schedule.standings place standing
-  pub computed : IsComputed place standing.place
+  pub there : IsReached schedule.standings func_index standing
+  pub computed : IsComputed func_index standing.place
 
 -- The update with this number, from 0, of the Func at a place, with its loops.
-pub record IsUpdateAt (schedule : Schedule) (place : ℕ) (func : Func) (plan : FuncPlan) (at : ℕ) (update : Update) (stage : Stage) : Type 0 where
-  pub plan_is : slice_get schedule.funcs place ≡ Some plan
+pub record IsUpdateAt (schedule : Schedule) (func_index : ℕ) (func : Func) (plan : FuncPlan) (at : ℕ) (update : Update) (stage : Stage) : Type 0 where
+  pub plan_is : slice_get schedule.funcs func_index ≡ Some plan
   pub update_is : slice_get func.updates at ≡ Some update
   pub stage_is : slice_get plan.updates at ≡ Some stage
 
@@ -73,16 +73,17 @@ pub record IsUpdateAt (schedule : Schedule) (place : ℕ) (func : Func) (plan : 
 
 -- what the second reduction variable stands for, counted from its minimum
 abbrev pub second_reduced : Values → ℕ → Option Reduction → ℕ
-second_reduced values place None = 0
-second_reduced values place (Some own) = word.add (whole_at values place variables.SecondReduction) own.minimum
+second_reduced values func_index None = 0
+second_reduced values func_index (Some own) = word.add (whole_at values func_index variables.SecondReduction)
+    own.minimum
 
 -- what the variables stand for: arguments counted from the corner, reduction variables from their minimum
 abbrev pub visited_point : Values → ℕ → Corner → Update → Environment
-visited_point values place corner update = record {
-  first_argument = word.add (whole_at values place variables.FirstArgument) (linear_value values corner.x);
-  second_argument = word.add (whole_at values place variables.SecondArgument) (linear_value values corner.y);
-  first_reduction = word.add (whole_at values place variables.FirstReduction) update.first.minimum;
-  second_reduction = second_reduced values place update.second;
+visited_point values func_index corner update = record {
+  first_argument = word.add (whole_at values func_index variables.FirstArgument) (linear_value values corner.x);
+  second_argument = word.add (whole_at values func_index variables.SecondArgument) (linear_value values corner.y);
+  first_reduction = word.add (whole_at values func_index variables.FirstReduction) update.first.minimum;
+  second_reduction = second_reduced values func_index update.second;
 }
 
 -- an index that isn't written is 0
@@ -92,29 +93,29 @@ index_of answer (Some index) = answer index
 
 -- It writes the value of the right side at the point that the left side names, counted from the Func's corner.
 abbrev pub StoresUpdate : List Corner → (ℕ → Bool) → List Func → ℕ → Corner → Update → Stmt → Type 0
-StoresUpdate corners flags funcs place corner update made =
+StoresUpdate corners flags funcs func_index corner update statement =
     (points : Points) (inputs : Planes) (values : Values) (buffers : Planes)
-    → run points inputs made values buffers
-    ≡ put points place
-    (word.subtract (inlined (valuing (placed corners values (reads_of inputs buffers))) flags funcs place (variable (visited_point values place corner update))
+    → run points inputs statement values buffers
+    ≡ put points func_index
+    (word.subtract (inlined (valuing (placed corners values (reads_of inputs buffers))) flags funcs func_index (variable (visited_point values func_index corner update))
     update.left_x) (linear_value values corner.x))
-    (word.subtract (index_of (inlined (valuing (placed corners values (reads_of inputs buffers))) flags funcs place
-    (variable (visited_point values place corner update))) update.left_y) (linear_value values corner.y))
-    (inlined (valuing (placed corners values (reads_of inputs buffers))) flags funcs (suc place) (variable (visited_point values place corner update))
+    (word.subtract (index_of (inlined (valuing (placed corners values (reads_of inputs buffers))) flags funcs func_index
+    (variable (visited_point values func_index corner update))) update.left_y) (linear_value values corner.y))
+    (inlined (valuing (placed corners values (reads_of inputs buffers))) flags funcs (suc func_index) (variable (visited_point values func_index corner update))
     update.right)
     buffers
 
 -- It stores at that point alone, and in that buffer.
 abbrev pub HitsUpdate : List Corner → (ℕ → Bool) → List Func → ℕ → Corner → Update → Stmt → Type 0
-HitsUpdate corners flags funcs place corner update made =
+HitsUpdate corners flags funcs func_index corner update statement =
     (points : Points) (inputs : Planes) (func x y : ℕ) (values : Values) (so_far : Trace)
-    → (trace points inputs func x y made values so_far).is_stored
+    → (trace points inputs func x y statement values so_far).is_stored
     ≡ (so_far.is_stored
-    || (place == func
-    && (word.subtract (inlined (valuing (placed corners values (reads_of inputs so_far.funcs))) flags funcs place
-    (variable (visited_point values place corner update)) update.left_x) (linear_value values corner.x) == x
-    && word.subtract (index_of (inlined (valuing (placed corners values (reads_of inputs so_far.funcs))) flags funcs place
-    (variable (visited_point values place corner update))) update.left_y) (linear_value values corner.y) == y)))
+    || (func_index == func
+    && (word.subtract (inlined (valuing (placed corners values (reads_of inputs so_far.funcs))) flags funcs func_index
+    (variable (visited_point values func_index corner update)) update.left_x) (linear_value values corner.x) == x
+    && word.subtract (index_of (inlined (valuing (placed corners values (reads_of inputs so_far.funcs))) flags funcs func_index
+    (variable (visited_point values func_index corner update))) update.left_y) (linear_value values corner.y) == y)))
 
 -- an index that isn't written reads nothing
 abbrev pub points_of_index : (Expr → List Point) → Option Expr → List Point
@@ -123,32 +124,35 @@ points_of_index read (Some index) = read index
 
 -- It is sound where that point may be written, and where all that the update reads there may be loaded, counted from the corners.
 abbrev pub IsSoundUpdate : List Corner → (ℕ → Bool) → List Func → ℕ → Corner → Update → Stmt → Type 0
-IsSoundUpdate corners flags funcs place corner update made =
+IsSoundUpdate corners flags funcs func_index corner update statement =
     (reads : Reads) (written : Points) (loaded : Point → Bool) (values : Values)
-    → written place
-    (word.subtract (inlined (valuing (placed corners values reads)) flags funcs place (variable (visited_point values place corner update)) update.left_x)
+    → written func_index
+    (word.subtract (inlined (valuing (placed corners values reads)) flags funcs func_index (variable (visited_point values func_index corner update)) update.left_x)
     (linear_value values corner.x))
-    (word.subtract (index_of (inlined (valuing (placed corners values reads)) flags funcs place (variable (visited_point values place corner update)))
+    (word.subtract (index_of (inlined (valuing (placed corners values reads)) flags funcs func_index (variable (visited_point values func_index corner update)))
     update.left_y) (linear_value values corner.y)) ≡ true
     → Hold (λ point. loaded (place_in corners values point))
-    (inlined (seeing (placed corners values reads)) flags funcs place (seen_variable (visited_point values place corner update)) update.left_x).points
+    (inlined (seeing (placed corners values reads)) flags funcs func_index (seen_variable (visited_point values func_index corner update)) update.left_x).points
     → Hold (λ point. loaded (place_in corners values point))
-    (points_of_index (λ e. (inlined (seeing (placed corners values reads)) flags funcs place (seen_variable (visited_point values place corner update))
+    (points_of_index (λ e. (inlined (seeing (placed corners values reads)) flags funcs func_index (seen_variable (visited_point values func_index corner update))
     e).points) update.left_y)
     → Hold (λ point. loaded (place_in corners values point))
-    (inlined (seeing (placed corners values reads)) flags funcs (suc place) (seen_variable (visited_point values place corner update)) update.right).points
-    → is_sound reads written loaded made values ≡ true
+    (inlined (seeing (placed corners values reads)) flags funcs (suc func_index) (seen_variable (visited_point values func_index corner update)) update.right).points
+    → is_sound reads written loaded statement values ≡ true
 
 -- It does so for an update of a Func with this box that is computed at root: each buffer begins at its box's corner.
-pub record IsUpdateStoreOf (pipeline : Pipeline) (schedule : Schedule) (boxes : Boxes) (place : ℕ) (own : SourceBox) (update : Update) (made : Stmt) : Type 0
+pub record IsUpdateStoreOf (pipeline : Pipeline) (schedule : Schedule) (boxes : Boxes) (func_index : ℕ) (source_box : SourceBox) (update : Update) (statement : Stmt) : Type 0
   where
     pub corners : List Corner
     pub are_corners : AreCorners schedule.funcs boxes.funcs schedule.standings corners
     pub corner : Corner
-    pub is_corner : IsCorner schedule.funcs places.Root own corner
-    pub stores : StoresUpdate corners (flagged (flags_of schedule.standings)) pipeline.funcs place corner update made
-    pub hits : HitsUpdate corners (flagged (flags_of schedule.standings)) pipeline.funcs place corner update made
-    pub sound : IsSoundUpdate corners (flagged (flags_of schedule.standings)) pipeline.funcs place corner update made
+    pub is_corner : IsCorner schedule.funcs places.Root source_box corner
+    pub stores : StoresUpdate corners (flagged (flags_of schedule.standings)) pipeline.funcs func_index corner update
+        statement
+    pub hits : HitsUpdate corners (flagged (flags_of schedule.standings)) pipeline.funcs func_index corner update
+        statement
+    pub sound : IsSoundUpdate corners (flagged (flags_of schedule.standings)) pipeline.funcs func_index corner update
+        statement
 
 -- ---- slices
 
@@ -163,77 +167,81 @@ is_visited update x y visit = is_slice (in_place (is_first_in_place update) x) (
 
 -- A task owns the points of the box in the slices that its iteration visits. Which of them it writes depends on data.
 abbrev pub owns_update : SourceBox → Update → Stage → ℕ → ℕ → ℕ → Bool
-owns_update own update stage number x y = has_point (Some own) x y && list_any (is_visited update x y) (visits_in (update_extents own update) stage number)
+owns_update source_box update stage number x y = has_point (Some source_box) x y && list_any (is_visited update x y) (visits_in (update_extents source_box update) stage number)
 
 -- ---- its loops, where the Func is computed at a loop
 
 -- Whatever loops of the Func stand at, its corner is this point.
 abbrev pub IsCornerAt : ℕ → Values → Corner → BoxCorner → Type 0
-IsCornerAt place values corner own = (inner : loops.Values)
-    → (linear_value (put_loops place inner values) corner.x ≡ own.x) × (linear_value (put_loops place inner values) corner.y ≡ own.y)
+IsCornerAt func_index values corner box_corner = (inner : loops.Values)
+    → (linear_value (put_loops func_index inner values) corner.x ≡ box_corner.x) × (linear_value (put_loops func_index inner values) corner.y ≡ box_corner.y)
 
 -- The point is that of the box's corner, while loops of the consumer have these values.
-pub record IsBegin (values : List ℕ) (own : SourceBox) (corner : BoxCorner) : Type 0 where
-  pub x : IsFrom values own.x 0 corner.x
-  pub y : IsFrom values own.y 0 corner.y
+pub record IsBegin (values : List ℕ) (source_box : SourceBox) (corner : BoxCorner) : Type 0 where
+  pub x : IsFrom values source_box.x 0 corner.x
+  pub y : IsFrom values source_box.y 0 corner.y
 
 -- Wherever its loops take its arguments, an update reads other Funcs as by their pixels.
 abbrev pub ReadsPixels : Pipeline → Schedule → List Corner → ℕ → Update → List ℕ → SourceBox → Planes → Values → Planes → Type 0
-ReadsPixels pipeline schedule corners place update iterations own inputs values funcs =
-    (inner : loops.Values) (number x y : ℕ) → number < points update → LiesIn iterations own x y
-    → (plane : Plane) → AnswerWords pipeline.inputs (reads_of inputs (with_plane place plane (pixels pipeline.funcs inputs place)))
+ReadsPixels pipeline schedule corners func_index update iterations source_box inputs values funcs =
+    (inner : loops.Values) (number x y : ℕ) → number < points update → LiesIn iterations source_box x y
+    → (plane : Plane) → AnswerWords pipeline.inputs (reads_of inputs (with_plane func_index plane (pixels pipeline.funcs inputs func_index)))
     → AllByRecursion
-    (λ point. same_source point.source (sources.Func place) ≡ false
-    → placed corners (put_loops place inner values) (reads_of inputs funcs) point.source point.x point.y
-    ≡ reads_of inputs (pixels pipeline.funcs inputs place) point.source point.x point.y)
-    (update_points pipeline schedule (reads_of inputs (with_plane place plane (pixels pipeline.funcs inputs place))) place update number x y)
+    (λ point. same_source point.source (sources.Func func_index) ≡ false
+    → placed corners (put_loops func_index inner values) (reads_of inputs funcs) point.source point.x point.y
+    ≡ reads_of inputs (pixels pipeline.funcs inputs func_index) point.source point.x point.y)
+    (update_points pipeline schedule (reads_of inputs (with_plane func_index plane (pixels pipeline.funcs inputs func_index))) func_index update number x y)
 
 -- Wherever its loops take its arguments, all that an update reads of other sources may be loaded.
 abbrev pub LoadsOthers : Pipeline → Schedule → List Corner → ℕ → Update → List ℕ → SourceBox → Reads → (Point → Bool) → Values → Type 0
-LoadsOthers pipeline schedule corners place update iterations own reads loaded values =
-    (inner : loops.Values) (number x y : ℕ) → number < points update → LiesIn iterations own x y
-    → AllByRecursion (λ point. same_source point.source (sources.Func place) ≡ false → loaded (place_in corners (put_loops place inner values) point) ≡ true)
-    (update_points pipeline schedule (placed corners (put_loops place inner values) reads) place update number x y)
+LoadsOthers pipeline schedule corners func_index update iterations source_box reads loaded values =
+    (inner : loops.Values) (number x y : ℕ) → number < points update → LiesIn iterations source_box x y
+    → AllByRecursion (λ point. same_source point.source (sources.Func func_index) ≡ false → loaded (place_in corners (put_loops func_index inner values) point) ≡ true)
+    (update_points pipeline schedule (placed corners (put_loops func_index inner values) reads) func_index update number
+    x y)
 
--- what stands after so many updates, from a corner on
+-- what is after this many updates, from a corner on
 abbrev pub stage_from : Pipeline → Planes → ℕ → Func → BoxCorner → ℕ → Plane
-stage_from pipeline inputs place func corner updates = from_corner corner (stage place func inputs (pixels pipeline.funcs inputs place) updates)
+stage_from pipeline inputs func_index func corner updates = from_corner corner (stage func_index func inputs (pixels pipeline.funcs inputs func_index) updates)
 
 -- In the box of the Func there is this result, and all else is as it was.
-pub record Leaves (place : ℕ) (own : SourceBox) (result : Plane) (funcs after : Planes) : Type 0 where
-  pub does : (x y : ℕ) → has_point (Some own) x y ≡ true → after place x y ≡ result x y
-  pub keeps : (other x y : ℕ) → (other ≡ place → has_point (Some own) x y ≡ false) → after other x y ≡ funcs other x y
+pub record Leaves (func_index : ℕ) (source_box : SourceBox) (result : Plane) (funcs after : Planes) : Type 0 where
+  pub does : (x y : ℕ) → has_point (Some source_box) x y ≡ true → after func_index x y ≡ result x y
+  pub keeps : (other x y : ℕ) → (other ≡ func_index → has_point (Some source_box) x y ≡ false)
+      → after other x y ≡ funcs other x y
 
 -- the loop at which the Func is computed, if it is computed at one
 abbrev pub consumer_at : Schedule → Boxes → FuncPlacement → Option ConsumerLoop
-consumer_at schedule boxes standing = consumer_in schedule boxes.funcs standing.place
+consumer_at schedule boxes placement = consumer_in schedule boxes.funcs placement.place
 
 -- what loops of the consumer stand at, where there is a consumer
 abbrev pub produced_iterations : Schedule → Boxes → FuncPlacement → List ℕ → List ℕ
-produced_iterations schedule boxes standing iterations = values_for (consumer_at schedule boxes standing) iterations
+produced_iterations schedule boxes placement iterations = values_for (consumer_at schedule boxes placement) iterations
 
 -- So it is under all values of loops, of which the Func's own haven't begun, wherever those of the consumer take the Func's box.
 abbrev pub DoesUpdate : Pipeline → Schedule → Boxes → List Corner → ℕ → Func → Corner → SourceBox → ℕ → Update → Stmt → Type 0
-DoesUpdate pipeline schedule boxes corners place func corner own at update made =
+DoesUpdate pipeline schedule boxes corners func_index func corner source_box at update statement =
     (inputs : Planes) → AnswerWords pipeline.inputs (reads_of inputs (pixels pipeline.funcs inputs 0))
-    → (standing : FuncPlacement) → IsReached schedule.standings place standing
-    → (iterations : List ℕ) → Below (produced_iterations schedule boxes standing iterations) (lasts_of (consumer_at schedule boxes standing))
-    → (begin : BoxCorner) → IsBegin (produced_iterations schedule boxes standing iterations) own begin
-    → (values : Values) → IsCornerAt place values corner begin → ((id : LoopId) → loops_of place values id ≡ 0)
-    → (funcs : Planes) → ReadsPixels pipeline schedule corners place update (produced_iterations schedule boxes standing iterations) own inputs values funcs
-    → ((x y : ℕ) → has_point (Some own) x y ≡ true → funcs place x y ≡ stage_from pipeline inputs place func begin at x y)
-    → Leaves place own (stage_from pipeline inputs place func begin (suc at)) funcs (run (box_points boxes.funcs) inputs made values funcs)
+    → (placement : FuncPlacement) → IsReached schedule.standings func_index placement
+    → (iterations : List ℕ) → Below (produced_iterations schedule boxes placement iterations) (lasts_of (consumer_at schedule boxes placement))
+    → (begin : BoxCorner) → IsBegin (produced_iterations schedule boxes placement iterations) source_box begin
+    → (values : Values) → IsCornerAt func_index values corner begin → ((id : LoopId)
+    → loops_of func_index values id ≡ 0)
+    → (funcs : Planes) → ReadsPixels pipeline schedule corners func_index update (produced_iterations schedule boxes placement iterations) source_box inputs values funcs
+    → ((x y : ℕ) → has_point (Some source_box) x y ≡ true → funcs func_index x y ≡ stage_from pipeline inputs func_index func begin at x y)
+    → Leaves func_index source_box (stage_from pipeline inputs func_index func begin (suc at)) funcs (run (box_points boxes.funcs) inputs statement values funcs)
 
 -- They are sound under all such values, where the Func's box may be written and loaded, and all that the update reads of other sources may be
 -- loaded, wherever its loops take its arguments.
 abbrev pub AreSoundLoops : Pipeline → Schedule → Boxes → List Corner → ℕ → Corner → SourceBox → Update → Stmt → Type 0
-AreSoundLoops pipeline schedule boxes corners place corner own update made =
+AreSoundLoops pipeline schedule boxes corners func_index corner source_box update statement =
     (reads : Reads) → AnswerWords pipeline.inputs reads → (written : Points) (loaded : Point → Bool)
-    → ((x y : ℕ) → has_point (Some own) x y ≡ true → written place x y ≡ true)
-    → ((x y : ℕ) → has_point (Some own) x y ≡ true → loaded (record { source = sources.Func place; x = x; y = y }) ≡ true)
-    → (standing : FuncPlacement) → IsReached schedule.standings place standing
-    → (iterations : List ℕ) → Below (produced_iterations schedule boxes standing iterations) (lasts_of (consumer_at schedule boxes standing))
-    → (begin : BoxCorner) → IsBegin (produced_iterations schedule boxes standing iterations) own begin
-    → (values : Values) → IsCornerAt place values corner begin → ((id : LoopId) → loops_of place values id ≡ 0)
-    → LoadsOthers pipeline schedule corners place update (produced_iterations schedule boxes standing iterations) own reads loaded values
-    → is_sound reads written loaded made values ≡ true
+    → ((x y : ℕ) → has_point (Some source_box) x y ≡ true → written func_index x y ≡ true)
+    → ((x y : ℕ) → has_point (Some source_box) x y ≡ true → loaded (record { source = sources.Func func_index; x = x; y = y }) ≡ true)
+    → (placement : FuncPlacement) → IsReached schedule.standings func_index placement
+    → (iterations : List ℕ) → Below (produced_iterations schedule boxes placement iterations) (lasts_of (consumer_at schedule boxes placement))
+    → (begin : BoxCorner) → IsBegin (produced_iterations schedule boxes placement iterations) source_box begin
+    → (values : Values) → IsCornerAt func_index values corner begin → ((id : LoopId)
+    → loops_of func_index values id ≡ 0)
+    → LoadsOthers pipeline schedule corners func_index update (produced_iterations schedule boxes placement iterations) source_box reads loaded values
+    → is_sound reads written loaded statement values ≡ true

@@ -23,7 +23,7 @@ abbrev pub numbers_below : ℕ → List ℕ
 numbers_below zero = []
 numbers_below (suc n) = numbers_below n ++ (n ∷ [])
 
--- They are an order of so many tasks.
+-- They are an order of this many tasks.
 abbrev pub RisingIsAnOrder : Type 0
 RisingIsAnOrder = (count : ℕ) → IsOrder count (numbers_below count)
 
@@ -49,14 +49,15 @@ AreOfBoxes (own ∷ boxes) (buffer ∷ buffers) = IsOfBox own buffer × AreOfBox
 -- Such buffers have the points of the boxes.
 abbrev pub BuffersHaveBoxPoints : Type 0
 BuffersHaveBoxPoints = (boxes : List (Option SourceBox)) (buffers : List BufferContents) → AreOfBoxes boxes buffers
-    → (place x y : ℕ) → points_of buffers place x y ≡ box_points boxes place x y
+    → (func_index x y : ℕ) → points_of buffers func_index x y ≡ box_points boxes func_index x y
 
 -- ---- pictures
 
 -- They are pictures, and those of inputs of bytes hold bytes.
 pub record AreInputs (inputs : List Input) (pictures : List PictureContents) : Type 0 where
-  pub each : (place : ℕ) (picture : PictureContents) → slice_get pictures place ≡ Some picture → IsPicture picture
-  pub bytes : (place : ℕ) (input : Input) (picture : PictureContents) → slice_get inputs place ≡ Some input → slice_get pictures place ≡ Some picture
+  pub each : (func_index : ℕ) (picture : PictureContents) → slice_get pictures func_index ≡ Some picture
+      → IsPicture picture
+  pub bytes : (func_index : ℕ) (input : Input) (picture : PictureContents) → slice_get inputs func_index ≡ Some input → slice_get pictures func_index ≡ Some picture
       → input.is_bytes ≡ true → All (λ pixel. pixel < 256) picture.pixels
 
 -- Then the inputs answer words, and those of bytes bytes.

@@ -30,7 +30,7 @@ use bounds::{Plan, SourceBox};
 use loop_ir::statements::Stmt;
 use lowering_nests::loops::loop_once;
 use lowering_nests::splits::with_splits;
-use schedule::{ComputeLevel, FuncPlacement, LoopPlace};
+use schedule::{ComputeLevel, FuncPlacement, LoopPosition};
 use schedule_lines::stages::same_id;
 use schedule_lines::{Loop, Stage};
 use schedule_loops::{Extents, LoopSizes};
@@ -38,10 +38,10 @@ use sqlite_items::{Boxed, Items};
 use std::alloc::{AllocError, Global};
 
 /// Whether a place is at a loop of the consumer.
-fn is_at_loop_of(consumer: usize, place: ComputeLevel) -> bool
-    ensures { result ≡ produced.is_at_loop_of consumer place }
+fn is_at_loop_of(consumer: usize, level: ComputeLevel) -> bool
+    ensures { result ≡ produced.is_at_loop_of consumer level }
 {
-    match place {
+    match level {
         ComputeLevel::At(at) => at.func == consumer,
         ComputeLevel::Root => false,
         ComputeLevel::Inlined => false,
@@ -50,10 +50,10 @@ fn is_at_loop_of(consumer: usize, place: ComputeLevel) -> bool
 }
 
 /// Whether the output reaches a Func that is computed at a loop of the consumer.
-fn is_produced(consumer: usize, own: &FuncPlacement) -> bool
-    ensures { result ≡ produced.is_produced consumer own.now }
+fn is_produced(consumer: usize, placement: &FuncPlacement) -> bool
+    ensures { result ≡ produced.is_produced consumer placement.now }
 {
-    own.is_reached && is_at_loop_of(consumer, own.place)
+    placement.is_reached && is_at_loop_of(consumer, placement.place)
 }
 
 /// Adds the places of the Funcs that are computed at loops of the consumer, of those from a place on.
@@ -96,11 +96,11 @@ pub fn produced_places(
 }
 
 /// Whether the output reaches a Func that is computed at this loop.
-fn is_computed_at(at: LoopPlace, own: &FuncPlacement) -> bool
-    ensures { result ≡ produced.is_computed_at at own.now }
+fn is_computed_at(at: LoopPosition, placement: &FuncPlacement) -> bool
+    ensures { result ≡ produced.is_computed_at at placement.now }
 {
-    own.is_reached
-        && match own.place {
+    placement.is_reached
+        && match placement.place {
             ComputeLevel::At(other) => other.func == at.func && same_id(other.inside, at.inside),
             ComputeLevel::Root => false,
             ComputeLevel::Inlined => false,
@@ -109,10 +109,10 @@ fn is_computed_at(at: LoopPlace, own: &FuncPlacement) -> bool
 }
 
 /// The box at a place, if there is one.
-pub fn box_at(boxes: &[Option<SourceBox>], place: usize) -> Option<&SourceBox>
-    ensures { option_copied result ≡ box_in (slice_get boxes.now place) }
+pub fn box_at(boxes: &[Option<SourceBox>], func_index: usize) -> Option<&SourceBox>
+    ensures { option_copied result ≡ box_in (slice_get boxes.now func_index) }
 {
-    match boxes.get(place) {
+    match boxes.get(func_index) {
         Some(Some(own)) => Some(own),
         _ => None,
     }
@@ -122,7 +122,7 @@ pub fn box_at(boxes: &[Option<SourceBox>], place: usize) -> Option<&SourceBox>
 fn with_update(
     alloc: Global,
     plan: &Plan<'_>,
-    at: LoopPlace,
+    at: LoopPosition,
     of: &UpdateOf<'_>,
     before: Stmt,
 ) -> Result<Stmt, AllocError>
@@ -146,13 +146,13 @@ fn with_update(
     ensures alone { IfOk result (spec.StoresInIt of.now.computed.place) }
     ensures sound { IfOk result (spec.IsSoundNest plan.now.pipeline plan.now.schedule
         plan.now.boxes at of.now.computed.place of.now.computed.func.now of.now.computed.own.now) }
-    ensures few { IfOk result (λ made. depth made ≤ 9) }
-    ensures needs { IfOk result (λ made. greatest_need made ≤ most_need plan.now.pipeline
+    ensures few { IfOk result (λ statement. depth statement ≤ 9) }
+    ensures needs { IfOk result (λ statement. greatest_need statement ≤ most_need plan.now.pipeline
         plan.now.schedule) }
-    ensures sizes { IfOk result (λ made. whole_size made ≤ 64 * shares (flags_of plan.now.schedule.standings)
+    ensures sizes { IfOk result (λ statement. whole_size statement ≤ 64 * shares (flags_of plan.now.schedule.standings)
         plan.now.pipeline.funcs of.now.computed.func.now of.now.computed.plan.now (suc of.now.at)) }
     ensures at_once { IfOk result MayAlwaysBeAtOnce }
-    ensures about { IfOk result (λ made. is_about of.now.computed.place made ≡ true) }
+    ensures about { IfOk result (λ statement. is_about of.now.computed.place statement ≡ true) }
 {
     let schedule = plan.schedule();
     let plans = schedule.funcs.as_slice();
@@ -162,16 +162,16 @@ fn with_update(
         return Ok(before);
     };
     let next = update_nest(alloc, plan, &corners, corner, of)?;
-    let made = in_order(alloc, Some(before), next)?;
-    Ok(made)
+    let statement = in_order(alloc, Some(before), next)?;
+    Ok(statement)
 }
 
-/// The nests of the pure definition and the first so many updates of a Func that is computed at a loop, one after the
+/// The nests of the pure definition and the first this many updates of a Func that is computed at a loop, one after the
 /// other.
 fn nests_upto(
     alloc: Global,
     plan: &Plan<'_>,
-    at: LoopPlace,
+    at: LoopPosition,
     computed: &ComputedFunc<'_>,
     count: usize,
 ) -> Result<Stmt, AllocError>
@@ -183,19 +183,19 @@ fn nests_upto(
     ensures alone { IfOk result (spec.StoresInIt computed.now.place) }
     ensures sound { IfOk result (spec.IsSoundNest plan.now.pipeline plan.now.schedule
         plan.now.boxes at computed.now.place computed.now.func.now computed.now.own.now) }
-    ensures few { IfOk result (λ made. depth made ≤ 9) }
-    ensures needs { IfOk result (λ made. greatest_need made ≤ most_need plan.now.pipeline
+    ensures few { IfOk result (λ statement. depth statement ≤ 9) }
+    ensures needs { IfOk result (λ statement. greatest_need statement ≤ most_need plan.now.pipeline
         plan.now.schedule) }
-    ensures sizes { IfOk result (λ made. whole_size made ≤ 64 * shares (flags_of plan.now.schedule.standings)
+    ensures sizes { IfOk result (λ statement. whole_size statement ≤ 64 * shares (flags_of plan.now.schedule.standings)
         plan.now.pipeline.funcs computed.now.func.now computed.now.plan.now count) }
     ensures at_once { IfOk result MayAlwaysBeAtOnce }
-    ensures about { IfOk result (λ made. is_about computed.now.place made ≡ true) }
+    ensures about { IfOk result (λ statement. is_about computed.now.place statement ≡ true) }
 {
     // What every plan keeps is known once its parts are read.
     let _schedule = plan.schedule();
     let Some(number) = count.checked_sub(1) else {
-        let made = pure_nest(alloc, plan, at, computed)?;
-        return Ok(made);
+        let statement = pure_nest(alloc, plan, at, computed)?;
+        return Ok(statement);
     };
     let before = nests_upto(alloc, plan, at, computed, number)?;
     let Some(update) = computed.func.updates.get(number) else {
@@ -210,61 +210,61 @@ fn nests_upto(
         update,
         stage,
     };
-    let made = with_update(alloc, plan, at, &of, before)?;
-    Ok(made)
+    let statement = with_update(alloc, plan, at, &of, before)?;
+    Ok(statement)
 }
 
 /// The nests of the stages of a Func that is computed at a loop, one after the other.
 fn stage_nests(
     alloc: Global,
     plan: &Plan<'_>,
-    at: LoopPlace,
+    at: LoopPosition,
     computed: &ComputedFunc<'_>,
 ) -> Result<Stmt, AllocError>
     requires parts { IsComputedAt plan.now.pipeline plan.now.schedule plan.now.boxes (places.At at)
         computed.now.place computed.now.func.now computed.now.plan.now computed.now.own.now }
-    ensures { IfOk result (λ made. spec.IsNestOf plan.now.pipeline plan.now.schedule plan.now.boxes
-        at computed.now.place made) }
+    ensures { IfOk result (λ statement. spec.IsNestOf plan.now.pipeline plan.now.schedule plan.now.boxes
+        at computed.now.place statement) }
 {
     let count = computed.func.updates.len();
-    let made = nests_upto(alloc, plan, at, computed, count)?;
-    Ok(made)
+    let statement = nests_upto(alloc, plan, at, computed, count)?;
+    Ok(statement)
 }
 
 /// The nests of the Func at a place, if it is computed at this loop.
 fn nests_of(
     alloc: Global,
     plan: &Plan<'_>,
-    at: LoopPlace,
-    place: usize,
+    at: LoopPosition,
+    func_index: usize,
 ) -> Result<Option<Stmt>, AllocError>
     ensures { IfOk result (spec.IsNestAt plan.now.pipeline plan.now.schedule plan.now.boxes at
-        place) }
+        func_index) }
 {
     let schedule = plan.schedule();
-    let Some(standing) = schedule.standing(place) else {
+    let Some(standing) = schedule.standing(func_index) else {
         return Ok(None);
     };
     if !is_computed_at(at, standing) {
         return Ok(None);
     }
-    let Some(func) = plan.pipeline().func(place) else {
+    let Some(func) = plan.pipeline().func(func_index) else {
         return Ok(None);
     };
-    let Some(func_plan) = schedule.funcs.get(place) else {
+    let Some(func_plan) = schedule.funcs.get(func_index) else {
         return Ok(None);
     };
-    let Some(own) = box_at(plan.boxes().funcs.as_slice(), place) else {
+    let Some(own) = box_at(plan.boxes().funcs.as_slice(), func_index) else {
         return Ok(None);
     };
     let computed = ComputedFunc {
-        place,
+        place: func_index,
         func,
         plan: func_plan,
         own,
     };
-    let made = stage_nests(alloc, plan, at, &computed)?;
-    Ok(Some(made))
+    let statement = stage_nests(alloc, plan, at, &computed)?;
+    Ok(Some(statement))
 }
 
 /// A statement and then another one; the other alone, if there is none first.
@@ -281,24 +281,24 @@ fn in_order(alloc: Global, first: Option<Stmt>, rest: Stmt) -> Result<Stmt, Allo
     }
 }
 
-/// The nests of the Funcs from a place on that are computed at a loop, in order, and then what stands inside.
+/// The nests of the Funcs from a place on that are computed at a loop, in order, and then what is inside.
 fn nests_before(
     alloc: Global,
     plan: &Plan<'_>,
-    at: LoopPlace,
+    at: LoopPosition,
     from: usize,
     inside: Stmt,
 ) -> Result<Stmt, AllocError>
-    ensures { IfOk result (λ made. spec.HasNests plan.now.pipeline plan.now.schedule plan.now.boxes
-        at from inside made) }
+    ensures { IfOk result (λ statement. spec.HasNests plan.now.pipeline plan.now.schedule plan.now.boxes
+        at from inside statement) }
 {
     if plan.schedule().standings.len() <= from {
         return Ok(inside);
     }
     let rest = nests_before(alloc, plan, at, from + 1, inside)?;
     let found = nests_of(alloc, plan, at, from)?;
-    let made = in_order(alloc, found, rest)?;
-    Ok(made)
+    let statement = in_order(alloc, found, rest)?;
+    Ok(statement)
 }
 
 /// Loops of a consumer, the innermost first, around a statement, in each of them first the nests of the Funcs that are
@@ -313,20 +313,20 @@ fn loops_around(
 ) -> Result<Stmt, AllocError>
     requires splits { AreSplits sizes.now.splits }
     requires few { AreFew sizes.now.extents }
-    ensures { IfOk result (λ made. spec.HasLoops plan.now.pipeline plan.now.schedule plan.now.boxes
-        consumer (counts sizes.now.extents sizes.now.splits) leaf loops.now made) }
+    ensures { IfOk result (λ statement. spec.HasLoops plan.now.pipeline plan.now.schedule plan.now.boxes
+        consumer (counts sizes.now.extents sizes.now.splits) leaf loops.now statement) }
 {
     match loops {
         [] => Ok(leaf),
         [inside @ .., own] => {
             let inner = loops_around(alloc, plan, consumer, sizes, inside, leaf)?;
-            let at = LoopPlace {
+            let at = LoopPosition {
                 func: consumer,
                 inside: own.id,
             };
             let body = nests_before(alloc, plan, at, 0, inner)?;
-            let made = loop_once(alloc, consumer, sizes, own, body)?;
-            Ok(made)
+            let statement = loop_once(alloc, consumer, sizes, own, body)?;
+            Ok(statement)
         }
     }
 }
@@ -353,18 +353,18 @@ fn outermost(
     stage: &Stage,
     inner: Stmt,
 ) -> Result<Stmt, AllocError>
-    ensures { IfOk result (λ made. spec.HasOutermost plan.now.pipeline plan.now.schedule
-        plan.now.boxes consumer (parallel stage.now) inner made) }
+    ensures { IfOk result (λ statement. spec.HasOutermost plan.now.pipeline plan.now.schedule
+        plan.now.boxes consumer (parallel stage.now) inner statement) }
 {
     match stage.parallel() {
         None => Ok(inner),
         Some(own) => {
-            let at = LoopPlace {
+            let at = LoopPosition {
                 func: consumer,
                 inside: own.id,
             };
-            let made = nests_before(alloc, plan, at, 0, inner)?;
-            Ok(made)
+            let statement = nests_before(alloc, plan, at, 0, inner)?;
+            Ok(statement)
         }
     }
 }
@@ -385,14 +385,14 @@ pub fn body_of(
 ) -> Result<Stmt, AllocError>
     requires splits { AreSplits stage.now.splits }
     requires few { AreFew extents }
-    ensures { IfOk result (λ made. spec.IsBody plan.now.pipeline plan.now.schedule plan.now.boxes
-        consumer stage.now extents store made) }
+    ensures { IfOk result (λ statement. spec.IsBody plan.now.pipeline plan.now.schedule plan.now.boxes
+        consumer stage.now extents store statement) }
 {
     let splits = stage.splits.as_slice();
     let sizes = LoopSizes::new(alloc, extents, splits)?;
     let leaf = with_splits(alloc, consumer, extents, splits, store)?;
     let inside = inside_parallel(stage);
     let inner = loops_around(alloc, plan, consumer, &sizes, inside, leaf)?;
-    let made = outermost(alloc, plan, consumer, stage, inner)?;
-    Ok(made)
+    let statement = outermost(alloc, plan, consumer, stage, inner)?;
+    Ok(statement)
 }

@@ -24,14 +24,14 @@ use schedule_lines::{Loop, LoopId};
 use sqlite_items::Items;
 use std::alloc::{AllocError, Global};
 
-/// The word that stands at an end of a range.
+/// The word that is at an end of a range.
 pub(crate) fn word_at(end: u64) -> u32
     ensures { result ≡ planes.word_at end }
 {
     ((end.saturating_sub(LEAST) + (1 << 31)) % (1 << 32)) as u32
 }
 
-/// What stands at the iteration of the loop at a place, if it isn't among so many loops that stand inside.
+/// What is at the iteration of the loop at a place, if it isn't among this many loops that stand inside.
 fn counter_at(func: usize, loops: &[Loop], inner: usize, at: usize) -> Option<Counter>
     ensures { (values : Values) → spec.counted_at values result
         ≡ iteration_at inner (loops_of func values) loops.now at }
@@ -45,7 +45,7 @@ fn counter_at(func: usize, loops: &[Loop], inner: usize, at: usize) -> Option<Co
     }
 }
 
-/// What stands at the iterations of a loop of the Func at a place and of those outside of it.
+/// What is at the iterations of a loop of the Func at a place and of those outside of it.
 fn counters_from(func: usize, plan: &FuncPlan, inside: LoopId) -> [Option<Counter>; 5]
     ensures { (values : Values) → spec.counted values result ≡ values_in plan.now inside (loops_of func values) }
 {
@@ -67,11 +67,11 @@ fn no_counters() -> [Option<Counter>; 5]
     [None, None, None, None, None]
 }
 
-/// What stands at the iterations that the base of a Func's box counts.
-fn counters_of(plans: &[FuncPlan], place: ComputeLevel) -> [Option<Counter>; 5]
-    ensures { (values : Values) → spec.counted values result ≡ spec.iterations_for plans.now place values }
+/// What is at the iterations that the base of a Func's box counts.
+fn counters_of(plans: &[FuncPlan], level: ComputeLevel) -> [Option<Counter>; 5]
+    ensures { (values : Values) → spec.counted values result ≡ spec.iterations_for plans.now level values }
 {
-    match place {
+    match level {
         ComputeLevel::At(at) => match plans.get(at.func) {
             None => no_counters(),
             Some(plan) => counters_from(at.func, plan, at.inside),
@@ -83,28 +83,31 @@ fn counters_of(plans: &[FuncPlan], place: ComputeLevel) -> [Option<Counter>; 5]
 }
 
 /// The word that a multiple comes to.
-fn stride_of(own: Multiple) -> u32
-    ensures { (result + own.less) % 2 ^ 32 ≡ own.more % 2 ^ 32 }
+fn stride_of(multiple: Multiple) -> u32
+    ensures { (result + multiple.less) % 2 ^ 32 ≡ multiple.more % 2 ^ 32 }
 {
-    words::subtract((own.more % (1 << 32)) as u32, (own.less % (1 << 32)) as u32)
+    words::subtract(
+        (multiple.more % (1 << 32)) as u32,
+        (multiple.less % (1 << 32)) as u32,
+    )
 }
 
 /// Adds a counter times a multiple, if there is a counter.
 #[tactic(auto, using(crate::proofs::BaseWords::term_more))]
 fn add_multiple(
-    own: Multiple,
+    multiple: Multiple,
     counter: Option<Counter>,
     terms: &mut Items<Term>,
 ) -> Result<(), AllocError>
     ensures few { OnOk result (length terms.new ≤ length terms.old + 1) }
     ensures sum { OnOk result ((values : Values)
-        → (sum_of values terms.new + own.less * spec.counted_at values counter) % 2 ^ 32
-        ≡ (sum_of values terms.old + own.more * spec.counted_at values counter) % 2 ^ 32) }
+        → (sum_of values terms.new + multiple.less * spec.counted_at values counter) % 2 ^ 32
+        ≡ (sum_of values terms.old + multiple.more * spec.counted_at values counter) % 2 ^ 32) }
 {
     match counter {
         None => Ok(()),
         Some(counter) => {
-            let stride = stride_of(own);
+            let stride = stride_of(multiple);
             terms.push(Term { counter, stride })?;
             Ok(())
         }
@@ -161,15 +164,15 @@ fn first_of(
 pub fn corner_of(
     alloc: Global,
     plans: &[FuncPlan],
-    place: ComputeLevel,
-    own: &SourceBox,
+    level: ComputeLevel,
+    source_box: &SourceBox,
 ) -> Result<Corner, AllocError>
     ensures short { IfOk result IsShort }
-    ensures is { IfOk result (λ corner. spec.IsCorner plans.now place own.now corner) }
+    ensures is { IfOk result (λ corner. spec.IsCorner plans.now level source_box.now corner) }
 {
-    let counters = counters_of(plans, place);
-    let x = first_of(alloc, &own.x, &counters)?;
-    let y = first_of(alloc, &own.y, &counters)?;
+    let counters = counters_of(plans, level);
+    let x = first_of(alloc, &source_box.x, &counters)?;
+    let y = first_of(alloc, &source_box.y, &counters)?;
     Ok(Corner { x, y })
 }
 
@@ -177,20 +180,20 @@ pub fn corner_of(
 fn corner_or_none(
     alloc: Global,
     plans: &[FuncPlan],
-    place: ComputeLevel,
-    own: &Option<SourceBox>,
+    level: ComputeLevel,
+    source_box: &Option<SourceBox>,
 ) -> Result<Corner, AllocError>
     ensures short { IfOk result IsShort }
-    ensures is { IfOk result (λ corner. spec.IsCornerOf plans.now place own.now corner) }
+    ensures is { IfOk result (λ corner. spec.IsCornerOf plans.now level source_box.now corner) }
 {
-    match own {
+    match source_box {
         None => {
             let x = Linear::of_number(alloc, 0);
             let y = Linear::of_number(alloc, 0);
             Ok(Corner { x, y })
         }
-        Some(own) => {
-            let corner = corner_of(alloc, plans, place, own)?;
+        Some(source_box) => {
+            let corner = corner_of(alloc, plans, level, source_box)?;
             Ok(corner)
         }
     }
@@ -225,8 +228,8 @@ pub fn corners_of(
 }
 
 /// The corner at a place, if there is one.
-pub(crate) fn corner_at(corners: &[Corner], place: usize) -> Option<&Corner>
-    ensures { option_copied result ≡ slice_get corners.now place }
+pub(crate) fn corner_at(corners: &[Corner], func_index: usize) -> Option<&Corner>
+    ensures { option_copied result ≡ slice_get corners.now func_index }
 {
-    corners.get(place)
+    corners.get(func_index)
 }

@@ -29,7 +29,7 @@ pub fn phases_leave_output()
     ensures { PhasesLeaveOutput }
 {}
 
-/// The numbers below a count, in rising order, are an order of so many tasks.
+/// The numbers below a count, in rising order, are an order of this many tasks.
 pub fn rising_is_an_order()
     ensures { RisingIsAnOrder }
 {}

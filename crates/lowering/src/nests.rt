@@ -24,7 +24,7 @@ use bounds::boxes::extents_of;
 use bounds_weights::weighing::inlined_flags;
 use loop_ir::statements::Stmt;
 use lowering_nests::nests::with_nest;
-use schedule::{ComputeLevel, LoopPlace};
+use schedule::{ComputeLevel, LoopPosition};
 use std::alloc::{AllocError, Global};
 
 /// The store of the pure definition of a Func that is computed there.
@@ -35,14 +35,15 @@ pub(crate) fn store_of(
     computed: &ComputedFunc<'_>,
 ) -> Result<Stmt, AllocError>
     ensures rules { IsWellFormed plan.now.pipeline }
-    ensures stores { IfOk result (λ made. IsStoreOf plan.now.pipeline plan.now.schedule
-        plan.now.boxes placed computed.now.place computed.now.func.now computed.now.own.now made) }
+    ensures stores { IfOk result (λ statement. IsStoreOf plan.now.pipeline plan.now.schedule
+        plan.now.boxes placed computed.now.place computed.now.func.now computed.now.own.now statement) }
     ensures leaf { IfOk result IsLeaf }
-    ensures about { IfOk result (λ made. is_about computed.now.place made ≡ true) }
-    ensures depth { IfOk result (λ made. depth made ≡ 0) }
-    ensures needs { IfOk result (λ made. greatest_need made ≤ max 1 (taken (flags_of plan.now.schedule.standings)
+    ensures about { IfOk result (λ statement. is_about computed.now.place statement ≡ true) }
+    ensures depth { IfOk result (λ statement. depth statement ≡ 0) }
+    ensures needs { IfOk result (λ statement. greatest_need statement ≤ max 1
+        (taken (flags_of plan.now.schedule.standings)
         plan.now.pipeline.funcs computed.now.place computed.now.func.now.pure)) }
-    ensures sizes { IfOk result (λ made. whole_size made + 8 ≤ 64 * counted
+    ensures sizes { IfOk result (λ statement. whole_size statement + 8 ≤ 64 * counted
         (flags_of plan.now.schedule.standings) plan.now.pipeline.funcs computed.now.place
         computed.now.func.now.pure) }
 {
@@ -59,8 +60,8 @@ pub(crate) fn store_of(
         corners: corners.as_slice(),
         place: computed.place,
     };
-    let made = pure_store(alloc, &reader, &corner, &computed.func.pure)?;
-    Ok(made)
+    let statement = pure_store(alloc, &reader, &corner, &computed.func.pure)?;
+    Ok(statement)
 }
 
 /// The nest of the pure definition of a Func that is computed at a loop: it fills the Func's box of one iteration.
@@ -71,22 +72,22 @@ pub(crate) fn store_of(
 pub fn pure_nest(
     alloc: Global,
     plan: &Plan<'_>,
-    at: LoopPlace,
+    at: LoopPosition,
     computed: &ComputedFunc<'_>,
 ) -> Result<Stmt, AllocError>
     requires parts { IsComputedAt plan.now.pipeline plan.now.schedule plan.now.boxes (places.At at)
         computed.now.place computed.now.func.now computed.now.plan.now computed.now.own.now }
-    ensures does { IfOk result (λ made. DoesNest plan.now.pipeline plan.now.schedule plan.now.boxes
-        at computed.now.place computed.now.func.now computed.now.own.now 0 made) }
+    ensures does { IfOk result (λ statement. DoesNest plan.now.pipeline plan.now.schedule plan.now.boxes
+        at computed.now.place computed.now.func.now computed.now.own.now 0 statement) }
     ensures alone { IfOk result (StoresInIt computed.now.place) }
-    ensures about { IfOk result (λ made. is_about computed.now.place made ≡ true) }
-    ensures sound { IfOk result (λ made. IsSoundNest plan.now.pipeline plan.now.schedule
-        plan.now.boxes at computed.now.place computed.now.func.now computed.now.own.now made) }
-    ensures few { IfOk result (λ made. depth made ≤ 9) }
+    ensures about { IfOk result (λ statement. is_about computed.now.place statement ≡ true) }
+    ensures sound { IfOk result (λ statement. IsSoundNest plan.now.pipeline plan.now.schedule
+        plan.now.boxes at computed.now.place computed.now.func.now computed.now.own.now statement) }
+    ensures few { IfOk result (λ statement. depth statement ≤ 9) }
     ensures at_once { IfOk result MayAlwaysBeAtOnce }
-    ensures needs { IfOk result (λ made. greatest_need made ≤ most_need plan.now.pipeline
+    ensures needs { IfOk result (λ statement. greatest_need statement ≤ most_need plan.now.pipeline
         plan.now.schedule) }
-    ensures sizes { IfOk result (λ made. whole_size made ≤ 64 * stage_weight
+    ensures sizes { IfOk result (λ statement. whole_size statement ≤ 64 * stage_weight
         (nodes_in (flags_of plan.now.schedule.standings) plan.now.pipeline.funcs
         computed.now.func.now.pure) computed.now.plan.now.pure) }
 {
@@ -95,7 +96,7 @@ pub fn pure_nest(
     let placed = ComputeLevel::At(at);
     let extents = extents_of(computed.own);
     let store = store_of(alloc, plan, placed, computed)?;
-    let made = with_nest(
+    let statement = with_nest(
         alloc,
         computed.place,
         extents,
@@ -103,5 +104,5 @@ pub fn pure_nest(
         computed.plan.pure.loops.as_slice(),
         store,
     )?;
-    Ok(made)
+    Ok(statement)
 }

@@ -108,33 +108,33 @@ fn with_stages(
 fn with_func(
     alloc: Global,
     plan: &Plan<'_>,
-    place: usize,
+    func_index: usize,
     others: Vec<Phase>,
 ) -> Result<Vec<Phase>, AllocError>
-    requires others { spec.AreLowered plan.now.pipeline plan.now.schedule plan.now.boxes place
+    requires others { spec.AreLowered plan.now.pipeline plan.now.schedule plan.now.boxes func_index
         others.items }
     ensures { IfOk result (λ phases. spec.AreLowered plan.now.pipeline plan.now.schedule
-        plan.now.boxes (suc place) phases.items) }
+        plan.now.boxes (suc func_index) phases.items) }
 {
     let schedule = plan.schedule();
-    let Some(standing) = schedule.standing(place) else {
+    let Some(standing) = schedule.standing(func_index) else {
         return Ok(others);
     };
     if !is_at_root(standing) {
         return Ok(others);
     }
-    let Some(func) = plan.pipeline().func(place) else {
+    let Some(func) = plan.pipeline().func(func_index) else {
         return Ok(others);
     };
-    let Some(func_plan) = schedule.funcs.get(place) else {
+    let Some(func_plan) = schedule.funcs.get(func_index) else {
         return Ok(others);
     };
-    let Some(own) = box_at(plan.boxes().funcs.as_slice(), place) else {
+    let Some(own) = box_at(plan.boxes().funcs.as_slice(), func_index) else {
         return Ok(others);
     };
     let last = func.updates.len();
     let computed = ComputedFunc {
-        place,
+        place: func_index,
         func,
         plan: func_plan,
         own,
@@ -143,7 +143,7 @@ fn with_func(
     Ok(phases)
 }
 
-/// The phases of the first so many Funcs.
+/// The phases of the first this many Funcs.
 fn lower_first(alloc: Global, plan: &Plan<'_>, count: usize) -> Result<Vec<Phase>, AllocError>
     ensures { IfOk result (λ phases. spec.AreLowered plan.now.pipeline plan.now.schedule
         plan.now.boxes count phases.items) }

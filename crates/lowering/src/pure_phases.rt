@@ -33,12 +33,12 @@ use schedule_loops::{Extents, LoopSizes};
 use sqlite_items::Items;
 use std::alloc::{AllocError, Global};
 
-/// What stands at the number of a task.
-pub(crate) fn task_counter(place: usize, stage: &Stage) -> Option<Counter>
-    ensures { result ≡ spec.counter_of place (iterations.parallel stage.now) }
+/// What is at the number of a task.
+pub(crate) fn task_counter(func_index: usize, stage: &Stage) -> Option<Counter>
+    ensures { result ≡ spec.counter_of func_index (iterations.parallel stage.now) }
 {
     stage.parallel().map(|own| Counter {
-        func: place,
+        func: func_index,
         id: own.id,
     })
 }
@@ -142,8 +142,8 @@ pub fn pure_phase(
 }
 
 /// Whether the output reaches a Func, and it is computed at root.
-pub(crate) fn is_at_root(own: &FuncPlacement) -> bool
-    ensures { result ≡ spec.is_at_root own.now }
+pub(crate) fn is_at_root(placement: &FuncPlacement) -> bool
+    ensures { result ≡ spec.is_at_root placement.now }
 {
-    own.is_reached && matches!(own.place, ComputeLevel::Root)
+    placement.is_reached && matches!(placement.place, ComputeLevel::Root)
 }

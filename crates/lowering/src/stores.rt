@@ -37,46 +37,46 @@ pub struct LoweredFunc<'a> {
     pub place: usize,
 }
 
-/// Where the loop over a whole variable of the Func at a place stands.
+/// Where the loop over a whole variable of the Func at a place is.
 pub(crate) fn whole_of(
     alloc: Global,
-    place: usize,
+    func_index: usize,
     variable: Variable,
 ) -> Result<Linear, AllocError>
-    ensures value { IfOk result (λ made. (values : Values) → linear_value values made
-        ≡ whole_at values place variable) }
-    ensures one { IfOk result (λ made. length made.terms ≡ 1) }
+    ensures value { IfOk result (λ sum. (values : Values) → linear_value values sum
+        ≡ whole_at values func_index variable) }
+    ensures one { IfOk result (λ sum. length sum.terms ≡ 1) }
 {
     let counter = Counter {
-        func: place,
+        func: func_index,
         id: LoopId::Whole(variable),
     };
-    let made = Linear::of_counter(alloc, counter)?;
-    Ok(made)
+    let sum = Linear::of_counter(alloc, counter)?;
+    Ok(sum)
 }
 
 /// A sum.
 #[tactic(auto, using(crate::proofs::BaseWords::added_is))]
 fn added(alloc: Global, first: Linear, second: &Linear) -> Result<Linear, AllocError>
-    ensures value { IfOk result (λ made. (values : Values) → linear_value values made
+    ensures value { IfOk result (λ sum. (values : Values) → linear_value values sum
         ≡ word.add (linear_value values first) (linear_value values second.now)) }
-    ensures few { IfOk result (λ made. length made.terms ≤ length first.terms + length second.now.terms) }
+    ensures few { IfOk result (λ sum. length sum.terms ≤ length first.terms + length second.now.terms) }
 {
     let opposite = Linear::of_number(alloc, 0).minus(second)?;
-    let made = first.minus(&opposite)?;
-    Ok(made)
+    let sum = first.minus(&opposite)?;
+    Ok(sum)
 }
 
 /// What stands for the variables of the pure definition of the Func at a place: its points, counted from the corner of
 /// its box.
-fn arguments_of(alloc: Global, place: usize, corner: &Corner) -> Result<Arguments, AllocError>
+fn arguments_of(alloc: Global, func_index: usize, corner: &Corner) -> Result<Arguments, AllocError>
     ensures short { IfOk result (λ made. IsShort corner.now → AreShortArguments made) }
     ensures values { IfOk result (λ made. (values : Values) → environment values made
-        ≡ at_point (word.add (whole_at values place Variable.FirstArgument) (linear_value values corner.now.x))
-        (word.add (whole_at values place Variable.SecondArgument) (linear_value values corner.now.y))) }
+        ≡ at_point (word.add (whole_at values func_index Variable.FirstArgument) (linear_value values corner.now.x))
+        (word.add (whole_at values func_index Variable.SecondArgument) (linear_value values corner.now.y))) }
 {
-    let x = whole_of(alloc, place, Variable::FirstArgument)?;
-    let y = whole_of(alloc, place, Variable::SecondArgument)?;
+    let x = whole_of(alloc, func_index, Variable::FirstArgument)?;
+    let y = whole_of(alloc, func_index, Variable::SecondArgument)?;
     let first_argument = added(alloc, x, &corner.x)?;
     let second_argument = added(alloc, y, &corner.y)?;
     Ok(Arguments {

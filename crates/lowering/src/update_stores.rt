@@ -30,26 +30,30 @@ use lowering_expressions::{Arguments, Callees, Corner, lowered};
 use std::alloc::{AllocError, Global};
 
 /// The sum of two.
-fn plus(alloc: Global, own: Linear, other: &Linear) -> Result<Linear, AllocError>
-    ensures value { IfOk result (λ made. (values : Values) → linear_value values made
-        ≡ word.add (linear_value values own) (linear_value values other.now)) }
-    ensures few { IfOk result (λ made. length made.terms ≤ length own.terms + length other.now.terms) }
+fn plus(alloc: Global, sum: Linear, other: &Linear) -> Result<Linear, AllocError>
+    ensures value { IfOk result (λ new_sum. (values : Values) → linear_value values new_sum
+        ≡ word.add (linear_value values sum) (linear_value values other.now)) }
+    ensures few { IfOk result (λ new_sum. length new_sum.terms ≤ length sum.terms + length other.now.terms) }
 {
     let opposite = Linear::of_number(alloc, 0).minus(other)?;
-    let made = own.minus(&opposite)?;
-    Ok(made)
+    let new_sum = sum.minus(&opposite)?;
+    Ok(new_sum)
 }
 
 /// What stands for a second reduction variable of an update of the Func at a place, where there is one.
-fn second_of(alloc: Global, place: usize, second: &Option<Reduction>) -> Result<Linear, AllocError>
+fn second_of(
+    alloc: Global,
+    func_index: usize,
+    second: &Option<Reduction>,
+) -> Result<Linear, AllocError>
     ensures value { IfOk result (λ made. (values : Values) → linear_value values made
-        ≡ spec.second_reduced values place second.now) }
+        ≡ spec.second_reduced values func_index second.now) }
     ensures few { IfOk result (λ made. length made.terms ≤ 1) }
 {
     match second {
         None => Ok(Linear::of_number(alloc, 0)),
         Some(reduction) => {
-            let whole = whole_of(alloc, place, Variable::SecondReduction)?;
+            let whole = whole_of(alloc, func_index, Variable::SecondReduction)?;
             Ok(whole.plus_number(reduction.minimum))
         }
     }
@@ -59,21 +63,21 @@ fn second_of(alloc: Global, place: usize, second: &Option<Reduction>) -> Result<
 /// reduction variables, from their minimum.
 fn arguments_of(
     alloc: Global,
-    place: usize,
+    func_index: usize,
     corner: &Corner,
     update: &Update,
 ) -> Result<Arguments, AllocError>
     ensures short { IfOk result (λ made. IsShort corner.now → AreShortArguments made) }
     ensures values { IfOk result (λ made. (values : Values) → environment values made
-        ≡ spec.visited_point values place corner.now update.now) }
+        ≡ spec.visited_point values func_index corner.now update.now) }
 {
-    let across = whole_of(alloc, place, Variable::FirstArgument)?;
-    let down = whole_of(alloc, place, Variable::SecondArgument)?;
+    let across = whole_of(alloc, func_index, Variable::FirstArgument)?;
+    let down = whole_of(alloc, func_index, Variable::SecondArgument)?;
     let first_argument = plus(alloc, across, &corner.x)?;
     let second_argument = plus(alloc, down, &corner.y)?;
-    let first = whole_of(alloc, place, Variable::FirstReduction)?;
+    let first = whole_of(alloc, func_index, Variable::FirstReduction)?;
     let first_reduction = first.plus_number(update.first.minimum);
-    let second_reduction = second_of(alloc, place, &update.second)?;
+    let second_reduction = second_of(alloc, func_index, &update.second)?;
     Ok(Arguments {
         first_argument,
         second_argument,
@@ -89,19 +93,19 @@ fn second_index(
     arguments: &Arguments,
     index: &Option<Expr>,
 ) -> Result<terms::Expr, AllocError>
-    ensures value { IfOk result (λ made. (reads : Reads) (values : Values) → value reads values made
+    ensures value { IfOk result (λ expression. (reads : Reads) (values : Values) → value reads values expression
         ≡ spec.index_of (inlined (valuing (placed reader.now.corners.now values reads)) (flagged reader.now.flags.now)
         reader.now.funcs.now reader.now.place (variable_in (environment values arguments.now))) index.now) }
-    ensures loads { IfOk result (λ made. (reads : Reads) (values : Values) (test : Point → Bool)
+    ensures loads { IfOk result (λ expression. (reads : Reads) (values : Values) (test : Point → Bool)
         → Hold (λ point. test (place_in reader.now.corners.now values point))
         (spec.points_of_index (λ e. (inlined (seeing (placed reader.now.corners.now values reads))
         (flagged reader.now.flags.now) reader.now.funcs.now reader.now.place (seen_variable
         (environment values arguments.now)) e).points) index.now)
-        → Hold test (loads reads values made)) }
-    ensures needs { IfOk result (λ made. need made ≤ second_taken reader.now.flags.now reader.now.funcs.now
+        → Hold test (loads reads values expression)) }
+    ensures needs { IfOk result (λ expression. need expression ≤ second_taken reader.now.flags.now reader.now.funcs.now
         reader.now.place index.now) }
-    ensures sizes { IfOk result (λ made. AreShort reader.now.corners.now → AreShortArguments arguments.now
-        → IsGivenIndex reader.now.flags.now reader.now.funcs.now reader.now.place index.now made) }
+    ensures sizes { IfOk result (λ expression. AreShort reader.now.corners.now → AreShortArguments arguments.now
+        → IsGivenIndex reader.now.flags.now reader.now.funcs.now reader.now.place index.now expression) }
 {
     match index {
         None => Ok(terms::Expr::Number(0)),
@@ -112,8 +116,8 @@ fn second_index(
                 count: reader.place,
                 corners: reader.corners,
             };
-            let made = lowered(alloc, &callees, arguments, index)?;
-            Ok(made)
+            let expression = lowered(alloc, &callees, arguments, index)?;
+            Ok(expression)
         }
     }
 }

@@ -70,11 +70,11 @@ fn second_extent(second: &Option<Reduction>) -> u32
 }
 
 /// How many values the variables of an update take in a box.
-fn update_extents(own: &SourceBox, update: &Update) -> Extents
-    requires { IsBox own.now }
-    ensures { result ≡ spec_extents.update_extents own.now update.now }
+fn update_extents(source_box: &SourceBox, update: &Update) -> Extents
+    requires { IsBox source_box.now }
+    ensures { result ≡ spec_extents.update_extents source_box.now update.now }
 {
-    let pure = extents_of(own);
+    let pure = extents_of(source_box);
     Extents {
         first_argument: pure.first_argument,
         second_argument: pure.second_argument,
@@ -92,22 +92,23 @@ fn store_at(
     of: &UpdateOf<'_>,
 ) -> Result<Stmt, AllocError>
     requires { of.now.computed.place + 1 < 2 ^ 64 }
-    ensures stores { IfOk result (λ made. spec.StoresUpdate corners.now (flagged
+    ensures stores { IfOk result (λ statement. spec.StoresUpdate corners.now (flagged
         (flags_of plan.now.schedule.standings)) plan.now.pipeline.funcs of.now.computed.place corner.now
-        of.now.update.now made) }
+        of.now.update.now statement) }
     ensures leaf { IfOk result IsLeaf }
-    ensures about { IfOk result (λ made. is_about of.now.computed.place made ≡ true) }
-    ensures hits { IfOk result (λ made. spec.HitsUpdate corners.now (flagged
+    ensures about { IfOk result (λ statement. is_about of.now.computed.place statement ≡ true) }
+    ensures hits { IfOk result (λ statement. spec.HitsUpdate corners.now (flagged
         (flags_of plan.now.schedule.standings)) plan.now.pipeline.funcs of.now.computed.place corner.now
-        of.now.update.now made) }
-    ensures sound { IfOk result (λ made. spec.IsSoundUpdate corners.now (flagged
+        of.now.update.now statement) }
+    ensures sound { IfOk result (λ statement. spec.IsSoundUpdate corners.now (flagged
         (flags_of plan.now.schedule.standings)) plan.now.pipeline.funcs of.now.computed.place corner.now
-        of.now.update.now made) }
-    ensures depth { IfOk result (λ made. depth made ≡ 0) }
-    ensures needs { IfOk result (λ made. greatest_need made ≤ update_taken (flags_of plan.now.schedule.standings)
+        of.now.update.now statement) }
+    ensures depth { IfOk result (λ statement. depth statement ≡ 0) }
+    ensures needs { IfOk result (λ statement. greatest_need statement ≤ update_taken
+        (flags_of plan.now.schedule.standings)
         plan.now.pipeline.funcs of.now.computed.place of.now.update.now) }
-    ensures sizes { IfOk result (λ made. AreShort corners.now → IsShort corner.now
-        → whole_size made + 8 ≤ 64 * update_counted (flags_of plan.now.schedule.standings)
+    ensures sizes { IfOk result (λ statement. AreShort corners.now → IsShort corner.now
+        → whole_size statement + 8 ≤ 64 * update_counted (flags_of plan.now.schedule.standings)
         plan.now.pipeline.funcs of.now.computed.place of.now.update.now) }
 {
     let flags = inlined_flags(alloc, plan.schedule().standings.as_slice())?;
@@ -117,20 +118,21 @@ fn store_at(
         corners,
         place: of.computed.place,
     };
-    let made = update_store(alloc, &reader, corner, of.update)?;
-    Ok(made)
+    let statement = update_store(alloc, &reader, corner, of.update)?;
+    Ok(statement)
 }
 
 /// The store of an update of a Func that is computed at root.
 fn root_store(alloc: Global, plan: &Plan<'_>, of: &UpdateOf<'_>) -> Result<Stmt, AllocError>
     requires { of.now.computed.place + 1 < 2 ^ 64 }
     ensures leaf { IfOk result IsLeaf }
-    ensures stores { IfOk result (λ made. spec.IsUpdateStoreOf plan.now.pipeline plan.now.schedule
-        plan.now.boxes of.now.computed.place of.now.computed.own.now of.now.update.now made) }
-    ensures depth { IfOk result (λ made. depth made ≡ 0) }
-    ensures needs { IfOk result (λ made. greatest_need made ≤ update_taken (flags_of plan.now.schedule.standings)
+    ensures stores { IfOk result (λ statement. spec.IsUpdateStoreOf plan.now.pipeline plan.now.schedule
+        plan.now.boxes of.now.computed.place of.now.computed.own.now of.now.update.now statement) }
+    ensures depth { IfOk result (λ statement. depth statement ≡ 0) }
+    ensures needs { IfOk result (λ statement. greatest_need statement ≤ update_taken
+        (flags_of plan.now.schedule.standings)
         plan.now.pipeline.funcs of.now.computed.place of.now.update.now) }
-    ensures sizes { IfOk result (λ made. whole_size made + 8 ≤ 64 * update_counted
+    ensures sizes { IfOk result (λ statement. whole_size statement + 8 ≤ 64 * update_counted
         (flags_of plan.now.schedule.standings) plan.now.pipeline.funcs of.now.computed.place
         of.now.update.now) }
 {
@@ -139,75 +141,85 @@ fn root_store(alloc: Global, plan: &Plan<'_>, of: &UpdateOf<'_>) -> Result<Stmt,
     let standings = schedule.standings.as_slice();
     let corners = corners_of(alloc, plans, plan.boxes().funcs.as_slice(), standings)?;
     let corner = corner_of(alloc, plans, ComputeLevel::Root, of.computed.own)?;
-    let made = store_at(alloc, plan, corners.as_slice(), &corner, of)?;
-    Ok(made)
+    let statement = store_at(alloc, plan, corners.as_slice(), &corner, of)?;
+    Ok(statement)
 }
 
 /// The store under the loops inside the parallel one.
 fn body_of(
     alloc: Global,
-    place: usize,
+    func_index: usize,
     stage: &Stage,
     extents: Extents,
     store: Stmt,
 ) -> Result<Stmt, AllocError>
     requires splits { AreSplits stage.now.splits }
     requires few { AreFew extents }
-    ensures loop_lanes { IfOk result (λ made. (outside : List Loop) → IsLeaf store
-        → MayBeUnder place extents stage.now.splits (pure.inside_of (iterations.parallel stage.now) stage.now.loops)
+    ensures loop_lanes { IfOk result (λ statement. (outside : List Loop) → IsLeaf store
+        → MayBeUnder func_index extents stage.now.splits (pure.inside_of (iterations.parallel stage.now)
+        stage.now.loops)
         outside store
-        → MayBeAtOnce place (counts extents stage.now.splits) outside made) }
-    ensures repeats { IfOk result (λ made. Repeats place made store
+        → MayBeAtOnce func_index (counts extents stage.now.splits) outside statement) }
+    ensures repeats { IfOk result (λ statement. Repeats func_index statement store
         (wholes extents stage.now.splits (pure.inside_of (iterations.parallel stage.now) stage.now.loops))) }
-    ensures depth { IfOk result (λ made. depth made
+    ensures depth { IfOk result (λ statement. depth statement
         ≡ length (pure.inside_of (iterations.parallel stage.now) stage.now.loops) +
         (length stage.now.splits + depth store)) }
-    ensures needs { IfOk result (λ made. greatest_need made ≡ greatest_need store) }
-    ensures sizes { IfOk result (λ made. whole_size made
+    ensures needs { IfOk result (λ statement. greatest_need statement ≡ greatest_need store) }
+    ensures sizes { IfOk result (λ statement. whole_size statement
         ≡ nest_size (counts extents stage.now.splits) (pure.inside_of (iterations.parallel stage.now) stage.now.loops)
         (25 * length stage.now.splits + whole_size store)) }
 {
     let splits = stage.splits.as_slice();
-    let made = with_nest(alloc, place, extents, splits, inside_parallel(stage), store)?;
-    Ok(made)
+    let statement = with_nest(
+        alloc,
+        func_index,
+        extents,
+        splits,
+        inside_parallel(stage),
+        store,
+    )?;
+    Ok(statement)
 }
 
 /// All loops of a stage around a store.
 fn nest_of(
     alloc: Global,
-    place: usize,
+    func_index: usize,
     stage: &Stage,
     extents: Extents,
     store: Stmt,
 ) -> Result<Stmt, AllocError>
     requires splits { AreSplits stage.now.splits }
     requires few { AreFew extents }
-    ensures loop_lanes { IfOk result (λ made. (outside : List Loop) → IsLeaf store
-        → MayBeUnder place extents stage.now.splits stage.now.loops outside store
-        → MayBeAtOnce place (counts extents stage.now.splits) outside made) }
-    ensures repeats { IfOk result (λ made. Repeats place made store (wholes extents stage.now.splits stage.now.loops)) }
-    ensures depth { IfOk result (λ made. depth made
+    ensures loop_lanes { IfOk result (λ statement. (outside : List Loop) → IsLeaf store
+        → MayBeUnder func_index extents stage.now.splits stage.now.loops outside store
+        → MayBeAtOnce func_index (counts extents stage.now.splits) outside statement) }
+    ensures repeats { IfOk result (λ statement. Repeats func_index statement store
+        (wholes extents stage.now.splits stage.now.loops)) }
+    ensures depth { IfOk result (λ statement. depth statement
         ≡ length stage.now.loops + (length stage.now.splits + depth store)) }
-    ensures needs { IfOk result (λ made. greatest_need made ≡ greatest_need store) }
-    ensures about { IfOk result (λ made. is_about place made ≡ is_about place store) }
-    ensures sizes { IfOk result (λ made. whole_size made ≡ nest_size (counts extents stage.now.splits) stage.now.loops
+    ensures needs { IfOk result (λ statement. greatest_need statement ≡ greatest_need store) }
+    ensures about { IfOk result (λ statement. is_about func_index statement ≡ is_about func_index store) }
+    ensures sizes { IfOk result (λ statement. whole_size statement ≡ nest_size (counts extents stage.now.splits)
+        stage.now.loops
         (25 * length stage.now.splits + whole_size store)) }
 {
-    let made = with_nest(
+    let statement = with_nest(
         alloc,
-        place,
+        func_index,
         extents,
         stage.splits.as_slice(),
         stage.loops.as_slice(),
         store,
     )?;
-    Ok(made)
+    Ok(statement)
 }
 
 /// The phase of an update of a Func that is computed at root: each task makes what the loops inside the parallel one
 /// visit.
 ///
-/// From buffers that hold what stands after the stages before it, its tasks leave what stands after it
+/// From buffers that hold what is after the stages before it, its tasks leave what is after it
 /// (`specs/Stages.antt`). A task owns the points of the box in the slices that it visits (`specs/Updates.antt`), and
 /// stores at those that the left side names there (`specs/Stored.antt`).
 ///
@@ -259,7 +271,7 @@ pub fn update_phase(alloc: Global, plan: &Plan<'_>, of: &UpdateOf<'_>) -> Result
 /// All loops of an update of a Func around its store, where the Func is computed at a loop of another one: reads are
 /// counted from the corners, and its own points from its corner.
 ///
-/// From buffers that hold what stands before it in the Func's box, it leaves there what stands after it, wherever loops
+/// From buffers that hold what is before it in the Func's box, it leaves there what is after it, wherever loops
 /// of the other Func take the box (`specs/Updates.antt`).
 ///
 /// # Errors
@@ -283,19 +295,19 @@ pub fn update_nest(
     ensures alone { IfOk result (StoresInIt of.now.computed.place) }
     ensures sound { IfOk result (spec.AreSoundLoops plan.now.pipeline plan.now.schedule
         plan.now.boxes corners.now of.now.computed.place corner.now of.now.computed.own.now of.now.update.now) }
-    ensures few { IfOk result (λ made. depth made ≤ 9) }
+    ensures few { IfOk result (λ statement. depth statement ≤ 9) }
     ensures at_once { IfOk result MayAlwaysBeAtOnce }
-    ensures about { IfOk result (λ made. is_about of.now.computed.place made ≡ true) }
-    ensures needs { IfOk result (λ made. greatest_need made ≤ most_need plan.now.pipeline
+    ensures about { IfOk result (λ statement. is_about of.now.computed.place statement ≡ true) }
+    ensures needs { IfOk result (λ statement. greatest_need statement ≤ most_need plan.now.pipeline
         plan.now.schedule) }
-    ensures sizes { IfOk result (λ made. AreShort corners.now
-        → whole_size made ≤ 64 * stage_weight (update_nodes (flags_of plan.now.schedule.standings)
+    ensures sizes { IfOk result (λ statement. AreShort corners.now
+        → whole_size statement ≤ 64 * stage_weight (update_nodes (flags_of plan.now.schedule.standings)
         plan.now.pipeline.funcs of.now.update.now) of.now.stage.now) }
 {
     // What every plan and its pipeline keep is known once their parts are read.
     let _funcs = plan.pipeline().funcs();
     let store = store_at(alloc, plan, corners, corner, of)?;
     let extents = update_extents(of.computed.own, of.update);
-    let made = nest_of(alloc, of.computed.place, of.stage, extents, store)?;
-    Ok(made)
+    let statement = nest_of(alloc, of.computed.place, of.stage, extents, store)?;
+    Ok(statement)
 }

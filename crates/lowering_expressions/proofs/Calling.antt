@@ -65,10 +65,10 @@ module _ (corners : List Corner) (values : Values) (reads : Reads) where
     same_stands variables.FirstReduction = refl
     same_stands variables.SecondReduction = refl
 
-    pub variable_follows : (v w : Variable) (made : Expr) → v ≡ w → made ≡ term_of a b c d w
-        → Follows corners values reads (loaded_by reads values a b c d) made (standing reads values a b c d v)
-    variable_follows v w made is same =
-        subst (λ (own : Variable). Follows corners values reads (loaded_by reads values a b c d) made (standing reads values a b c d own)) (sym is)
+    pub variable_follows : (v w : Variable) (expression : Expr) → v ≡ w → expression ≡ term_of a b c d w
+        → Follows corners values reads (loaded_by reads values a b c d) expression (standing reads values a b c d v)
+    variable_follows v w expression is same =
+        subst (λ (own : Variable). Follows corners values reads (loaded_by reads values a b c d) expression (standing reads values a b c d own)) (sym is)
         (subst (λ (own : Expr). Follows corners values reads (loaded_by reads values a b c d) own (standing reads values a b c d w)) (sym same)
         (subst (λ (own : Seen). Follows corners values reads (loaded_by reads values a b c d) (term_of a b c d w) own) (same_stands w)
         (record { same = refl; holds = λ test g h. all_loads w test g })))
@@ -88,14 +88,14 @@ module _ (corners : List Corner) (values : Values) (reads : Reads) where
   same_made within func left = refl
 
   -- what is made of a Func whose arguments are these
-  pub made_follows : (within : Inside Seen) (func : Func) (x y zero made : Expr) (given : List Point) (left right : Seen)
+  pub made_follows : (within : Inside Seen) (func : Func) (x y zero expression : Expr) (given : List Point) (left right : Seen)
       → Follows corners values reads given x left → Follows corners values reads given y right → Follows corners values reads given zero (none alg)
-      → Follows corners values reads (loaded_by reads values x y zero zero) made (through alg within (standing reads values x y zero zero) func.pure)
-      → Follows corners values reads given made (made_of alg within func left (Some right))
+      → Follows corners values reads (loaded_by reads values x y zero zero) expression (through alg within (standing reads values x y zero zero) func.pure)
+      → Follows corners values reads given expression (made_of alg within func left (Some right))
   unfolding seeing
-  made_follows within func x y zero made given left right fx fy fz own =
+  made_follows within func x y zero expression given left right fx fy fz own =
       let vars : standing reads values x y zero zero ≡ arguments (none alg) (unread left) (unread right) = fun_ext by_variable in
-      let own_follows = subst (λ (vs : Variable → Seen). Follows corners values reads (loaded_by reads values x y zero zero) made
+      let own_follows = subst (λ (vs : Variable → Seen). Follows corners values reads (loaded_by reads values x y zero zero) expression
       (through alg within vs func.pure)) vars own in
       record {
         same = own_follows.same;
@@ -122,37 +122,39 @@ module _ (corners : List Corner) (values : Values) (reads : Reads) where
     answers s = answer (inside alg is_inlined funcs count) s
 
     -- where it isn't inlined
-    pub not_inlined : (place : ℕ) (s : Source) (a x : Seen) (y : Option Seen) → s ≡ sources.Func place → func_in funcs is_inlined count place ≡ None
+    pub not_inlined : (func_index : ℕ) (s : Source) (a x : Seen) (y : Option Seen) → s ≡ sources.Func func_index → func_in funcs is_inlined count func_index ≡ None
         → a ≡ answered a x y (answers s)
-    not_inlined place s a x y is found =
+    not_inlined func_index s a x y is found_func =
         sym (ap (λ (own : Source). answered a x y (answers own)) is
-        ∙ ap (answered a x y) (inside_is alg is_inlined funcs count place ∙ ap (made_in alg (inside alg is_inlined funcs place)) found))
+        ∙ ap (answered a x y) (inside_is alg is_inlined funcs count func_index ∙ ap (made_in alg (inside alg is_inlined funcs func_index)) found_func))
 
-    pub input : (place : ℕ) (s : Source) (a x : Seen) (y : Option Seen) → s ≡ sources.Input place → a ≡ answered a x y (answers s)
-    input place s a x y is = sym (ap (λ (own : Source). answered a x y (answers own)) is)
+    pub input : (func_index : ℕ) (s : Source) (a x : Seen) (y : Option Seen) → s ≡ sources.Input func_index → a ≡ answered a x y (answers s)
+    input func_index s a x y is = sym (ap (λ (own : Source). answered a x y (answers own)) is)
 
     -- where it is
-    pub is_made : (place : ℕ) (s : Source) (func : Func) (a x : Seen) (y : Option Seen) → s ≡ sources.Func place
-        → func_in funcs is_inlined count place ≡ Some func
-        → made_of alg (inside alg is_inlined funcs place) func x y ≡ answered a x y (answers s)
-    is_made place s func a x y is found =
+    pub is_made : (func_index : ℕ) (s : Source) (func : Func) (a x : Seen) (y : Option Seen)
+        → s ≡ sources.Func func_index
+        → func_in funcs is_inlined count func_index ≡ Some func
+        → made_of alg (inside alg is_inlined funcs func_index) func x y ≡ answered a x y (answers s)
+    is_made func_index s func a x y is found_func =
         sym (ap (λ (own : Source). answered a x y (answers own)) is
-        ∙ ap (answered a x y) (inside_is alg is_inlined funcs count place ∙ ap (made_in alg (inside alg is_inlined funcs place)) found))
+        ∙ ap (answered a x y) (inside_is alg is_inlined funcs count func_index ∙ ap (made_in alg (inside alg is_inlined funcs func_index)) found_func))
 
     -- a call with one argument is one whose second argument is 0
     pub one_argument : (s : Source) (left : Seen) → answered (alg.level (layer.Call2 s left (none alg))) left (Some (none alg)) (answers s)
         ≡ answered (alg.level (layer.Call1 s left)) left None (answers s)
-    one_argument (sources.Input place) left = alone (sources.Input place) left
-    one_argument (sources.Func place) left = by_func (func_in funcs is_inlined count place) refl
+    one_argument (sources.Input func_index) left = alone (sources.Input func_index) left
+    one_argument (sources.Func func_index) left = by_func (func_in funcs is_inlined count func_index) refl
       where
-        by_func : (found : Option Func) → func_in funcs is_inlined count place ≡ found
-            → answered (alg.level (layer.Call2 (sources.Func place) left (none alg))) left (Some (none alg)) (answers (sources.Func place))
-            ≡ answered (alg.level (layer.Call1 (sources.Func place) left)) left None (answers (sources.Func place))
-        by_func None found =
-            sym (not_inlined place (sources.Func place) (alg.level (layer.Call2 (sources.Func place) left (none alg))) left (Some (none alg)) refl found)
-            ∙ alone (sources.Func place) left
-            ∙ not_inlined place (sources.Func place) (alg.level (layer.Call1 (sources.Func place) left)) left None refl found
-        by_func (Some func) found =
-            sym (is_made place (sources.Func place) func (alg.level (layer.Call2 (sources.Func place) left (none alg))) left (Some (none alg)) refl found)
-            ∙ same_made (inside alg is_inlined funcs place) func left
-            ∙ is_made place (sources.Func place) func (alg.level (layer.Call1 (sources.Func place) left)) left None refl found
+        by_func : (found_func : Option Func) → func_in funcs is_inlined count func_index ≡ found_func
+            → answered (alg.level (layer.Call2 (sources.Func func_index) left (none alg))) left (Some (none alg)) (answers (sources.Func func_index))
+            ≡ answered (alg.level (layer.Call1 (sources.Func func_index) left)) left None
+            (answers (sources.Func func_index))
+        by_func None found_func =
+            sym (not_inlined func_index (sources.Func func_index) (alg.level (layer.Call2 (sources.Func func_index) left (none alg))) left (Some (none alg)) refl found_func)
+            ∙ alone (sources.Func func_index) left
+            ∙ not_inlined func_index (sources.Func func_index) (alg.level (layer.Call1 (sources.Func func_index) left)) left None refl found_func
+        by_func (Some func) found_func =
+            sym (is_made func_index (sources.Func func_index) func (alg.level (layer.Call2 (sources.Func func_index) left (none alg))) left (Some (none alg)) refl found_func)
+            ∙ same_made (inside alg is_inlined funcs func_index) func left
+            ∙ is_made func_index (sources.Func func_index) func (alg.level (layer.Call1 (sources.Func func_index) left)) left None refl found_func

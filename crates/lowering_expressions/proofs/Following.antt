@@ -23,7 +23,7 @@ use Rattle.lowering_expressions.specs.Lowering.{place, placed, from_corner, corn
 use Rattle.lowering_expressions.specs.inner.Following.{Follows, algebra}
 
 abbrev points_of : Seen → List Point
-points_of own = own.points
+points_of own_seen = own_seen.points
 
 module _ (corners : List Corner) (values : Values) (reads : Reads) (given : List Point) where
   abbrev F : Expr → Seen → Type 0
@@ -52,27 +52,27 @@ module _ (corners : List Corner) (values : Values) (reads : Reads) (given : List
   }
 
   -- a left side to which a number is added
-  pub shifted_follows : (op : Operation) (a b made : Expr) (left right : Seen) (n : ℕ) → ((x : ℕ) → word.applied op x (value reads values b) ≡ word.add x n)
-      → value reads values made ≡ word.add (value reads values a) n → ((test : Point → Bool) → Hold test (loads reads values a)
-      → Hold test (loads reads values made))
-      → F a left → F b right → F made ((algebra corners values reads).level (layer.Binary op left right))
+  pub shifted_follows : (op : Operation) (a b expression : Expr) (left right : Seen) (n : ℕ) → ((x : ℕ) → word.applied op x (value reads values b) ≡ word.add x n)
+      → value reads values expression ≡ word.add (value reads values a) n → ((test : Point → Bool) → Hold test (loads reads values a)
+      → Hold test (loads reads values expression))
+      → F a left → F b right → F expression ((algebra corners values reads).level (layer.Binary op left right))
   unfolding seeing
-  shifted_follows op a b made left right n shift is all fa fb = record {
+  shifted_follows op a b expression left right n shift is all fa fb = record {
     same = is ∙ sym (shift (value reads values a))
         ∙ ap (λ (k : ℕ). word.applied op k (value reads values b)) fa.same ∙ ap (λ (k : ℕ). word.applied op left.value k) fb.same;
     holds = λ test g h. let k = all_parts (Passes test) left.points right.points h in all test (fa.holds test g k.0);
   }
 
-  pub divide_follows : (a : Expr) (n : ℕ) (own : Seen) → F a own → F (e.Divide a n) ((algebra corners values reads).level (layer.Divide own n))
+  pub divide_follows : (a : Expr) (n : ℕ) (own_seen : Seen) → F a own_seen → F (e.Divide a n) ((algebra corners values reads).level (layer.Divide own_seen n))
   unfolding seeing value seen
-  divide_follows a n own fa = record {
+  divide_follows a n own_seen fa = record {
     same = at_divide ℕ (value_at reads values) a n ∙ ap (λ (m : ℕ). word.divide m n) fa.same;
     holds = λ test g h. subst (Hold test) (sym (ap points_of (at_divide Seen (seen_at reads values) a n))) (fa.holds test g h);
   }
 
-  pub remainder_follows : (a : Expr) (n : ℕ) (own : Seen) → F a own → F (e.Remainder a n) ((algebra corners values reads).level (layer.Remainder own n))
+  pub remainder_follows : (a : Expr) (n : ℕ) (own_seen : Seen) → F a own_seen → F (e.Remainder a n) ((algebra corners values reads).level (layer.Remainder own_seen n))
   unfolding seeing value seen
-  remainder_follows a n own fa = record {
+  remainder_follows a n own_seen fa = record {
     same = at_remainder ℕ (value_at reads values) a n ∙ ap (λ (m : ℕ). word.remainder m n) fa.same;
     holds = λ test g h. subst (Hold test) (sym (ap points_of (at_remainder Seen (seen_at reads values) a n))) (fa.holds test g h);
   }
@@ -108,15 +108,15 @@ module _ (corners : List Corner) (values : Values) (reads : Reads) (given : List
       → F (e.Load s x y) ((algebra corners values reads).level (layer.Call2 s left right))
   unfolding seeing value seen placed
   load_follows s corner is x y left right vx vy hx hy =
-      let at : Option Corner → Point = λ own. from_corner values own left.value right.value s in
-      let own : Point = record { source = s; x = value reads values x; y = value reads values y } in
-      let there : own ≡ at (corner_of corners s) =
+      let at : Option Corner → Point = λ own_seen. from_corner values own_seen left.value right.value s in
+      let own_seen : Point = record { source = s; x = value reads values x; y = value reads values y } in
+      let there : own_seen ≡ at (corner_of corners s) =
       ap (λ (n : ℕ). record { source = s; x = n; y = value reads values y }) vx
       ∙ ap (λ (n : ℕ). record { source = s; x = (at corner).x; y = n }) vy
       ∙ ap (λ (f : Source). record { source = f; x = (at corner).x; y = (at corner).y }) (sym (same_source corner left.value right.value s))
       ∙ ap at is in
       let loaded : Point = record { source = s; x = (seen reads values x).value; y = (seen reads values y).value } in
-      let seen_there : loaded ≡ own =
+      let seen_there : loaded ≡ own_seen =
       ap (λ (n : ℕ). record { source = s; x = n; y = (seen reads values y).value }) (values_are_seen reads values x)
       ∙ ap (λ (n : ℕ). record { source = s; x = value reads values x; y = n }) (values_are_seen reads values y) in
       record {
@@ -137,9 +137,9 @@ module _ (reads : Reads) (values : Values) where
   unfolding value
   number_value n = at_number ℕ (value_at reads values) n
 
-  pub linear_is : (own : Linear) → value reads values (e.Linear own) ≡ linear_value values own
+  pub linear_is : (sum : Linear) → value reads values (e.Linear sum) ≡ linear_value values sum
   unfolding value
-  linear_is own = at_linear ℕ (value_at reads values) own
+  linear_is sum = at_linear ℕ (value_at reads values) sum
 
   pub binary_value : (op : Operation) (a b : Expr) → value reads values (e.Binary op a b) ≡ word.applied op (value reads values a) (value reads values b)
   unfolding value
@@ -149,22 +149,22 @@ module _ (reads : Reads) (values : Values) where
   unfolding seen
   number_loads n = ap points_of (at_number Seen (seen_at reads values) n)
 
-  pub linear_loads : (own : Linear) → loads reads values (e.Linear own) ≡ []
+  pub linear_loads : (sum : Linear) → loads reads values (e.Linear sum) ≡ []
   unfolding seen
-  linear_loads own = ap points_of (at_linear Seen (seen_at reads values) own)
+  linear_loads sum = ap points_of (at_linear Seen (seen_at reads values) sum)
 
   pub binary_loads : (op : Operation) (a b : Expr) → loads reads values (e.Binary op a b) ≡ loads reads values a ++ loads reads values b
   unfolding seen
   binary_loads op a b = ap points_of (at_binary Seen (seen_at reads values) op a b)
 
   -- what loads nothing passes
-  pub linear_passes : (own : Linear) (test : Point → Bool) → Hold test (loads reads values (e.Linear own))
-  linear_passes own test = subst (Hold test) (sym (linear_loads own)) tt
+  pub linear_passes : (sum : Linear) (test : Point → Bool) → Hold test (loads reads values (e.Linear sum))
+  linear_passes sum test = subst (Hold test) (sym (linear_loads sum)) tt
 
   -- an operation on an expression and one that loads nothing
-  pub left_passes : (op : Operation) (made a b : Expr) → made ≡ e.Binary op a b → loads reads values b ≡ [] → (test : Point → Bool)
-      → Hold test (loads reads values a) → Hold test (loads reads values made)
-  left_passes op made a b is none test h =
+  pub left_passes : (op : Operation) (new_expression a b : Expr) → new_expression ≡ e.Binary op a b → loads reads values b ≡ [] → (test : Point → Bool)
+      → Hold test (loads reads values a) → Hold test (loads reads values new_expression)
+  left_passes op new_expression a b is none test h =
       subst (Hold test) (sym (ap (loads reads values) is ∙ binary_loads op a b ∙ ap (λ (ps : List Point). loads reads values a ++ ps) none
       ∙ append-nil (loads reads values a))) h
 

@@ -40,9 +40,9 @@ placed corners values reads source x y = answered_at reads (place corners values
 
 -- what the variables stand for
 abbrev pub environment : Values → Arguments → Environment
-environment values own = record {
-  first_argument = linear_value values own.first_argument;
-  second_argument = linear_value values own.second_argument;
-  first_reduction = linear_value values own.first_reduction;
-  second_reduction = linear_value values own.second_reduction;
+environment values arguments = record {
+  first_argument = linear_value values arguments.first_argument;
+  second_argument = linear_value values arguments.second_argument;
+  first_reduction = linear_value values arguments.first_reduction;
+  second_reduction = linear_value values arguments.second_reduction;
 }

@@ -20,14 +20,13 @@ use halide_pipeline::{Operation, Source};
 use loop_ir::expressions::{Expr, Linear};
 use std::alloc::{AllocError, Global};
 
-/// The point of a Func that stands first in its buffer.
+/// The point of a Func that is first in its buffer.
 #[derive(Debug)]
 pub struct Corner {
     pub x: Linear,
     pub y: Linear,
 }
 
-/// Written out, so that a check sees a call wherever one is dropped, and not the drops of its parts.
 impl Drop for Corner {
     fn drop(self) {
         let Corner { x, y } = self;
@@ -52,30 +51,36 @@ fn corner_of<'a>(corners: &'a [Corner], source: Source) -> Option<&'a Corner>
 ///
 /// Memory ran out.
 pub fn counted_from(alloc: Global, coordinate: Expr, corner: &Linear) -> Result<Expr, AllocError>
-    ensures value { IfOk result (λ made. (reads : Reads) (values : Values)
-        → value reads values made ≡ word.subtract (value reads values coordinate) (linear_value values corner.now)) }
-    ensures loads { IfOk result (λ made. (reads : Reads) (values : Values) (test : Point → Bool)
-        → Hold test (loads reads values coordinate) → Hold test (loads reads values made)) }
-    ensures needs { IfOk result (λ made. need made ≡ need coordinate) }
-    ensures leaf { IfOk result (λ made. (n : ℕ) → coordinate ≡ Expr.Number n → need_of made ≡ leaf) }
-    ensures sizes { IfOk result (λ made. length corner.now.terms ≤ 5 → size made ≤ size coordinate + 26) }
-    ensures numbers { IfOk result (λ made. length corner.now.terms ≤ 5 → (n : ℕ) → coordinate ≡ Expr.Number n
-        → (kept (size_of made) ≡ 0) × (size made ≤ 22)) }
+    ensures value { IfOk result (λ expression. (reads : Reads) (values : Values)
+        → value reads values expression ≡ word.subtract (value reads values coordinate)
+        (linear_value values corner.now)) }
+    ensures loads { IfOk result (λ expression. (reads : Reads) (values : Values) (test : Point → Bool)
+        → Hold test (loads reads values coordinate) → Hold test (loads reads values expression)) }
+    ensures needs { IfOk result (λ expression. need expression ≡ need coordinate) }
+    ensures leaf { IfOk result (λ expression. (n : ℕ) → coordinate ≡ Expr.Number n → need_of expression ≡ leaf) }
+    ensures sizes { IfOk result (λ expression. length corner.now.terms ≤ 5 → size expression ≤ size coordinate + 26) }
+    ensures numbers { IfOk result (λ expression. length corner.now.terms ≤ 5 → (n : ℕ) → coordinate ≡ Expr.Number n
+        → (kept (size_of expression) ≡ 0) × (size expression ≤ 22)) }
 {
     match &coordinate {
         Expr::Number(number) => {
-            let made = Linear::of_number(alloc, *number).minus(corner)?;
-            Ok(Expr::Linear(made))
+            let expression = Linear::of_number(alloc, *number).minus(corner)?;
+            Ok(Expr::Linear(expression))
         }
         Expr::Linear(own) => {
             let sum = own.copy(alloc)?;
-            let made = sum.minus(corner)?;
-            Ok(Expr::Linear(made))
+            let expression = sum.minus(corner)?;
+            Ok(Expr::Linear(expression))
         }
         _ => {
             let begin = corner.copy(alloc)?;
-            let made = new_binary(alloc, Operation::Subtract, coordinate, Expr::Linear(begin))?;
-            Ok(made)
+            let expression = new_binary(
+                alloc,
+                Operation::Subtract,
+                coordinate,
+                Expr::Linear(begin),
+            )?;
+            Ok(expression)
         }
     }
 }
@@ -88,25 +93,27 @@ pub(crate) fn load(
     x: Expr,
     y: Expr,
 ) -> Result<Expr, AllocError>
-    ensures follows { IfOk result (λ made. (values : Values) (reads : Reads) (given : List Point) (left right : Seen)
+    ensures follows { IfOk result (λ expression. (values : Values) (reads : Reads) (given : List Point)
+        (left right : Seen)
         → Follows corners.now values reads given x left → Follows corners.now values reads given y right
-        → Follows corners.now values reads given made ((algebra corners.now values reads).level
+        → Follows corners.now values reads given expression ((algebra corners.now values reads).level
         (layer.Call2 source left right))) }
-    ensures needs { IfOk result (λ made. need made ≤ max (need x) (1 + need y)) }
-    ensures alone { IfOk result (λ made. (n : ℕ) → y ≡ Expr.Number n → need made ≤ need x) }
-    ensures sizes { IfOk result (λ made. AreShort corners.now → (left : ℕ) (right : Option ℕ) → IsGiven (size x) left
-        → IsGivenSecond y right → IsGiven (size made) (call_nodes left right)) }
+    ensures needs { IfOk result (λ expression. need expression ≤ max (need x) (1 + need y)) }
+    ensures alone { IfOk result (λ expression. (n : ℕ) → y ≡ Expr.Number n → need expression ≤ need x) }
+    ensures sizes { IfOk result (λ expression. AreShort corners.now → (left : ℕ) (right : Option ℕ)
+        → IsGiven (size x) left
+        → IsGivenSecond y right → IsGiven (size expression) (call_nodes left right)) }
 {
     match corner_of(corners, source) {
         None => {
-            let made = new_load(alloc, source, x, y)?;
-            Ok(made)
+            let expression = new_load(alloc, source, x, y)?;
+            Ok(expression)
         }
         Some(corner) => {
             let x = counted_from(alloc, x, &corner.x)?;
             let y = counted_from(alloc, y, &corner.y)?;
-            let made = new_load(alloc, source, x, y)?;
-            Ok(made)
+            let expression = new_load(alloc, source, x, y)?;
+            Ok(expression)
         }
     }
 }

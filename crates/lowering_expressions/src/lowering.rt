@@ -38,7 +38,6 @@ pub struct Arguments {
     pub second_reduction: Linear,
 }
 
-/// Written out, so that a check sees a call wherever one is dropped, and not the drops of its parts.
 impl Drop for Arguments {
     fn drop(self) {
         let Arguments {
@@ -69,28 +68,28 @@ fn variable_of(
     variables: &Terms<'_>,
     variable: Variable,
 ) -> Result<terms::Expr, AllocError>
-    ensures follows { IfOk result (λ made. (corners : List Corner) (values : Values) (reads : Reads)
-        → Follows corners values reads (term_loads reads values variables.now) made
+    ensures follows { IfOk result (λ expression. (corners : List Corner) (values : Values) (reads : Reads)
+        → Follows corners values reads (term_loads reads values variables.now) expression
         (variable_terms reads values variables.now variable)) }
-    ensures needs { IfOk result (λ made. need made ≡ term_need variables.now variable) }
-    ensures sizes { IfOk result (λ made. size made ≡ term_size variables.now variable) }
+    ensures needs { IfOk result (λ expression. need expression ≡ term_need variables.now variable) }
+    ensures sizes { IfOk result (λ expression. size expression ≡ term_size variables.now variable) }
 {
     match variable {
         Variable::FirstArgument => {
-            let made = copy(alloc, variables.first_argument)?;
-            Ok(made)
+            let expression = copy(alloc, variables.first_argument)?;
+            Ok(expression)
         }
         Variable::SecondArgument => {
-            let made = copy(alloc, variables.second_argument)?;
-            Ok(made)
+            let expression = copy(alloc, variables.second_argument)?;
+            Ok(expression)
         }
         Variable::FirstReduction => {
-            let made = copy(alloc, variables.first_reduction)?;
-            Ok(made)
+            let expression = copy(alloc, variables.first_reduction)?;
+            Ok(expression)
         }
         Variable::SecondReduction => {
-            let made = copy(alloc, variables.second_reduction)?;
-            Ok(made)
+            let expression = copy(alloc, variables.second_reduction)?;
+            Ok(expression)
         }
     }
 }
@@ -115,17 +114,18 @@ fn lowered_in(
     variables: &Terms<'_>,
     expr: &Expr,
 ) -> Result<terms::Expr, AllocError>
-    ensures follows { IfOk result (λ made. (values : Values) (reads : Reads)
-        → Follows callees.now.corners.now values reads (term_loads reads values variables.now) made
+    ensures follows { IfOk result (λ expression. (values : Values) (reads : Reads)
+        → Follows callees.now.corners.now values reads (term_loads reads values variables.now) expression
         (inlined (algebra callees.now.corners.now values reads) (flagged callees.now.flags.now) callees.now.funcs.now
         callees.now.count
         (variable_terms reads values variables.now) expr.now)) }
-    ensures needs { IfOk result (λ made. (most : Variables → ℕ) → AreTaken variables.now most
-        → need made ≤ inlined taking (flagged callees.now.flags.now) callees.now.funcs.now callees.now.count most
+    ensures needs { IfOk result (λ expression. (most : Variables → ℕ) → AreTaken variables.now most
+        → need expression ≤ inlined taking (flagged callees.now.flags.now) callees.now.funcs.now callees.now.count most
         expr.now) }
-    ensures sizes { IfOk result (λ made. AreShort callees.now.corners.now → (nodes : Variables → ℕ) → AreGiven
+    ensures sizes { IfOk result (λ expression. AreShort callees.now.corners.now → (nodes : Variables → ℕ) → AreGiven
         variables.now nodes
-        → IsGiven (size made) (inlined counting (flagged callees.now.flags.now) callees.now.funcs.now callees.now.count
+        → IsGiven (size expression) (inlined counting (flagged callees.now.flags.now) callees.now.funcs.now
+        callees.now.count
         nodes expr.now)) }
 {
     match expr {
@@ -134,36 +134,36 @@ fn lowered_in(
         Expr::Binary(operation, a, b) => {
             let a = lowered_in(alloc, callees, variables, a.get())?;
             let b = lowered_in(alloc, callees, variables, b.get())?;
-            let made = binary(alloc, *operation, a, b)?;
-            Ok(made)
+            let expression = binary(alloc, *operation, a, b)?;
+            Ok(expression)
         }
         Expr::Divide(a, divisor) => {
             let a = lowered_in(alloc, callees, variables, a.get())?;
-            let made = divide(alloc, a, *divisor)?;
-            Ok(made)
+            let expression = divide(alloc, a, *divisor)?;
+            Ok(expression)
         }
         Expr::Remainder(a, divisor) => {
             let a = lowered_in(alloc, callees, variables, a.get())?;
-            let made = remainder(alloc, a, *divisor)?;
-            Ok(made)
+            let expression = remainder(alloc, a, *divisor)?;
+            Ok(expression)
         }
         Expr::Select(c, a, b) => {
             let c = lowered_in(alloc, callees, variables, c.get())?;
             let a = lowered_in(alloc, callees, variables, a.get())?;
             let b = lowered_in(alloc, callees, variables, b.get())?;
-            let made = select(alloc, c, a, b)?;
-            Ok(made)
+            let expression = select(alloc, c, a, b)?;
+            Ok(expression)
         }
         Expr::Call1(source, x) => {
             let x = lowered_in(alloc, callees, variables, x.get())?;
-            let made = called(alloc, callees, *source, x, number(0))?;
-            Ok(made)
+            let expression = called(alloc, callees, *source, x, number(0))?;
+            Ok(expression)
         }
         Expr::Call2(source, x, y) => {
             let x = lowered_in(alloc, callees, variables, x.get())?;
             let y = lowered_in(alloc, callees, variables, y.get())?;
-            let made = called(alloc, callees, *source, x, y)?;
-            Ok(made)
+            let expression = called(alloc, callees, *source, x, y)?;
+            Ok(expression)
         }
     }
 }
@@ -177,27 +177,29 @@ fn called(
     x: terms::Expr,
     y: terms::Expr,
 ) -> Result<terms::Expr, AllocError>
-    ensures follows { IfOk result (λ made. (values : Values) (reads : Reads) (given : List Point) (left right : Seen)
+    ensures follows { IfOk result (λ expression. (values : Values) (reads : Reads) (given : List Point)
+        (left right : Seen)
         → Follows callees.now.corners.now values reads given x left → Follows callees.now.corners.now values reads
         given y right
-        → Follows callees.now.corners.now values reads given made
+        → Follows callees.now.corners.now values reads given expression
         (answered ((algebra callees.now.corners.now values reads).level (layer.Call2 source left right)) left (Some
         right)
         (answer (inside (algebra callees.now.corners.now values reads) (flagged callees.now.flags.now)
         callees.now.funcs.now callees.now.count) source))) }
-    ensures needs { IfOk result (λ made. (left : ℕ) (right : Option ℕ) → need x ≤ left → IsSecond y right
-        → need made ≤ answered (call_need left right) left right
+    ensures needs { IfOk result (λ expression. (left : ℕ) (right : Option ℕ) → need x ≤ left → IsSecond y right
+        → need expression ≤ answered (call_need left right) left right
         (answer (inside taking (flagged callees.now.flags.now) callees.now.funcs.now callees.now.count) source)) }
-    ensures sizes { IfOk result (λ made. AreShort callees.now.corners.now → (left : ℕ) (right : Option ℕ) → IsGiven
+    ensures sizes { IfOk result (λ expression. AreShort callees.now.corners.now → (left : ℕ) (right : Option ℕ)
+        → IsGiven
         (size x) left
         → IsGivenSecond y right
-        → IsGiven (size made) (answered (call_nodes left right) left right
+        → IsGiven (size expression) (answered (call_nodes left right) left right
         (answer (inside counting (flagged callees.now.flags.now) callees.now.funcs.now callees.now.count) source))) }
 {
     match source {
         Source::Input(_) => {
-            let made = load(alloc, callees.corners, source, x, y)?;
-            Ok(made)
+            let expression = load(alloc, callees.corners, source, x, y)?;
+            Ok(expression)
         }
         Source::Func(place) => match inlined_func(
             callees.funcs,
@@ -206,8 +208,8 @@ fn called(
             place,
         ) {
             None => {
-                let made = load(alloc, callees.corners, source, x, y)?;
-                Ok(made)
+                let expression = load(alloc, callees.corners, source, x, y)?;
+                Ok(expression)
             }
             Some(func) => {
                 let zero = number(0);
@@ -221,8 +223,8 @@ fn called(
                     first_reduction: &zero,
                     second_reduction: &zero,
                 };
-                let made = lowered_in(alloc, &earlier, &variables, &func.pure)?;
-                Ok(made)
+                let expression = lowered_in(alloc, &earlier, &variables, &func.pure)?;
+                Ok(expression)
             }
         },
     }
@@ -235,7 +237,6 @@ struct VariableSums {
     reductions: ExprPair,
 }
 
-/// Written out, so that a check sees a call wherever one is dropped, and not the drops of its parts.
 impl Drop for VariableSums {
     fn drop(self) {
         let VariableSums {
@@ -297,25 +298,26 @@ pub fn lowered(
     variables: &Arguments,
     expr: &Expr,
 ) -> Result<terms::Expr, AllocError>
-    ensures value { IfOk result (λ made. (reads : Reads) (values : Values) → value reads values made
+    ensures value { IfOk result (λ expression. (reads : Reads) (values : Values) → value reads values expression
         ≡ inlined (valuing (placed callees.now.corners.now values reads)) (flagged callees.now.flags.now)
         callees.now.funcs.now callees.now.count
         (variable_in (environment values variables.now)) expr.now) }
-    ensures loads { IfOk result (λ made. (reads : Reads) (values : Values) (test : Point → Bool)
+    ensures loads { IfOk result (λ expression. (reads : Reads) (values : Values) (test : Point → Bool)
         → Hold (λ point. test (place callees.now.corners.now values point)) (inlined (seeing (placed
         callees.now.corners.now values reads))
         (flagged callees.now.flags.now) callees.now.funcs.now callees.now.count (seen_variable (environment values
         variables.now)) expr.now).points
-        → Hold test (loads reads values made)) }
-    ensures needs { IfOk result (λ made. need made ≤ inlined taking (flagged callees.now.flags.now)
+        → Hold test (loads reads values expression)) }
+    ensures needs { IfOk result (λ expression. need expression ≤ inlined taking (flagged callees.now.flags.now)
         callees.now.funcs.now callees.now.count (λ v. 1)
         expr.now) }
-    ensures sizes { IfOk result (λ made. AreShort callees.now.corners.now → AreShortArguments variables.now
-        → IsGiven (size made) (inlined counting (flagged callees.now.flags.now) callees.now.funcs.now callees.now.count
+    ensures sizes { IfOk result (λ expression. AreShort callees.now.corners.now → AreShortArguments variables.now
+        → IsGiven (size expression) (inlined counting (flagged callees.now.flags.now) callees.now.funcs.now
+        callees.now.count
         (λ v. 1) expr.now)) }
 {
     let sums = sums_of(alloc, variables)?;
     let standing = terms_of(&sums);
-    let made = lowered_in(alloc, callees, &standing, expr)?;
-    Ok(made)
+    let expression = lowered_in(alloc, callees, &standing, expr)?;
+    Ok(expression)
 }

@@ -23,7 +23,6 @@ pub(crate) struct ExprPair {
     pub second: Expr,
 }
 
-/// Written out, so that a check sees a call wherever one is dropped, and not the drops of its parts.
 impl Drop for ExprPair {
     fn drop(self) {
         let ExprPair { first, second } = self;
@@ -50,20 +49,20 @@ pub(crate) fn two_sums(
 }
 
 /// The same expression once more.
-pub(crate) fn copy(alloc: Global, own: &Expr) -> Result<Expr, AllocError>
-    ensures { IfOk result (λ made. made ≡ own.now) }
+pub(crate) fn copy(alloc: Global, expression: &Expr) -> Result<Expr, AllocError>
+    ensures { IfOk result (λ new_expression. new_expression ≡ expression.now) }
 {
-    match own {
+    match expression {
         Expr::Number(number) => Ok(Expr::Number(*number)),
         Expr::Linear(linear) => {
-            let made = linear.copy(alloc)?;
-            Ok(Expr::Linear(made))
+            let new_expression = linear.copy(alloc)?;
+            Ok(Expr::Linear(new_expression))
         }
         Expr::Binary(operation, a, b) => {
             let a = copy(alloc, a.get())?;
             let b = copy(alloc, b.get())?;
-            let made = new_binary(alloc, *operation, a, b)?;
-            Ok(made)
+            let new_expression = new_binary(alloc, *operation, a, b)?;
+            Ok(new_expression)
         }
         Expr::Divide(a, divisor) => {
             let a = copy(alloc, a.get())?;
@@ -77,14 +76,14 @@ pub(crate) fn copy(alloc: Global, own: &Expr) -> Result<Expr, AllocError>
             let c = copy(alloc, c.get())?;
             let a = copy(alloc, a.get())?;
             let b = copy(alloc, b.get())?;
-            let made = new_select(alloc, c, a, b)?;
-            Ok(made)
+            let new_expression = new_select(alloc, c, a, b)?;
+            Ok(new_expression)
         }
         Expr::Load(source, x, y) => {
             let x = copy(alloc, x.get())?;
             let y = copy(alloc, y.get())?;
-            let made = new_load(alloc, *source, x, y)?;
-            Ok(made)
+            let new_expression = new_load(alloc, *source, x, y)?;
+            Ok(new_expression)
         }
     }
 }
@@ -138,22 +137,22 @@ pub(crate) fn binary(
     a: Expr,
     b: Expr,
 ) -> Result<Expr, AllocError>
-    ensures follows { IfOk result (λ made. (corners : List Corner) (values : Values) (reads : Reads)
+    ensures follows { IfOk result (λ expression. (corners : List Corner) (values : Values) (reads : Reads)
         (given : List Point) (left right : Seen)
         → Follows corners values reads given a left → Follows corners values reads given b right
-        → Follows corners values reads given made ((algebra corners values reads).level
+        → Follows corners values reads given expression ((algebra corners values reads).level
         (layer.Binary operation left right))) }
-    ensures needs { IfOk result (λ made. need made ≤ max (need a) (1 + need b)) }
-    ensures sizes { IfOk result (λ made. size made ≤ size a + size b + 19) }
+    ensures needs { IfOk result (λ expression. need expression ≤ max (need a) (1 + need b)) }
+    ensures sizes { IfOk result (λ expression. size expression ≤ size a + size b + 19) }
 {
     match shift_of(operation, &b) {
         None => {
-            let made = new_binary(alloc, operation, a, b)?;
-            Ok(made)
+            let expression = new_binary(alloc, operation, a, b)?;
+            Ok(expression)
         }
         Some(number) => {
-            let made = shifted(alloc, a, number)?;
-            Ok(made)
+            let expression = shifted(alloc, a, number)?;
+            Ok(expression)
         }
     }
 }
@@ -174,22 +173,27 @@ fn shift_of(operation: Operation, right: &Expr) -> Option<u32>
 }
 
 /// An expression and so much more.
-fn shifted(alloc: Global, own: Expr, number: u32) -> Result<Expr, AllocError>
-    ensures value { IfOk result (λ made. (reads : Reads) (values : Values) → value reads values made
-        ≡ word.add (value reads values own) number) }
-    ensures loads { IfOk result (λ made. (reads : Reads) (values : Values) (test : Point → Bool)
-        → Hold test (loads reads values own) → Hold test (loads reads values made)) }
-    ensures needs { IfOk result (λ made. need made ≤ need own) }
-    ensures sizes { IfOk result (λ made. size made ≤ size own + 6) }
+fn shifted(alloc: Global, expression: Expr, number: u32) -> Result<Expr, AllocError>
+    ensures value { IfOk result (λ new_expression. (reads : Reads) (values : Values) → value reads values new_expression
+        ≡ word.add (value reads values expression) number) }
+    ensures loads { IfOk result (λ new_expression. (reads : Reads) (values : Values) (test : Point → Bool)
+        → Hold test (loads reads values expression) → Hold test (loads reads values new_expression)) }
+    ensures needs { IfOk result (λ new_expression. need new_expression ≤ need expression) }
+    ensures sizes { IfOk result (λ new_expression. size new_expression ≤ size expression + 6) }
 {
-    match &own {
+    match &expression {
         Expr::Linear(linear) => {
             let sum = linear.copy(alloc)?;
             Ok(Expr::Linear(sum.plus_number(number)))
         }
         _ => {
-            let made = new_binary(alloc, Operation::Add, own, Expr::Number(number))?;
-            Ok(made)
+            let new_expression = new_binary(
+                alloc,
+                Operation::Add,
+                expression,
+                Expr::Number(number),
+            )?;
+            Ok(new_expression)
         }
     }
 }
@@ -197,41 +201,41 @@ fn shifted(alloc: Global, own: Expr, number: u32) -> Result<Expr, AllocError>
 /// A quotient.
 pub(crate) fn divide(alloc: Global, a: Expr, divisor: u32) -> Result<Expr, AllocError>
     ensures follows { IfOk result (λ made. (corners : List Corner) (values : Values) (reads : Reads)
-        (given : List Point) (own : Seen)
-        → Follows corners values reads given a own
-        → Follows corners values reads given made ((algebra corners values reads).level (layer.Divide own divisor))) }
+        (given : List Point) (seen : Seen)
+        → Follows corners values reads given a seen
+        → Follows corners values reads given made ((algebra corners values reads).level (layer.Divide seen divisor))) }
     ensures needs { IfOk result (λ made. need made ≤ max (need a) (divisor_need divisor)) }
     ensures sizes { IfOk result (λ made. size made ≤ size a + 11) }
 {
-    let own = Boxed::new(alloc, a)?;
-    Ok(Expr::Divide(own, divisor))
+    let seen = Boxed::new(alloc, a)?;
+    Ok(Expr::Divide(seen, divisor))
 }
 
 /// A remainder.
 pub(crate) fn remainder(alloc: Global, a: Expr, divisor: u32) -> Result<Expr, AllocError>
     ensures follows { IfOk result (λ made. (corners : List Corner) (values : Values) (reads : Reads)
-        (given : List Point) (own : Seen)
-        → Follows corners values reads given a own
+        (given : List Point) (seen : Seen)
+        → Follows corners values reads given a seen
         → Follows corners values reads given made ((algebra corners values reads).level
-        (layer.Remainder own divisor))) }
+        (layer.Remainder seen divisor))) }
     ensures needs { IfOk result (λ made. need made ≤ max (need a) (divisor_need divisor)) }
     ensures sizes { IfOk result (λ made. size made ≤ size a + 13) }
 {
-    let own = Boxed::new(alloc, a)?;
-    Ok(Expr::Remainder(own, divisor))
+    let seen = Boxed::new(alloc, a)?;
+    Ok(Expr::Remainder(seen, divisor))
 }
 
 /// A choice.
 pub(crate) fn select(alloc: Global, c: Expr, a: Expr, b: Expr) -> Result<Expr, AllocError>
-    ensures follows { IfOk result (λ made. (corners : List Corner) (values : Values) (reads : Reads)
+    ensures follows { IfOk result (λ expression. (corners : List Corner) (values : Values) (reads : Reads)
         (given : List Point) (test left right : Seen)
         → Follows corners values reads given c test → Follows corners values reads given a left
         → Follows corners values reads given b right
-        → Follows corners values reads given made ((algebra corners values reads).level
+        → Follows corners values reads given expression ((algebra corners values reads).level
         (layer.Select test left right))) }
-    ensures needs { IfOk result (λ made. need made ≤ max (need c) (max (1 + need a) (2 + need b))) }
-    ensures sizes { IfOk result (λ made. size made ≤ size c + size a + size b + 33) }
+    ensures needs { IfOk result (λ expression. need expression ≤ max (need c) (max (1 + need a) (2 + need b))) }
+    ensures sizes { IfOk result (λ expression. size expression ≤ size c + size a + size b + 33) }
 {
-    let made = new_select(alloc, c, a, b)?;
-    Ok(made)
+    let expression = new_select(alloc, c, a, b)?;
+    Ok(expression)
 }

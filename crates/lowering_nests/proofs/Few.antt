@@ -21,12 +21,12 @@ outer_extent_few most extent factor few small = let d = div-le_self (extent + (f
 abbrev AreAtMost : ℕ → Values → Type 0
 AreAtMost most counts = (id : LoopId) → counts id ≤ most
 
-more_few : (counts : Values) (place most : ℕ) (split : Split) → AreAtMost most counts → split.factor ≤ 64
-    → AreAtMost (most + 64) (more_counts counts place split)
-more_few counts place most split few small id =
+more_few : (counts : Values) (func_index most : ℕ) (split : Split) → AreAtMost most counts → split.factor ≤ 64
+    → AreAtMost (most + 64) (more_counts counts func_index split)
+more_few counts func_index most split few small id =
     let r = outer_extent_few most (counts split.of) split.factor (few split.of) small in
     let o = few id in
-    by_tests (same_id id (ids.Inner place)) (same_id id (ids.Outer place)) r o
+    by_tests (same_id id (ids.Inner func_index)) (same_id id (ids.Outer func_index)) r o
   where
     by_tests : (a b : Bool) → outer_extent (counts split.of) split.factor ≤ most + 63 → counts id ≤ most
         → cond a split.factor (cond b (outer_extent (counts split.of) split.factor) (counts id)) ≤ most + 64
@@ -34,11 +34,11 @@ more_few counts place most split few small id =
     by_tests false true r o = omega (arith, r)
     by_tests false false r o = omega (arith, o)
 
-all_few : (splits : List Split) (counts : Values) (place most : ℕ) → AreAtMost most counts → AllByRecursion IsFactor splits
-    → AreAtMost (most + 64 * length splits) (counts_from counts place splits)
-all_few [] counts place most few factors id = let f = few id in omega (arith, f)
-all_few (split ∷ splits) counts place most few factors id =
-    let r = all_few splits (more_counts counts place split) (suc place) (most + 64) (more_few counts place most split few factors.0.few) factors.1 id in
+all_few : (splits : List Split) (counts : Values) (func_index most : ℕ) → AreAtMost most counts → AllByRecursion IsFactor splits
+    → AreAtMost (most + 64 * length splits) (counts_from counts func_index splits)
+all_few [] counts func_index most few factors id = let f = few id in omega (arith, f)
+all_few (split ∷ splits) counts func_index most few factors id =
+    let r = all_few splits (more_counts counts func_index split) (suc func_index) (most + 64) (more_few counts func_index most split few factors.0.few) factors.1 id in
     omega (arith, r)
 
 whole_few : (extents : Extents) → AreFew extents → AreAtMost (2 ^ 20) (whole_counts extents)
@@ -54,15 +54,16 @@ iterations_few extents splits few are id =
 
 -- ---- the last split
 
-pub bodies_last : {A : Type 0} (splits : List Split) (last : Split) (counts : Values) (place : ℕ) (body : Values → List A)
-    → split_bodies counts place (splits ++ last ∷ []) body ≡ split_body (counts_from counts place splits) (place + length splits) last
-    (split_bodies counts place splits body)
-bodies_last [] last counts place body = let e : place ≡ place + 0 = omega arith in ap (λ (p : ℕ). split_body counts p last body) e
-bodies_last (split ∷ splits) last counts place body =
-    let e : suc place + length splits ≡ place + suc (length splits) = omega arith in
-    bodies_last splits last (more_counts counts place split) (suc place) (split_body counts place split body)
-    ∙ ap (λ (p : ℕ). split_body (counts_from (more_counts counts place split) (suc place) splits) p last (split_bodies (more_counts counts place split)
-    (suc place) splits (split_body counts place split body))) e
+pub bodies_last : {A : Type 0} (splits : List Split) (last : Split) (counts : Values) (func_index : ℕ) (body : Values → List A)
+    → split_bodies counts func_index (splits ++ last ∷ []) body ≡ split_body (counts_from counts func_index splits) (func_index + length splits) last
+    (split_bodies counts func_index splits body)
+bodies_last [] last counts func_index body = let e : func_index ≡ func_index + 0 = omega arith in ap (λ (p : ℕ). split_body counts p last body) e
+bodies_last (split ∷ splits) last counts func_index body =
+    let e : suc func_index + length splits ≡ func_index + suc (length splits) = omega arith in
+    bodies_last splits last (more_counts counts func_index split) (suc func_index)
+    (split_body counts func_index split body)
+    ∙ ap (λ (p : ℕ). split_body (counts_from (more_counts counts func_index split) (suc func_index) splits) p last (split_bodies (more_counts counts func_index split)
+    (suc func_index) splits (split_body counts func_index split body))) e
 
 pub splits_before : (splits : List Split) (last : Split) → AreSplits (splits ++ last ∷ []) → AreSplits splits
 splits_before splits last are = record {

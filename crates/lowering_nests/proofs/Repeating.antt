@@ -60,25 +60,26 @@ module _ (func : ℕ) where
 
   pub put_with : (inner : loops.Values) (id : LoopId) (n : ℕ) (values : Values) → put_loops func inner (with (counter id) n values)
       ≡ put_loops func inner values
-  put_with inner id n values = fun_ext (λ own. by_test own (own.func == func))
+  put_with inner id n values = fun_ext (λ loop_counter. by_test loop_counter (loop_counter.func == func))
     where
-      by_test : (own : Counter) (b : Bool) → cond b (inner own.id) (cond (b && same_id own.id id) n (values own)) ≡ cond b (inner own.id) (values own)
-      by_test own true = refl
-      by_test own false = refl
+      by_test : (loop_counter : Counter) (b : Bool) → cond b (inner loop_counter.id) (cond (b && same_id loop_counter.id id) n (values loop_counter)) ≡ cond b (inner loop_counter.id) (values loop_counter)
+      by_test loop_counter true = refl
+      by_test loop_counter false = refl
 
   pub put_own : (values : Values) → put_loops func (loops_of func values) values ≡ values
-  put_own values = fun_ext (λ own. by_test own (own.func == func) refl)
+  put_own values = fun_ext (λ loop_counter. by_test loop_counter (loop_counter.func == func) refl)
     where
-      by_test : (own : Counter) (b : Bool) → (own.func == func) ≡ b → cond b (values (counter own.id)) (values own) ≡ values own
-      by_test own true is = ap (λ (f : ℕ). values (record { func = f; id = own.id })) (sym (eqb-true own.func func is))
-      by_test own false is = refl
+      by_test : (loop_counter : Counter) (b : Bool) → (loop_counter.func == func) ≡ b → cond b (values (counter loop_counter.id)) (values loop_counter) ≡ values loop_counter
+      by_test loop_counter true is = ap (λ (f : ℕ). values (record { func = f; id = loop_counter.id }))
+          (sym (eqb-true loop_counter.func func is))
+      by_test loop_counter false is = refl
 
   -- ---- a body itself
 
   pub repeats_itself : (body : Stmt) → Repeats func body body (λ inner. inner ∷ [])
   repeats_itself body = record {
     runs = λ points inputs values funcs are. ap (λ (v : Values). run points inputs body v funcs) (sym (put_own values));
-    traces = λ points inputs place x y values so_far are. ap (λ (v : Values). trace points inputs place x y body v so_far) (sym (put_own values));
+    traces = λ points inputs func_index x y values so_far are. ap (λ (v : Values). trace points inputs func_index x y body v so_far) (sym (put_own values));
     sound = λ reads written loaded values are. ap (λ (v : Values). is_sound reads written loaded body v) (sym (put_own values))
         ∙ and_more (is_sound reads written loaded body (put_loops func (loops_of func values) values));
   }
@@ -117,13 +118,13 @@ module _ (func : ℕ) where
         ∙ ap (λ (put : loops.Values → Values). all (λ (inner : loops.Values). run points inputs leaf (put inner))
         (list (loops.with id n (loops_of func values))) funcs) same_puts
 
-    traces_with : (points : Points) (inputs : Planes) (place x y : ℕ) (so_far : Trace) → trace points inputs place x y body (with (counter id) n values) so_far
-        ≡ all (λ inner. trace points inputs place x y leaf (put_loops func inner values)) (list (loops.with id n (loops_of func values))) so_far
-    traces_with points inputs place x y so_far =
-        repeats.traces points inputs place x y (with (counter id) n values) so_far still
-        ∙ ap (λ (at : loops.Values). all (λ (inner : loops.Values). trace points inputs place x y leaf (put_loops func inner (with (counter id) n values)))
+    traces_with : (points : Points) (inputs : Planes) (func_index x y : ℕ) (so_far : Trace) → trace points inputs func_index x y body (with (counter id) n values) so_far
+        ≡ all (λ inner. trace points inputs func_index x y leaf (put_loops func inner values)) (list (loops.with id n (loops_of func values))) so_far
+    traces_with points inputs func_index x y so_far =
+        repeats.traces points inputs func_index x y (with (counter id) n values) so_far still
+        ∙ ap (λ (at : loops.Values). all (λ (inner : loops.Values). trace points inputs func_index x y leaf (put_loops func inner (with (counter id) n values)))
         (list at) so_far) (loops_with id n values)
-        ∙ ap (λ (put : loops.Values → Values). all (λ (inner : loops.Values). trace points inputs place x y leaf (put inner))
+        ∙ ap (λ (put : loops.Values → Values). all (λ (inner : loops.Values). trace points inputs func_index x y leaf (put inner))
         (list (loops.with id n (loops_of func values))) so_far) same_puts
 
     pub sound_with : (reads : Reads) (written : Points) (loaded : Point → Bool) → is_sound reads written loaded body (with (counter id) n values)
@@ -135,26 +136,26 @@ module _ (func : ℕ) where
         ∙ ap (λ (put : loops.Values → Values). list_all (λ (inner : loops.Values). is_sound reads written loaded leaf (put inner))
         (list (loops.with id n (loops_of func values)))) same_puts
 
-  pub loop_repeats : (made body : Stmt) (id : LoopId) (count : ℕ) → count < 2 ^ 25
+  pub loop_repeats : (statement body : Stmt) (id : LoopId) (count : ℕ) → count < 2 ^ 25
       → ((points : Points) (inputs : Planes) (values : Values) (funcs : Planes)
-      → run points inputs made values funcs ≡ iterated count (λ iteration. run points inputs body (with (counter id) iteration values)) funcs)
-      → ((points : Points) (inputs : Planes) (place x y : ℕ) (values : Values) (so_far : Trace)
-      → trace points inputs place x y made values so_far ≡ iterated count (λ iteration. trace points inputs place x y body (with (counter id) iteration values)) so_far)
-      → ((reads : Reads) (written : Points) (loaded : Point → Bool) (values : Values) → is_sound reads written loaded made values
+      → run points inputs statement values funcs ≡ iterated count (λ iteration. run points inputs body (with (counter id) iteration values)) funcs)
+      → ((points : Points) (inputs : Planes) (func_index x y : ℕ) (values : Values) (so_far : Trace)
+      → trace points inputs func_index x y statement values so_far ≡ iterated count (λ iteration. trace points inputs func_index x y body (with (counter id) iteration values)) so_far)
+      → ((reads : Reads) (written : Points) (loaded : Point → Bool) (values : Values) → is_sound reads written loaded statement values
       ≡ every count (λ iteration. is_sound reads written loaded body (with (counter id) iteration values)))
       → (leaf : Stmt) (list : loops.Values → List loops.Values) → Repeats func body leaf list
-      → Repeats func made leaf (λ outer. upto count (λ iteration. list (loops.with id iteration outer)))
-  loop_repeats made body id count few runs_is traces_is sound_is leaf list repeats = record {
+      → Repeats func statement leaf (λ outer. upto count (λ iteration. list (loops.with id iteration outer)))
+  loop_repeats statement body id count few runs_is traces_is sound_is leaf list repeats = record {
     runs = λ points inputs values funcs are.
         runs_is points inputs values funcs
         ∙ iterations_upto count count (omega arith) (λ (iteration : ℕ). run points inputs body (with (counter id) iteration values)) (λ (inner : loops.Values). run points
         inputs leaf (put_loops func inner values)) (λ (iteration : ℕ). list (loops.with id iteration (loops_of func values)))
         (λ iteration b below. runs_with leaf body list repeats id iteration (omega (arith, few, below)) values are points inputs b) funcs;
-    traces = λ points inputs place x y values so_far are.
-        traces_is points inputs place x y values so_far
-        ∙ iterations_upto count count (omega arith) (λ (iteration : ℕ). trace points inputs place x y body (with (counter id) iteration values)) (λ (inner : loops.Values).
-        trace points inputs place x y leaf (put_loops func inner values)) (λ (iteration : ℕ). list (loops.with id iteration (loops_of func values)))
-        (λ iteration b below. traces_with leaf body list repeats id iteration (omega (arith, few, below)) values are points inputs place x y b) so_far;
+    traces = λ points inputs func_index x y values so_far are.
+        traces_is points inputs func_index x y values so_far
+        ∙ iterations_upto count count (omega arith) (λ (iteration : ℕ). trace points inputs func_index x y body (with (counter id) iteration values)) (λ (inner : loops.Values).
+        trace points inputs func_index x y leaf (put_loops func inner values)) (λ (iteration : ℕ). list (loops.with id iteration (loops_of func values)))
+        (λ iteration b below. traces_with leaf body list repeats id iteration (omega (arith, few, below)) values are points inputs func_index x y b) so_far;
     sound = λ reads written loaded values are.
         sound_is reads written loaded values
         ∙ every_upto count count (omega arith) (λ (iteration : ℕ). is_sound reads written loaded body (with (counter id) iteration values)) (λ (inner : loops.Values).
@@ -164,27 +165,27 @@ module _ (func : ℕ) where
 
   -- ---- a split
 
-  module _ (made body : Stmt) (place : ℕ) (split : Split) (extent : ℕ) (whole : Whole) (few : extent < 2 ^ 25)
+  module _ (statement body : Stmt) (func_index : ℕ) (split : Split) (extent : ℕ) (whole : Whole) (few : extent < 2 ^ 25)
       (whole_is : (values : Values) → AreSmall (loops_of func values)
-      → whole_value whole values ≡ begin_of split.tail split.factor extent (loops_of func values (ids.Outer place)) + loops_of func values
-      (ids.Inner place))
-      (runs_is : (points : Points) (inputs : Planes) (values : Values) (funcs : Planes) → run points inputs made values funcs
+      → whole_value whole values ≡ begin_of split.tail split.factor extent (loops_of func values (ids.Outer func_index)) + loops_of func values
+      (ids.Inner func_index))
+      (runs_is : (points : Points) (inputs : Planes) (values : Values) (funcs : Planes) → run points inputs statement values funcs
       ≡ cond (nat_lt (whole_value whole values) extent) (run points inputs body (with (counter split.of) (whole_value whole values) values) funcs) funcs)
       (traces_is : (points : Points) (inputs : Planes) (place_of x y : ℕ) (values : Values) (so_far : Trace)
-      → trace points inputs place_of x y made values so_far
+      → trace points inputs place_of x y statement values so_far
       ≡ cond (nat_lt (whole_value whole values) extent) (trace points inputs place_of x y body (with (counter split.of) (whole_value whole values) values)
       so_far) so_far)
-      (sound_is : (reads : Reads) (written : Points) (loaded : Point → Bool) (values : Values) → is_sound reads written loaded made values
+      (sound_is : (reads : Reads) (written : Points) (loaded : Point → Bool) (values : Values) → is_sound reads written loaded statement values
       ≡ cond (nat_lt (whole_value whole values) extent) (is_sound reads written loaded body (with (counter split.of) (whole_value whole values) values)) true)
       (before : loops.Values) (is : before split.of ≡ extent) (leaf : Stmt) (list : loops.Values → List loops.Values) (repeats : Repeats func body leaf list)
     where
       at : Values → ℕ
-      at values = whole_of before place split (loops_of func values)
+      at values = whole_of before func_index split (loops_of func values)
 
       at_is : (values : Values) → AreSmall (loops_of func values) → whole_value whole values ≡ at values
       unfolding at
-      at_is values are = whole_is values are ∙ ap (λ (e : ℕ). begin_of split.tail split.factor e (loops_of func values (ids.Outer place)) + loops_of func values
-          (ids.Inner place)) (sym is)
+      at_is values are = whole_is values are ∙ ap (λ (e : ℕ). begin_of split.tail split.factor e (loops_of func values (ids.Outer func_index)) + loops_of func values
+          (ids.Inner func_index)) (sym is)
 
       below : (n : ℕ) → nat_lt n (before split.of) ≡ true → n < 2 ^ 25
       below n e = let l = ltb-true n (before split.of) e in omega (arith, l, few, is)
@@ -197,7 +198,7 @@ module _ (func : ℕ) where
           run_by n true e = runs_with leaf body list repeats split.of n (below n e) values are points inputs funcs
           run_by n false e = refl
 
-          split_runs : run points inputs made values funcs ≡ all (λ inner. run points inputs leaf (put_loops func inner values)) (split_body before place split
+          split_runs : run points inputs statement values funcs ≡ all (λ inner. run points inputs leaf (put_loops func inner values)) (split_body before func_index split
               list (loops_of func values)) funcs
           unfolding at
           split_runs =
@@ -214,9 +215,9 @@ module _ (func : ℕ) where
           trace_by n true e = traces_with leaf body list repeats split.of n (below n e) values are points inputs place_of x y so_far
           trace_by n false e = refl
 
-          split_traces : trace points inputs place_of x y made values so_far
+          split_traces : trace points inputs place_of x y statement values so_far
               ≡ all (λ inner. trace points inputs place_of x y leaf (put_loops func inner values))
-              (split_body before place split list (loops_of func values)) so_far
+              (split_body before func_index split list (loops_of func values)) so_far
           unfolding at
           split_traces =
               traces_is points inputs place_of x y values so_far
@@ -235,8 +236,8 @@ module _ (func : ℕ) where
           sound_by n true e = sound_with leaf body list repeats split.of n (below n e) values are reads written loaded
           sound_by n false e = refl
 
-          split_sound : is_sound reads written loaded made values ≡ list_all (λ inner. is_sound reads written loaded leaf (put_loops func inner values))
-              (split_body before place split list (loops_of func values))
+          split_sound : is_sound reads written loaded statement values ≡ list_all (λ inner. is_sound reads written loaded leaf (put_loops func inner values))
+              (split_body before func_index split list (loops_of func values))
           unfolding at
           split_sound =
               sound_is reads written loaded values
@@ -244,7 +245,7 @@ module _ (func : ℕ) where
               ∙ ap (λ (e : ℕ). cond (nat_lt (at values) e) (is_sound reads written loaded body (with (counter split.of) (at values) values)) true) (sym is)
               ∙ sound_by (at values) (nat_lt (at values) (before split.of)) refl
 
-      pub split_repeats : Repeats func made leaf (split_body before place split list)
+      pub split_repeats : Repeats func statement leaf (split_body before func_index split list)
       split_repeats = record {
         runs = λ points inputs values funcs are. split_runs values are points inputs funcs;
         traces = λ points inputs place_of x y values so_far are. split_traces values are points inputs place_of x y so_far;

@@ -18,20 +18,20 @@ use Rattle.loop_ir.proofs.Runs.{misses_are}
 use Rattle.schedule_loops.specs.Runs.{is_vectorized_loop}
 use Rattle.lowering_nests.specs.Runs.{RunsAround}
 
-module _ (func : ℕ) (counts : loops.Values) (own : Loop) (body made : Stmt) (kind : LoopKind) (kind_is : is_vectorized kind ≡ is_vectorized_loop own)
-    (count : ℕ) (count_is : count ≡ counts own.id) where
+module _ (func : ℕ) (counts : loops.Values) (stage_loop : Loop) (body statement : Stmt) (kind : LoopKind) (kind_is : is_vectorized kind ≡ is_vectorized_loop stage_loop)
+    (count : ℕ) (count_is : count ≡ counts stage_loop.id) where
   abbrev counter : Counter
-  counter = record { func = func; id = own.id }
+  counter = record { func = func; id = stage_loop.id }
 
   abbrev at : Values → ℕ → Values
   at values iteration = with counter iteration values
 
-  pub loop_about : ((place : ℕ) → is_about place made ≡ is_about_at place (layer.For counter count kind (is_about place body)))
-      → is_about func made ≡ is_about func body
+  pub loop_about : ((func_index : ℕ) → is_about func_index statement ≡ is_about_at func_index (layer.For counter count kind (is_about func_index body)))
+      → is_about func statement ≡ is_about func body
   loop_about is = is func ∙ ap (λ (b : Bool). b && is_about func body) (eq-eqb func func refl)
 
-  module _ (made_is : (reads : Reads) (place x y : ℕ) (expected : Values → Bool) → runs reads place x y expected made ≡ runs_at reads place x y expected
-      (layer.For counter count kind (runs reads place x y expected body)))
+  module _ (made_is : (reads : Reads) (func_index x y : ℕ) (expected : Values → Bool) → runs reads func_index x y expected statement ≡ runs_at reads func_index x y expected
+      (layer.For counter count kind (runs reads func_index x y expected body)))
       (reads : Reads) (x y : ℕ) (expected : Values → Bool) (values : Values) where
     abbrev inner : Runs
     inner = runs reads func x y expected body
@@ -41,21 +41,21 @@ module _ (func : ℕ) (counts : loops.Values) (own : Loop) (body made : Stmt) (k
         cond (vectorized && same) (are_same (every n (λ lane. inner.misses (at values lane))) (not (expected values)))
         (every n (λ iteration. inner.are_runs (at values iteration)))
 
-    told : (b : Bool) → is_vectorized_loop own ≡ b → stores_in_runs reads func x y expected made values ≡ by_kind b true (counts own.id)
+    told : (b : Bool) → is_vectorized_loop stage_loop ≡ b → stores_in_runs reads func x y expected statement values ≡ by_kind b true (counts stage_loop.id)
     told b e =
         ap (λ (r : Runs). r.are_runs values) (made_is reads func x y expected)
         ∙ ap (λ (v : Bool). by_kind v (func == func) count) (kind_is ∙ e)
         ∙ ap (λ (v : Bool). by_kind b v count) (eq-eqb func func refl)
         ∙ ap (λ (n : ℕ). by_kind b true n) count_is
 
-    missed : every (counts own.id) (λ lane. inner.misses (at values lane)) ≡ every (counts own.id) (λ lane. is_sound reads (all_but (point_of func x y))
+    missed : every (counts stage_loop.id) (λ lane. inner.misses (at values lane)) ≡ every (counts stage_loop.id) (λ lane. is_sound reads (all_but (point_of func x y))
         all_points body (at values lane))
-    missed = ap (every (counts own.id)) (fun_ext (λ (lane : ℕ). ap (λ (test : Values → Bool). test (at values lane)) (misses_are reads func x y expected
+    missed = ap (every (counts stage_loop.id)) (fun_ext (λ (lane : ℕ). ap (λ (test : Values → Bool). test (at values lane)) (misses_are reads func x y expected
         body)))
 
-  pub loop_runs : ((reads : Reads) (place x y : ℕ) (expected : Values → Bool) → runs reads place x y expected made ≡ runs_at reads place x y expected
-      (layer.For counter count kind (runs reads place x y expected body)))
-      → RunsAround func counts own body made
+  pub loop_runs : ((reads : Reads) (func_index x y : ℕ) (expected : Values → Bool) → runs reads func_index x y expected statement ≡ runs_at reads func_index x y expected
+      (layer.For counter count kind (runs reads func_index x y expected body)))
+      → RunsAround func counts stage_loop body statement
   loop_runs made_is = record {
     plain = λ e reads x y expected values. told made_is reads x y expected values false e;
     vector = λ e reads x y expected values. told made_is reads x y expected values true e

@@ -10,15 +10,16 @@ use Rattle.loop_ir.specs.Sizes.{is_laid_out, loop_room}
 use Rattle.lowering_nests.specs.Sizes.{nest_size}
 
 module _ (counts : loops.Values) where
-  pub once_size : (own : Loop) (kind : LoopKind) → is_laid_out kind ≡ is_marked marks.Unrolled own → (count : ℕ) → count ≡ counts own.id
-      → (made body : ℕ) → made ≡ loop_room (is_laid_out kind) count body → made ≡ loop_room (is_marked marks.Unrolled own) (counts own.id) body
-  once_size own kind kind_is count count_is made body is =
-      is ∙ ap (λ (b : Bool). loop_room b count body) kind_is ∙ ap (λ (n : ℕ). loop_room (is_marked marks.Unrolled own) n body) count_is
+  pub once_size : (stage_loop : Loop) (kind : LoopKind) → is_laid_out kind ≡ is_marked marks.Unrolled stage_loop → (count : ℕ) → count ≡ counts stage_loop.id
+      → (made body : ℕ) → made ≡ loop_room (is_laid_out kind) count body → made ≡ loop_room (is_marked marks.Unrolled stage_loop) (counts stage_loop.id) body
+  once_size stage_loop kind kind_is count count_is made body is =
+      is ∙ ap (λ (b : Bool). loop_room b count body) kind_is ∙ ap (λ (n : ℕ). loop_room (is_marked marks.Unrolled stage_loop) n body) count_is
 
-  pub nested_size : (all : List Loop) (own : Loop) (made inner body : ℕ) → 1 ≤ length all → own ≡ get_or all 0 own
-      → inner ≡ loop_room (is_marked marks.Unrolled own) (counts own.id) body
+  pub nested_size : (all : List Loop) (stage_loop : Loop) (made inner body : ℕ) → 1 ≤ length all
+      → stage_loop ≡ get_or all 0 stage_loop
+      → inner ≡ loop_room (is_marked marks.Unrolled stage_loop) (counts stage_loop.id) body
       → made ≡ nest_size counts (take (length all - 1) (drop 1 all)) inner → made ≡ nest_size counts all body
-  nested_size all own made inner body some is once others =
+  nested_size all stage_loop made inner body some is once others =
       let rest = take (length all - 1) (drop 1 all) in
-      let front : own ∷ rest ≡ all = ap (λ (o : Loop). o ∷ rest) is ∙ sym (first_of_rest all own some) in
+      let front : stage_loop ∷ rest ≡ all = ap (λ (o : Loop). o ∷ rest) is ∙ sym (first_of_rest all stage_loop some) in
       others ∙ ap (λ (n : ℕ). nest_size counts rest n) once ∙ ap (λ (ls : List Loop). nest_size counts ls body) front

@@ -1,4 +1,4 @@
--- A test that a loop doesn't change stands in front of the loop.
+-- A test that a loop doesn't change is in front of the loop.
 use Rattle.std.proofs.Common.{◌≡◌, ℕ, zero, suc, ◌+◌, ◌<◌, Bool, true, false, cond, refl, sym, ap, subst, ◌∙◌, arith}
 use Rattle.std.specs.Prelude.{◌&&◌, ◌==◌, not, nat_lt}
 use Rattle.std.proofs.lemmas.Bool.{and_parts, eq-eqb, eqb-true, true≢false}
@@ -34,7 +34,7 @@ use Rattle.loop_ir.proofs.Sizes.{whole_for, whole_bind}
 use Rattle.loop_ir.proofs.Sound.{sound_for, sound_bind}
 use Rattle.loop_ir.proofs.Traces.{trace_for, trace_bind}
 use Rattle.loop_ir.proofs.Trees.{run_for, run_bind}
-use Rattle.lowering_nests.specs.Loops.{Loops, is_steady}
+use Rattle.lowering_nests.specs.Loops.{Loops, is_loop_invariant}
 
 -- ---- a loop around a body is one
 
@@ -68,16 +68,17 @@ same_counter-self : (a : Counter) → same_counter a a ≡ true
 same_counter-self a = ap (λ (t : Bool). t && same_id a.id a.id) (eq-eqb a.func a.func refl) ∙ same_id-self a.id
 
 -- two counters that differ may be given their values in either order
-pub with_swaps : (counter own : Counter) (n v : ℕ) (values : Values) → same_counter own counter ≡ false
-    → with counter n (with own v values) ≡ with own v (with counter n values)
-with_swaps counter own n v values other = fun_ext (λ (at : Counter). by_tests at (same_counter at counter) refl (same_counter at own) refl)
+pub with_swaps : (counter loop_counter : Counter) (n v : ℕ) (values : Values)
+    → same_counter loop_counter counter ≡ false
+    → with counter n (with loop_counter v values) ≡ with loop_counter v (with counter n values)
+with_swaps counter loop_counter n v values other = fun_ext (λ (at : Counter). by_tests at (same_counter at counter) refl (same_counter at loop_counter) refl)
   where
-    both : (at : Counter) → same_counter at counter ≡ true → same_counter at own ≡ true → true ≡ false
+    both : (at : Counter) → same_counter at counter ≡ true → same_counter at loop_counter ≡ true → true ≡ false
     both at one two =
-        let a : at ≡ own = same_counter-true at own two in
+        let a : at ≡ loop_counter = same_counter-true at loop_counter two in
         sym one ∙ ap (λ (c : Counter). same_counter c counter) a ∙ other
 
-    by_tests : (at : Counter) (a : Bool) → same_counter at counter ≡ a → (b : Bool) → same_counter at own ≡ b
+    by_tests : (at : Counter) (a : Bool) → same_counter at counter ≡ a → (b : Bool) → same_counter at loop_counter ≡ b
         → cond a n (cond b v (values at)) ≡ cond b v (cond a n (values at))
     by_tests at true one true two = absurd (true≢false (both at one two))
     by_tests at true one false two = refl
@@ -111,18 +112,19 @@ runs_are one other misses are =
 
 -- ---- a test in front of iterations
 
-module _ (counter own : Counter) (whole : Whole) (extent : ℕ) (steady : is_steady counter own whole ≡ true) where
-  pub parts : (same_counter whole.outer counter ≡ false) × ((same_counter whole.inner counter ≡ false) × (same_counter own counter ≡ false))
+module _ (counter loop_counter : Counter) (whole : Whole) (extent : ℕ)
+    (loop_invariant : is_loop_invariant counter loop_counter whole ≡ true) where
+  pub parts : (same_counter whole.outer counter ≡ false) × ((same_counter whole.inner counter ≡ false) × (same_counter loop_counter counter ≡ false))
   parts =
-      let a = and_parts (not (same_counter whole.outer counter)) (not (same_counter whole.inner counter) && not (same_counter own counter)) steady in
-      let b = and_parts (not (same_counter whole.inner counter)) (not (same_counter own counter)) a.1 in
-      (is_not (same_counter whole.outer counter) a.0, (is_not (same_counter whole.inner counter) b.0, is_not (same_counter own counter) b.1))
+      let a = and_parts (not (same_counter whole.outer counter)) (not (same_counter whole.inner counter) && not (same_counter loop_counter counter)) loop_invariant in
+      let b = and_parts (not (same_counter whole.inner counter)) (not (same_counter loop_counter counter)) a.1 in
+      (is_not (same_counter whole.outer counter) a.0, (is_not (same_counter whole.inner counter) b.0, is_not (same_counter loop_counter counter) b.1))
 
   abbrev passes : Values → Bool
   passes values = nat_lt (whole_value whole values) extent
 
   abbrev inside : Values → Values
-  inside values = with own (whole_value whole values) values
+  inside values = with loop_counter (whole_value whole values) values
 
   module _ (values : Values) (n : ℕ) where
     passes_stays : passes (with counter n values) ≡ passes values
@@ -130,8 +132,9 @@ module _ (counter own : Counter) (whole : Whole) (extent : ℕ) (steady : is_ste
 
     inside_swaps : inside (with counter n values) ≡ with counter n (inside values)
     inside_swaps =
-        ap (λ (v : ℕ). with own v (with counter n values)) (whole_stays counter n whole values parts.0 parts.1.0)
-        ∙ sym (with_swaps counter own n (whole_value whole values) values parts.1.1)
+        ap (λ (v : ℕ). with loop_counter v (with counter n values))
+        (whole_stays counter n whole values parts.0 parts.1.0)
+        ∙ sym (with_swaps counter loop_counter n (whole_value whole values) values parts.1.1)
 
     -- under the test, by what does one iteration
     pub each : {A : Type 0} (does : Values → A) (none : A)
@@ -168,95 +171,102 @@ module _ (counter own : Counter) (whole : Whole) (extent : ℕ) (steady : is_ste
 
   -- ---- statements
 
-  module _ (count : ℕ) (body made : Stmt) (is : Loops counter count kinds.Serial body made) where
+  module _ (count : ℕ) (body statement : Stmt) (is : Loops counter count kinds.Serial body statement) where
     abbrev tested : Stmt
-    tested = stmts.Bind own whole extent body
+    tested = stmts.Bind loop_counter whole extent body
 
     abbrev front : Stmt
-    front = stmts.Bind own whole extent made
+    front = stmts.Bind loop_counter whole extent statement
 
     runs_in_front : (points : Points) (inputs : Planes) (values : Values) (funcs : Planes)
         → run points inputs front values funcs ≡ iterated count (λ iteration. run points inputs tested (with counter iteration values)) funcs
     runs_in_front points inputs values funcs =
-        run_bind points inputs own whole extent made values funcs
+        run_bind points inputs loop_counter whole extent statement values funcs
         ∙ ap (λ (after : Planes). cond (passes values) after funcs) (is.runs points inputs (inside values) funcs)
         ∙ iterations_tested (run points inputs body) count values funcs
         ∙ ap (λ (one : ℕ → Planes → Planes). iterated count one funcs)
-        (fun_ext (λ (iteration : ℕ). fun_ext (λ (now : Planes). sym (run_bind points inputs own whole extent body (with counter iteration values) now))))
+        (fun_ext (λ (iteration : ℕ). fun_ext (λ (now : Planes). sym (run_bind points inputs loop_counter whole extent body (with counter iteration values) now))))
 
-    traces_in_front : (points : Points) (inputs : Planes) (place x y : ℕ) (values : Values) (so_far : Trace)
-        → trace points inputs place x y front values so_far ≡ iterated count (λ iteration. trace points inputs place x y tested (with counter iteration values)) so_far
-    traces_in_front points inputs place x y values so_far =
-        trace_bind points inputs place x y own whole extent made values so_far
-        ∙ ap (λ (after : Trace). cond (passes values) after so_far) (is.traces points inputs place x y (inside values) so_far)
-        ∙ iterations_tested (trace points inputs place x y body) count values so_far
+    traces_in_front : (points : Points) (inputs : Planes) (func_index x y : ℕ) (values : Values) (so_far : Trace)
+        → trace points inputs func_index x y front values so_far ≡ iterated count (λ iteration. trace points inputs func_index x y tested (with counter iteration values)) so_far
+    traces_in_front points inputs func_index x y values so_far =
+        trace_bind points inputs func_index x y loop_counter whole extent statement values so_far
+        ∙ ap (λ (after : Trace). cond (passes values) after so_far) (is.traces points inputs func_index x y (inside values) so_far)
+        ∙ iterations_tested (trace points inputs func_index x y body) count values so_far
         ∙ ap (λ (one : ℕ → Trace → Trace). iterated count one so_far)
-        (fun_ext (λ (iteration : ℕ). fun_ext (λ (now : Trace). sym (trace_bind points inputs place x y own whole extent body (with counter iteration values) now))))
+        (fun_ext (λ (iteration : ℕ). fun_ext (λ (now : Trace). sym (trace_bind points inputs func_index x y loop_counter whole extent body (with counter iteration values) now))))
 
     sound_in_front : (reads : Reads) (written : Points) (loaded : Point → Bool) (values : Values)
         → is_sound reads written loaded front values ≡ every count (λ iteration. is_sound reads written loaded tested (with counter iteration values))
     sound_in_front reads written loaded values =
-        sound_bind reads written loaded own whole extent made values
+        sound_bind reads written loaded loop_counter whole extent statement values
         ∙ ap (λ (test : Bool). cond (passes values) test true) (is.sound reads written loaded (inside values))
         ∙ every_tested (is_sound reads written loaded body) count values
         ∙ ap (λ (test : ℕ → Bool). every count test)
-        (fun_ext (λ (iteration : ℕ). sym (sound_bind reads written loaded own whole extent body (with counter iteration values))))
+        (fun_ext (λ (iteration : ℕ). sym (sound_bind reads written loaded loop_counter whole extent body (with counter iteration values))))
 
     at_once_in_front : (reads : Reads) (values : Values)
         → may_be_at_once reads front values ≡ every count (λ iteration. may_be_at_once reads tested (with counter iteration values))
     at_once_in_front reads values =
-        ap (λ (r : LoopLanes). r.may_be_at_once values) (lanes_bind reads own whole extent made)
+        ap (λ (r : LoopLanes). r.may_be_at_once values) (lanes_bind reads loop_counter whole extent statement)
         ∙ ap (λ (test : Bool). cond (passes values) test true) (is.at_once reads (inside values))
         ∙ every_tested (may_be_at_once reads body) count values
         ∙ ap (λ (test : ℕ → Bool). every count test)
-        (fun_ext (λ (iteration : ℕ). sym (ap (λ (r : LoopLanes). r.may_be_at_once (with counter iteration values)) (lanes_bind reads own whole extent body))))
+        (fun_ext (λ (iteration : ℕ). sym (ap (λ (r : LoopLanes). r.may_be_at_once (with counter iteration values)) (lanes_bind reads loop_counter whole extent body))))
 
-    in_runs_in_front : (reads : Reads) (place x y : ℕ) (expected : Values → Bool) → runs reads place x y expected front
-        ≡ runs_at reads place x y expected (layer.For counter count kinds.Serial (runs reads place x y expected tested))
-    in_runs_in_front reads place x y expected =
-        runs_bind reads place x y expected own whole extent made
-        ∙ ap (λ (r : Runs). runs_at reads place x y expected (layer.Bind own whole extent r)) (is.in_runs reads place x y expected)
-        ∙ runs_are (runs_at reads place x y expected (layer.Bind own whole extent (runs_at reads place x y expected (layer.For counter count kinds.Serial
-        (runs reads place x y expected body)))))
-        (runs_at reads place x y expected (layer.For counter count kinds.Serial (runs_at reads place x y expected (layer.Bind own whole extent
-        (runs reads place x y expected body)))))
-        (fun_ext (λ (values : Values). every_tested (runs reads place x y expected body).misses count values))
-        (fun_ext (λ (values : Values). every_tested (runs reads place x y expected body).are_runs count values))
-        ∙ ap (λ (r : Runs). runs_at reads place x y expected (layer.For counter count kinds.Serial r)) (sym (runs_bind reads place x y expected own whole extent
+    in_runs_in_front : (reads : Reads) (func_index x y : ℕ) (expected : Values → Bool)
+        → runs reads func_index x y expected front
+        ≡ runs_at reads func_index x y expected (layer.For counter count kinds.Serial
+        (runs reads func_index x y expected tested))
+    in_runs_in_front reads func_index x y expected =
+        runs_bind reads func_index x y expected loop_counter whole extent statement
+        ∙ ap (λ (r : Runs). runs_at reads func_index x y expected (layer.Bind loop_counter whole extent r)) (is.in_runs reads func_index x y expected)
+        ∙ runs_are (runs_at reads func_index x y expected (layer.Bind loop_counter whole extent (runs_at reads func_index x y expected (layer.For counter count kinds.Serial
+        (runs reads func_index x y expected body)))))
+        (runs_at reads func_index x y expected (layer.For counter count kinds.Serial (runs_at reads func_index x y expected (layer.Bind loop_counter whole extent
+        (runs reads func_index x y expected body)))))
+        (fun_ext (λ (values : Values). every_tested (runs reads func_index x y expected body).misses count values))
+        (fun_ext (λ (values : Values). every_tested (runs reads func_index x y expected body).are_runs count values))
+        ∙ ap (λ (r : Runs). runs_at reads func_index x y expected (layer.For counter count kinds.Serial r)) (sym (runs_bind reads func_index x y expected loop_counter whole extent
         body))
 
-    pub test_in_front : Loops counter count kinds.Serial (stmts.Bind own whole extent body) (stmts.Bind own whole extent made)
+    pub test_in_front : Loops counter count kinds.Serial (stmts.Bind loop_counter whole extent body) (stmts.Bind loop_counter whole extent statement)
     test_in_front = record {
       runs = runs_in_front;
       traces = traces_in_front;
       sound = sound_in_front;
-      depth = depth_bind own whole extent made ∙ ap suc is.depth ∙ ap suc (sym (depth_bind own whole extent body));
-      needs = greatest_bind own whole extent made ∙ is.needs ∙ sym (greatest_bind own whole extent body);
+      depth = depth_bind loop_counter whole extent statement ∙ ap suc is.depth ∙ ap suc
+          (sym (depth_bind loop_counter whole extent body));
+      needs = greatest_bind loop_counter whole extent statement ∙ is.needs ∙ sym
+          (greatest_bind loop_counter whole extent body);
       sizes =
-          let a : whole_size front ≡ whole_size made + 25 = whole_bind own whole extent made in
-          let b : whole_size tested ≡ whole_size body + 25 = whole_bind own whole extent body in
-          let c : whole_size made ≡ whole_size body + 7 + 31 = is.sizes in
+          let a : whole_size front ≡ whole_size statement + 25 = whole_bind loop_counter whole extent statement in
+          let b : whole_size tested ≡ whole_size body + 25 = whole_bind loop_counter whole extent body in
+          let c : whole_size statement ≡ whole_size body + 7 + 31 = is.sizes in
           omega (arith, a, b, c);
       at_once = at_once_in_front;
-      about = λ place. about_bind place own whole extent made ∙ is.about place
-          ∙ ap (λ (b : Bool). (counter.func == place) && b) (sym (about_bind place own whole extent body));
+      about = λ func_index. about_bind func_index loop_counter whole extent statement ∙ is.about func_index
+          ∙ ap (λ (b : Bool). (counter.func == func_index) && b)
+          (sym (about_bind func_index loop_counter whole extent body));
       in_runs = in_runs_in_front;
     }
 
 -- ---- a body that is taken apart
 
-module _ (own : Counter) (whole : Whole) (extent : ℕ) (body inside part : Stmt) (body_is : body ≡ stmts.Bind own whole extent inside)
+module _ (loop_counter : Counter) (whole : Whole) (extent : ℕ) (body inside part : Stmt) (body_is : body ≡ stmts.Bind loop_counter whole extent inside)
     (part_is : part ≡ inside) where
   pub less_deep : depth part < depth body
   less_deep =
-      let a : depth body ≡ suc (depth inside) = ap depth body_is ∙ depth_bind own whole extent inside in
+      let a : depth body ≡ suc (depth inside) = ap depth body_is ∙ depth_bind loop_counter whole extent inside in
       let b : depth part ≡ depth inside = ap depth part_is in
       omega (arith, a, b)
 
-  pub tested_loop : (counter : Counter) (count : ℕ) → is_steady counter own whole ≡ true → (made boxed : Stmt)
-      → Loops counter count kinds.Serial part made → boxed ≡ made → Loops counter count kinds.Serial body (stmts.Bind own whole extent boxed)
-  tested_loop counter count steady made boxed is boxed_is =
-      subst (λ (b : Stmt). Loops counter count kinds.Serial b (stmts.Bind own whole extent boxed)) (sym body_is)
-      (subst (λ (m : Stmt). Loops counter count kinds.Serial (stmts.Bind own whole extent inside) (stmts.Bind own whole extent m)) (sym boxed_is)
-      (test_in_front counter own whole extent steady count inside made
-      (subst (λ (p : Stmt). Loops counter count kinds.Serial p made) part_is is)))
+  pub tested_loop : (counter : Counter) (count : ℕ) → is_loop_invariant counter loop_counter whole ≡ true
+      → (statement boxed : Stmt)
+      → Loops counter count kinds.Serial part statement → boxed ≡ statement → Loops counter count kinds.Serial body (stmts.Bind loop_counter whole extent boxed)
+  tested_loop counter count loop_invariant statement boxed is boxed_is =
+      subst (λ (b : Stmt). Loops counter count kinds.Serial b (stmts.Bind loop_counter whole extent boxed))
+      (sym body_is)
+      (subst (λ (m : Stmt). Loops counter count kinds.Serial (stmts.Bind loop_counter whole extent inside) (stmts.Bind loop_counter whole extent m)) (sym boxed_is)
+      (test_in_front counter loop_counter whole extent loop_invariant count inside statement
+      (subst (λ (p : Stmt). Loops counter count kinds.Serial p statement) part_is is)))

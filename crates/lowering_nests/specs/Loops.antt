@@ -21,37 +21,42 @@ use Rattle.loop_ir.specs.Soundness.{every, is_sound}
 use Rattle.loop_ir.specs.Stores.{Trace, trace}
 
 -- The value that a split loop's variable is given doesn't depend on a loop's iteration, and the loop's variable isn't given it.
-abbrev pub is_steady : Counter → Counter → Whole → Bool
-is_steady counter own whole = not (same_counter whole.outer counter) && (not (same_counter whole.inner counter) && not (same_counter own counter))
+abbrev pub is_loop_invariant : Counter → Counter → Whole → Bool
+is_loop_invariant counter loop_counter whole = not (same_counter whole.outer counter) && (not (same_counter whole.inner counter) && not (same_counter loop_counter counter))
 
--- It does what a loop of so many iterations around the body does, stores where that does, and asks for as much.
-pub record Loops (counter : Counter) (count : ℕ) (kind : LoopKind) (body made : Stmt) : Type 0 where
+-- It does what a loop of this many iterations around the body does, stores where that does, and asks for as much.
+pub record Loops (counter : Counter) (count : ℕ) (kind : LoopKind) (body statement : Stmt) : Type 0 where
   pub runs : (points : Points) (inputs : Planes) (values : Values) (funcs : Planes)
-      → run points inputs made values funcs ≡ iterated count (λ iteration. run points inputs body (with counter iteration values)) funcs
-  pub traces : (points : Points) (inputs : Planes) (place x y : ℕ) (values : Values) (so_far : Trace)
-      → trace points inputs place x y made values so_far ≡ iterated count (λ iteration. trace points inputs place x y body (with counter iteration values)) so_far
+      → run points inputs statement values funcs ≡ iterated count (λ iteration. run points inputs body (with counter iteration values)) funcs
+  pub traces : (points : Points) (inputs : Planes) (func_index x y : ℕ) (values : Values) (so_far : Trace)
+      → trace points inputs func_index x y statement values so_far ≡ iterated count (λ iteration. trace points inputs func_index x y body (with counter iteration values)) so_far
   pub sound : (reads : Reads) (written : Points) (loaded : Point → Bool) (values : Values)
-      → is_sound reads written loaded made values ≡ every count (λ iteration. is_sound reads written loaded body (with counter iteration values))
-  pub depth : depth made ≡ suc (depth body)
-  pub needs : greatest_need made ≡ greatest_need body
-  pub sizes : whole_size made ≡ loop_room (is_laid_out kind) count (whole_size body)
+      → is_sound reads written loaded statement values ≡ every count (λ iteration. is_sound reads written loaded body (with counter iteration values))
+  pub depth : depth statement ≡ suc (depth body)
+  pub needs : greatest_need statement ≡ greatest_need body
+  pub sizes : whole_size statement ≡ loop_room (is_laid_out kind) count (whole_size body)
   pub at_once : (reads : Reads) (values : Values)
-      → may_be_at_once reads made values ≡ at_once_at (layer.For counter count kind (loop_lanes reads body)) values
-  pub about : (place : ℕ) → is_about place made ≡ is_about_at place (layer.For counter count kind (is_about place body))
-  pub in_runs : (reads : Reads) (place x y : ℕ) (expected : Values → Bool) → stored.runs reads place x y expected made
-      ≡ stored.runs_at reads place x y expected (layer.For counter count kind (stored.runs reads place x y expected body))
+      → may_be_at_once reads statement values ≡ at_once_at (layer.For counter count kind (loop_lanes reads body)) values
+  pub about : (func_index : ℕ) → is_about func_index statement ≡ is_about_at func_index
+      (layer.For counter count kind (is_about func_index body))
+  pub in_runs : (reads : Reads) (func_index x y : ℕ) (expected : Values → Bool)
+      → stored.runs reads func_index x y expected statement
+      ≡ stored.runs_at reads func_index x y expected (layer.For counter count kind (stored.runs reads func_index x y expected body))
 
 -- It does what the body does, stores where that does, and asks for as much.
-pub record AreAlike (body made : Stmt) : Type 0 where
-  pub runs : (points : Points) (inputs : Planes) (values : Values) (funcs : Planes) → run points inputs made values funcs ≡ run points inputs body values funcs
-  pub traces : (points : Points) (inputs : Planes) (place x y : ℕ) (values : Values) (so_far : Trace)
-      → trace points inputs place x y made values so_far ≡ trace points inputs place x y body values so_far
+pub record AreAlike (body statement : Stmt) : Type 0 where
+  pub runs : (points : Points) (inputs : Planes) (values : Values) (funcs : Planes) → run points inputs statement values funcs ≡ run points inputs body values funcs
+  pub traces : (points : Points) (inputs : Planes) (func_index x y : ℕ) (values : Values) (so_far : Trace)
+      → trace points inputs func_index x y statement values so_far ≡ trace points inputs func_index x y body values
+      so_far
   pub sound : (reads : Reads) (written : Points) (loaded : Point → Bool) (values : Values)
-      → is_sound reads written loaded made values ≡ is_sound reads written loaded body values
-  pub depth : depth made ≡ depth body
-  pub needs : greatest_need made ≡ greatest_need body
-  pub sizes : whole_size made ≡ whole_size body
-  pub at_once : (reads : Reads) (values : Values) → may_be_at_once reads made values ≡ may_be_at_once reads body values
-  pub about : (place : ℕ) → is_about place made ≡ is_about place body
-  pub in_runs : (reads : Reads) (place x y : ℕ) (expected : Values → Bool) → stored.runs reads place x y expected made
-      ≡ stored.runs reads place x y expected body
+      → is_sound reads written loaded statement values ≡ is_sound reads written loaded body values
+  pub depth : depth statement ≡ depth body
+  pub needs : greatest_need statement ≡ greatest_need body
+  pub sizes : whole_size statement ≡ whole_size body
+  pub at_once : (reads : Reads) (values : Values) → may_be_at_once reads statement values ≡ may_be_at_once reads body
+      values
+  pub about : (func_index : ℕ) → is_about func_index statement ≡ is_about func_index body
+  pub in_runs : (reads : Reads) (func_index x y : ℕ) (expected : Values → Bool)
+      → stored.runs reads func_index x y expected statement
+      ≡ stored.runs reads func_index x y expected body

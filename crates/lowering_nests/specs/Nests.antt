@@ -20,7 +20,7 @@ use Rattle.loop_ir.specs.Stores.{Trace, trace}
 abbrev pub loops_of : ℕ → Values → loops.Values
 loops_of func values id = values (record { func = func; id = id })
 
--- the loops of a Func stand at these, all others where they stood
+-- the loops of a Func stand at these, all others where they were
 abbrev pub put_loops : ℕ → loops.Values → Values → Values
 put_loops func inner values counter = if counter.func == func then inner counter.id else values counter
 
@@ -33,20 +33,20 @@ all step (first ∷ others) start = all step others (step first start)
 abbrev pub AreSmall : loops.Values → Type 0
 AreSmall values = (id : LoopId) → values id < 2 ^ 25
 
--- Each variable takes at most so many values.
+-- Each variable takes at most this many values.
 abbrev pub AreFew : Extents → Type 0
 AreFew extents = (variable : Variable) → extent_of extents variable ≤ 2 ^ 20
 
 -- A statement does what another does under each of the values of a Func's loops that are listed for those outside, one after the other:
 -- it stores where the other does under each of them, and it is sound exactly if the other is under each of them.
-pub record Repeats (func : ℕ) (made body : Stmt) (list : loops.Values → List loops.Values) : Type 0 where
+pub record Repeats (func : ℕ) (new_statement body : Stmt) (list : loops.Values → List loops.Values) : Type 0 where
   pub runs : (points : Points) (inputs : Planes) (values : Values) (funcs : Planes) → AreSmall (loops_of func values)
-      → run points inputs made values funcs ≡ all (λ inner. run points inputs body (put_loops func inner values)) (list (loops_of func values)) funcs
-  pub traces : (points : Points) (inputs : Planes) (place x y : ℕ) (values : Values) (so_far : Trace) → AreSmall (loops_of func values)
-      → trace points inputs place x y made values so_far ≡ all (λ inner. trace points inputs place x y body (put_loops func inner values))
+      → run points inputs new_statement values funcs ≡ all (λ inner. run points inputs body (put_loops func inner values)) (list (loops_of func values)) funcs
+  pub traces : (points : Points) (inputs : Planes) (func_index x y : ℕ) (values : Values) (so_far : Trace) → AreSmall (loops_of func values)
+      → trace points inputs func_index x y new_statement values so_far ≡ all (λ inner. trace points inputs func_index x y body (put_loops func inner values))
       (list (loops_of func values)) so_far
   pub sound : (reads : Reads) (written : Points) (loaded : Point → Bool) (values : Values) → AreSmall (loops_of func values)
-      → is_sound reads written loaded made values ≡ list_all (λ inner. is_sound reads written loaded body (put_loops func inner values))
+      → is_sound reads written loaded new_statement values ≡ list_all (λ inner. is_sound reads written loaded body (put_loops func inner values))
       (list (loops_of func values))
 
 -- A statement repeats itself under the one value that its loops stand at.

@@ -13,11 +13,13 @@ use Rattle.schedule_loops.specs.Runs.{is_vectorized_loop}
 
 -- A loop of the Func around a body: where it isn't vectorized, the body stores in runs in each of its iterations; else a point is stored by the run
 -- exactly if some lane stores there.
-pub record RunsAround (func : ℕ) (counts : loops.Values) (own : Loop) (body made : Stmt) : Type 0 where
-  pub plain : is_vectorized_loop own ≡ false → (reads : Reads) (x y : ℕ) (expected : Values → Bool) (values : Values)
-      → stores_in_runs reads func x y expected made values ≡ every (counts own.id) (λ iteration. stores_in_runs reads func x y expected body
-      (with (record { func = func; id = own.id }) iteration values))
-  pub vector : is_vectorized_loop own ≡ true → (reads : Reads) (x y : ℕ) (expected : Values → Bool) (values : Values)
-      → stores_in_runs reads func x y expected made values
-      ≡ are_same (every (counts own.id) (λ lane. is_sound reads (all_but (point_of func x y)) all_points body (with (record { func = func; id = own.id }) lane
+pub record RunsAround (func : ℕ) (counts : loops.Values) (stage_loop : Loop) (body statement : Stmt) : Type 0 where
+  pub plain : is_vectorized_loop stage_loop ≡ false → (reads : Reads) (x y : ℕ) (expected : Values
+      → Bool) (values : Values)
+      → stores_in_runs reads func x y expected statement values ≡ every (counts stage_loop.id) (λ iteration. stores_in_runs reads func x y expected body
+      (with (record { func = func; id = stage_loop.id }) iteration values))
+  pub vector : is_vectorized_loop stage_loop ≡ true → (reads : Reads) (x y : ℕ) (expected : Values
+      → Bool) (values : Values)
+      → stores_in_runs reads func x y expected statement values
+      ≡ are_same (every (counts stage_loop.id) (λ lane. is_sound reads (all_but (point_of func x y)) all_points body (with (record { func = func; id = stage_loop.id }) lane
       values))) (not (expected values))

@@ -27,7 +27,7 @@ ghost use Rattle.schedule_lines.specs.declared.stages.Mark.TheVariants as marks;
 ghost use Rattle.schedule_loops.specs.Visits as counts;
 ghost use Rattle.schedule_loops.specs.Visits.{nest, upto};
 
-use crate::fronts::{is_steady, joined, steady_first};
+use crate::fronts::{invariant_first, is_loop_invariant, joined};
 use crate::splits::extent_of;
 use loop_ir::expressions::Counter;
 use loop_ir::parts::StmtParts;
@@ -39,11 +39,11 @@ use std::alloc::{AllocError, Global};
 
 /// How the iterations of a loop are to be made. Those of the parallel loop are tasks of their own where it is not
 /// among the loops of a nest.
-fn kind_of(own: &Loop) -> LoopKind
-    ensures vectorized { is_vectorized result ≡ is_vectorized_loop own.now }
-    ensures unrolled { is_laid_out result ≡ is_marked marks.Unrolled own.now }
+fn kind_of(stage_loop: &Loop) -> LoopKind
+    ensures vectorized { is_vectorized result ≡ is_vectorized_loop stage_loop.now }
+    ensures unrolled { is_laid_out result ≡ is_marked marks.Unrolled stage_loop.now }
 {
-    match own.marked {
+    match stage_loop.marked {
         Some(marked) => match marked.mark {
             Mark::Unrolled => LoopKind::Unrolled,
             Mark::Vectorized => LoopKind::Vectorized,
@@ -72,27 +72,27 @@ fn around(
 fn in_order(alloc: Global, counter: Counter, count: u32, body: Stmt) -> Result<Stmt, AllocError>
     ensures { IfOk result (Loops counter count kinds.Serial body) }
 {
-    let first = steady_first(alloc, &[counter], body)?;
+    let first = invariant_first(alloc, &[counter], body)?;
     match first.into_parts() {
-        StmtParts::Bind(own, whole, extent, inside) => {
-            if is_steady(counter, own, whole) {
-                let made = in_order(alloc, counter, count, inside.into_inner())?;
-                let made = Boxed::new(alloc, made)?;
-                return Ok(Stmt::Bind(own, whole, extent, made));
+        StmtParts::Bind(stage_loop, whole, extent, inside) => {
+            if is_loop_invariant(counter, stage_loop, whole) {
+                let statement = in_order(alloc, counter, count, inside.into_inner())?;
+                let statement = Boxed::new(alloc, statement)?;
+                return Ok(Stmt::Bind(stage_loop, whole, extent, statement));
             }
-            let same = Stmt::Bind(own, whole, extent, inside);
-            let made = around(alloc, counter, count, LoopKind::Serial, same)?;
-            Ok(made)
+            let same = Stmt::Bind(stage_loop, whole, extent, inside);
+            let statement = around(alloc, counter, count, LoopKind::Serial, same)?;
+            Ok(statement)
         }
         parts => {
             let same = joined(parts);
-            let made = around(alloc, counter, count, LoopKind::Serial, same)?;
-            Ok(made)
+            let statement = around(alloc, counter, count, LoopKind::Serial, same)?;
+            Ok(statement)
         }
     }
 }
 
-/// A body in so many iterations of a loop.
+/// A body in this many iterations of a loop.
 fn looped(
     alloc: Global,
     counter: Counter,
@@ -104,12 +104,12 @@ fn looped(
 {
     match kind {
         LoopKind::Serial => {
-            let made = in_order(alloc, counter, count, body)?;
-            Ok(made)
+            let statement = in_order(alloc, counter, count, body)?;
+            Ok(statement)
         }
         LoopKind::Unrolled | LoopKind::Vectorized => {
-            let made = around(alloc, counter, count, kind, body)?;
-            Ok(made)
+            let statement = around(alloc, counter, count, kind, body)?;
+            Ok(statement)
         }
     }
 }
@@ -123,43 +123,52 @@ pub fn loop_once(
     alloc: Global,
     func: usize,
     sizes: &LoopSizes,
-    own: &Loop,
+    stage_loop: &Loop,
     body: Stmt,
 ) -> Result<Stmt, AllocError>
     requires splits { counts.AreSplits sizes.now.splits }
     requires few { AreFew sizes.now.extents }
-    ensures runs { IfOk result (λ made. (points : Points) (inputs : Planes) (values : Values) (funcs : Planes)
-        → run points inputs made values funcs
-        ≡ iterated (counts.counts sizes.now.extents sizes.now.splits own.now.id)
-        (λ iteration. run points inputs body (with (record { func = func; id = own.now.id }) iteration values)) funcs) }
-    ensures traces { IfOk result (λ made. (points : Points) (inputs : Planes) (place x y : ℕ) (values : Values)
-        (so_far : Trace) → trace points inputs place x y made values so_far
-        ≡ iterated (counts.counts sizes.now.extents sizes.now.splits own.now.id)
+    ensures runs { IfOk result (λ statement. (points : Points) (inputs : Planes) (values : Values) (funcs : Planes)
+        → run points inputs statement values funcs
+        ≡ iterated (counts.counts sizes.now.extents sizes.now.splits stage_loop.now.id)
+        (λ iteration. run points inputs body (with (record { func = func; id = stage_loop.now.id }) iteration values))
+        funcs) }
+    ensures traces { IfOk result (λ statement. (points : Points) (inputs : Planes) (place x y : ℕ) (values : Values)
+        (so_far : Trace) → trace points inputs place x y statement values so_far
+        ≡ iterated (counts.counts sizes.now.extents sizes.now.splits stage_loop.now.id)
         (λ iteration. trace points inputs place x y body
-        (with (record { func = func; id = own.now.id }) iteration values)) so_far) }
-    ensures sound { IfOk result (λ made. (reads : Reads) (written : Points) (loaded : Point → Bool) (values : Values)
-        → is_sound reads written loaded made values
-        ≡ every (counts.counts sizes.now.extents sizes.now.splits own.now.id)
+        (with (record { func = func; id = stage_loop.now.id }) iteration values)) so_far) }
+    ensures sound { IfOk result (λ statement. (reads : Reads) (written : Points) (loaded : Point
+        → Bool) (values : Values)
+        → is_sound reads written loaded statement values
+        ≡ every (counts.counts sizes.now.extents sizes.now.splits stage_loop.now.id)
         (λ iteration. is_sound reads written loaded body
-        (with (record { func = func; id = own.now.id }) iteration values))) }
-    ensures repeats { IfOk result (λ made. (leaf : Stmt) (list : counts.Values → List counts.Values)
+        (with (record { func = func; id = stage_loop.now.id }) iteration values))) }
+    ensures repeats { IfOk result (λ statement. (leaf : Stmt) (list : counts.Values → List counts.Values)
         → Repeats func body leaf list
-        → Repeats func made leaf (λ outer. upto (counts.counts sizes.now.extents sizes.now.splits own.now.id)
-        (λ iteration. list (counts.with own.now.id iteration outer)))) }
-    ensures depth { IfOk result (λ made. depth made ≡ suc (depth body)) }
-    ensures needs { IfOk result (λ made. greatest_need made ≡ greatest_need body) }
-    ensures sizes { IfOk result (λ made. whole_size made
-        ≡ loop_room (is_marked marks.Unrolled own.now) (counts.counts sizes.now.extents sizes.now.splits own.now.id)
+        → Repeats func statement leaf (λ outer. upto (counts.counts sizes.now.extents sizes.now.splits
+        stage_loop.now.id)
+        (λ iteration. list (counts.with stage_loop.now.id iteration outer)))) }
+    ensures depth { IfOk result (λ statement. depth statement ≡ suc (depth body)) }
+    ensures needs { IfOk result (λ statement. greatest_need statement ≡ greatest_need body) }
+    ensures sizes { IfOk result (λ statement. whole_size statement
+        ≡ loop_room (is_marked marks.Unrolled stage_loop.now)
+        (counts.counts sizes.now.extents sizes.now.splits stage_loop.now.id)
         (whole_size body)) }
-    ensures loop_lanes { IfOk result (GoesAround func (counts.counts sizes.now.extents sizes.now.splits) own.now body) }
-    ensures about { IfOk result (λ made. is_about func made ≡ is_about func body) }
-    ensures in_runs { IfOk result (RunsAround func (counts.counts sizes.now.extents sizes.now.splits) own.now body) }
+    ensures loop_lanes { IfOk result (GoesAround func (counts.counts sizes.now.extents sizes.now.splits) stage_loop.now
+        body) }
+    ensures about { IfOk result (λ statement. is_about func statement ≡ is_about func body) }
+    ensures in_runs { IfOk result (RunsAround func (counts.counts sizes.now.extents sizes.now.splits) stage_loop.now
+        body) }
 {
-    let counter = Counter { func, id: own.id };
-    let count = extent_of(sizes, own.id);
-    let kind = kind_of(own);
-    let made = looped(alloc, counter, count, kind, body)?;
-    Ok(made)
+    let counter = Counter {
+        func,
+        id: stage_loop.id,
+    };
+    let count = extent_of(sizes, stage_loop.id);
+    let kind = kind_of(stage_loop);
+    let statement = looped(alloc, counter, count, kind, body)?;
+    Ok(statement)
 }
 
 /// Loops of the Func at a place around a body, the innermost first, in as many iterations as their sizes say.
@@ -176,25 +185,26 @@ pub fn with_loops(
 ) -> Result<Stmt, AllocError>
     requires splits { counts.AreSplits sizes.now.splits }
     requires few { AreFew sizes.now.extents }
-    ensures repeats { IfOk result (λ made. (leaf : Stmt) (list : counts.Values → List counts.Values)
+    ensures repeats { IfOk result (λ statement. (leaf : Stmt) (list : counts.Values → List counts.Values)
         → Repeats func body leaf list
-        → Repeats func made leaf (nest (counts.counts sizes.now.extents sizes.now.splits) loops.now list)) }
-    ensures depth { IfOk result (λ made. depth made ≡ length loops.now + depth body) }
-    ensures needs { IfOk result (λ made. greatest_need made ≡ greatest_need body) }
-    ensures sizes { IfOk result (λ made. whole_size made ≡ nest_size (counts.counts sizes.now.extents sizes.now.splits)
+        → Repeats func statement leaf (nest (counts.counts sizes.now.extents sizes.now.splits) loops.now list)) }
+    ensures depth { IfOk result (λ statement. depth statement ≡ length loops.now + depth body) }
+    ensures needs { IfOk result (λ statement. greatest_need statement ≡ greatest_need body) }
+    ensures sizes { IfOk result (λ statement. whole_size statement ≡ nest_size
+        (counts.counts sizes.now.extents sizes.now.splits)
         loops.now (whole_size body)) }
-    ensures loop_lanes { IfOk result (λ made. (outside : List Loop)
+    ensures loop_lanes { IfOk result (λ statement. (outside : List Loop)
         → MayBeAtOnce func (counts.counts sizes.now.extents sizes.now.splits) (loops.now ++ outside) body
         → MayBeAround func (counts.counts sizes.now.extents sizes.now.splits) loops.now outside body
-        → MayBeAtOnce func (counts.counts sizes.now.extents sizes.now.splits) outside made) }
-    ensures about { IfOk result (λ made. is_about func made ≡ is_about func body) }
+        → MayBeAtOnce func (counts.counts sizes.now.extents sizes.now.splits) outside statement) }
+    ensures about { IfOk result (λ statement. is_about func statement ≡ is_about func body) }
 {
     match loops {
         [] => Ok(body),
-        [own, outside @ ..] => {
-            let inner = loop_once(alloc, func, sizes, own, body)?;
-            let made = with_loops(alloc, func, sizes, outside, inner)?;
-            Ok(made)
+        [stage_loop, outside @ ..] => {
+            let inner = loop_once(alloc, func, sizes, stage_loop, body)?;
+            let statement = with_loops(alloc, func, sizes, outside, inner)?;
+            Ok(statement)
         }
     }
 }

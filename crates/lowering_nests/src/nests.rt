@@ -35,18 +35,19 @@ pub fn with_nest(
 ) -> Result<Stmt, AllocError>
     requires splits { counts.AreSplits splits.now }
     requires few { AreFew extents }
-    ensures repeats { IfOk result (λ made. Repeats func made body (wholes extents splits.now loops.now)) }
-    ensures depth { IfOk result (λ made. depth made ≡ length loops.now + (length splits.now + depth body)) }
-    ensures needs { IfOk result (λ made. greatest_need made ≡ greatest_need body) }
-    ensures sizes { IfOk result (λ made. whole_size made ≡ nest_size (counts.counts extents splits.now) loops.now
+    ensures repeats { IfOk result (λ statement. Repeats func statement body (wholes extents splits.now loops.now)) }
+    ensures depth { IfOk result (λ statement. depth statement ≡ length loops.now + (length splits.now + depth body)) }
+    ensures needs { IfOk result (λ statement. greatest_need statement ≡ greatest_need body) }
+    ensures sizes { IfOk result (λ statement. whole_size statement ≡ nest_size (counts.counts extents splits.now)
+        loops.now
         (25 * length splits.now + whole_size body)) }
-    ensures loop_lanes { IfOk result (λ made. (outside : List Loop) → IsLeaf body
+    ensures loop_lanes { IfOk result (λ statement. (outside : List Loop) → IsLeaf body
         → MayBeUnder func extents splits.now loops.now outside body
-        → MayBeAtOnce func (counts.counts extents splits.now) outside made) }
-    ensures about { IfOk result (λ made. is_about func made ≡ is_about func body) }
+        → MayBeAtOnce func (counts.counts extents splits.now) outside statement) }
+    ensures about { IfOk result (λ statement. is_about func statement ≡ is_about func body) }
 {
     let sizes = LoopSizes::new(alloc, extents, splits)?;
     let inner = with_splits(alloc, func, extents, splits, body)?;
-    let made = with_loops(alloc, func, &sizes, loops, inner)?;
-    Ok(made)
+    let statement = with_loops(alloc, func, &sizes, loops, inner)?;
+    Ok(statement)
 }

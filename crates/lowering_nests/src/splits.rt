@@ -29,12 +29,12 @@ use sqlite_items::Boxed;
 use std::alloc::{AllocError, Global};
 
 /// The value of a loop of the Func at a place, of this extent, from those of the loops of its split at a place.
-fn whole_of(func: usize, place: usize, split: Split, extent: u32) -> Whole
+fn whole_of(func: usize, func_index: usize, split: Split, extent: u32) -> Whole
     requires factor { split.factor ≤ 64 }
     requires few { extent < 2 ^ 25 }
     ensures { (values : Values) → AreSmall (loops_of func values)
         → whole_value result values ≡ begin_of split.tail split.factor extent
-        (loops_of func values (LoopId.Outer place)) + loops_of func values (LoopId.Inner place) }
+        (loops_of func values (LoopId.Outer func_index)) + loops_of func values (LoopId.Inner func_index) }
 {
     let last = match split.tail {
         Tail::Guard => None,
@@ -43,11 +43,11 @@ fn whole_of(func: usize, place: usize, split: Split, extent: u32) -> Whole
     Whole {
         outer: Counter {
             func,
-            id: LoopId::Outer(place),
+            id: LoopId::Outer(func_index),
         },
         inner: Counter {
             func,
-            id: LoopId::Inner(place),
+            id: LoopId::Inner(func_index),
         },
         factor: split.factor,
         last,
@@ -89,26 +89,26 @@ fn bound(
 fn split_once(
     alloc: Global,
     func: usize,
-    place: usize,
+    func_index: usize,
     split: Split,
     extent: u32,
     body: Stmt,
 ) -> Result<Stmt, AllocError>
     requires factor { split.factor ≤ 64 }
     requires few { extent < 2 ^ 25 }
-    ensures repeats { IfOk result (λ made. (before : counts.Values) → before split.of ≡ extent
+    ensures repeats { IfOk result (λ statement. (before : counts.Values) → before split.of ≡ extent
         → (leaf : Stmt) (list : counts.Values → List counts.Values) → Repeats func body leaf list
-        → Repeats func made leaf (split_body before place split list)) }
-    ensures depth { IfOk result (λ made. depth made ≡ suc (depth body)) }
-    ensures needs { IfOk result (λ made. greatest_need made ≡ greatest_need body) }
-    ensures sizes { IfOk result (λ made. whole_size made ≡ whole_size body + 25) }
-    ensures leaf { IfOk result (λ made. IsLeaf body → IsLeaf made) }
-    ensures about { IfOk result (λ made. (of : ℕ) → is_about of made ≡ is_about of body) }
+        → Repeats func statement leaf (split_body before func_index split list)) }
+    ensures depth { IfOk result (λ statement. depth statement ≡ suc (depth body)) }
+    ensures needs { IfOk result (λ statement. greatest_need statement ≡ greatest_need body) }
+    ensures sizes { IfOk result (λ statement. whole_size statement ≡ whole_size body + 25) }
+    ensures leaf { IfOk result (λ statement. IsLeaf body → IsLeaf statement) }
+    ensures about { IfOk result (λ statement. (of : ℕ) → is_about of statement ≡ is_about of body) }
 {
-    let whole = whole_of(func, place, split, extent);
+    let whole = whole_of(func, func_index, split, extent);
     let counter = Counter { func, id: split.of };
-    let made = bound(alloc, counter, whole, extent, body)?;
-    Ok(made)
+    let statement = bound(alloc, counter, whole, extent, body)?;
+    Ok(statement)
 }
 
 /// How many iterations a loop has, under few splits of few values.
@@ -121,7 +121,7 @@ pub(crate) fn extent_of(sizes: &LoopSizes, id: LoopId) -> u32
     sizes.size(id).count
 }
 
-/// What splits of the loops of the Func at a place put around a body: each loop that is split stands at its value while
+/// What splits of the loops of the Func at a place put around a body: each loop that is split is at its value while
 /// the body runs, and what lies past its extent is left out.
 ///
 /// # Errors
@@ -136,13 +136,13 @@ pub fn with_splits(
 ) -> Result<Stmt, AllocError>
     requires splits { counts.AreSplits splits.now }
     requires few { AreFew extents }
-    ensures repeats { IfOk result (λ made. (leaf : Stmt) (list : counts.Values → List counts.Values)
-        → Repeats func body leaf list → Repeats func made leaf (over_loops extents splits.now list)) }
-    ensures depth { IfOk result (λ made. depth made ≡ length splits.now + depth body) }
-    ensures needs { IfOk result (λ made. greatest_need made ≡ greatest_need body) }
-    ensures sizes { IfOk result (λ made. whole_size made ≡ 25 * length splits.now + whole_size body) }
-    ensures leaf { IfOk result (λ made. IsLeaf body → IsLeaf made) }
-    ensures about { IfOk result (λ made. (of : ℕ) → is_about of made ≡ is_about of body) }
+    ensures repeats { IfOk result (λ statement. (leaf : Stmt) (list : counts.Values → List counts.Values)
+        → Repeats func body leaf list → Repeats func statement leaf (over_loops extents splits.now list)) }
+    ensures depth { IfOk result (λ statement. depth statement ≡ length splits.now + depth body) }
+    ensures needs { IfOk result (λ statement. greatest_need statement ≡ greatest_need body) }
+    ensures sizes { IfOk result (λ statement. whole_size statement ≡ 25 * length splits.now + whole_size body) }
+    ensures leaf { IfOk result (λ statement. IsLeaf body → IsLeaf statement) }
+    ensures about { IfOk result (λ statement. (of : ℕ) → is_about of statement ≡ is_about of body) }
 {
     match splits {
         [] => Ok(body),
@@ -150,8 +150,8 @@ pub fn with_splits(
             let inner = with_splits(alloc, func, extents, others, body)?;
             let sizes = LoopSizes::new(alloc, extents, others)?;
             let extent = extent_of(&sizes, last.of);
-            let made = split_once(alloc, func, others.len(), *last, extent, inner)?;
-            Ok(made)
+            let statement = split_once(alloc, func, others.len(), *last, extent, inner)?;
+            Ok(statement)
         }
     }
 }

@@ -17,7 +17,7 @@ length-put memory (place ∷ places) (byte ∷ bytes) = length-put (put_byte mem
 pub size_kept : (memory memory' : List ℕ) (size : Size) (at n : ℕ) → memory' ≡ put_number memory size at n → length memory' ≡ length memory
 size_kept memory memory' size at n e = ap length e ∙ length-put memory (places_of (access_at size at)) (bytes_of size n)
 
--- four words that are put in data one behind the other
+-- four words that are put in data one after the other
 pub four_put : (m0 m1 m2 m3 m4 : List ℕ) (at address a b c d : ℕ) → at + data_start ≡ address
     → m1 ≡ put_number m0 Word (at + data_start) a → m2 ≡ put_number m1 Word (at + 4 + data_start) b
     → m3 ≡ put_number m2 Word (at + 8 + data_start) c → m4 ≡ put_number m3 Word (at + 12 + data_start) d
@@ -33,7 +33,7 @@ four_put m0 m1 m2 m3 m4 at address a b c d e e1 e2 e3 e4 =
     q4 ∙ ap (λ m. put_number m Word (address + 12) d) (q3 ∙ ap (λ m. put_number m Word (address + 8) c) (q2
     ∙ ap (λ m. put_number m Word (address + 4) b) q1))
 
--- four words of data one behind the other
+-- four words of data one after the other
 pub four_read : (text memory : List ℕ) (a b c d at address : ℕ) → at + data_start ≡ address
     → a ≡ number_in text memory Word (at + data_start) → b ≡ number_in text memory Word (at + 4 + data_start)
     → c ≡ number_in text memory Word (at + 8 + data_start) → d ≡ number_in text memory Word (at + 12 + data_start)

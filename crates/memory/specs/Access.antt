@@ -9,7 +9,7 @@ use Rattle.std.specs.Int.{w8, w16, w32, from_le_bytes, to_le_bytes}
 use Rattle.rv_insn.specs.declared.outcomes.Trap.{Trap}
 use Rattle.rv_insn.specs.declared.outcomes.Trap.TheVariants.{LoadMisaligned, LoadOutside, StoreMisaligned, StoreOutside}
 
--- ---- Text and data by their addresses: where they lie, what stands at an address, and what a write leaves.
+-- ---- Text and data by their addresses: where they lie, what is at an address, and what a write leaves.
 -- The addresses, the limits, and that a number lies with its lowest byte first (RISC-V Unprivileged ISA
 -- 20191213, section 2.6, leaves the choice) are this project's own.
 
@@ -21,7 +21,7 @@ text_start = 65536
 abbrev pub data_start : ℕ
 data_start = 2097152
 
--- text holds 1 to so many words, data 0 to so many bytes
+-- text holds 1 to this many words, data 0 to this many bytes
 abbrev pub most_words : ℕ
 most_words = 262144
 
@@ -40,16 +40,16 @@ abbrev pub fetched : List ℕ → ℕ → Option ℕ
 fetched text pc =
     if nat_lt pc text_start || nat_lt 0 (pc % 4) then None else slice_get text ((pc - text_start) / 4)
 
--- an address where a word begins, in a text of so many words
+-- an address where a word begins, in a text of this many words
 abbrev pub is_text_word : ℕ → ℕ → Bool
 is_text_word words address =
     address % 4 == 0 && nat_le text_start address && nat_lt address (text_start + 4 * words)
 
--- so many bytes from an address on lie in a text of so many words
+-- this many bytes from an address on lie in a text of this many words
 abbrev pub in_text : ℕ → ℕ → ℕ → Bool
 in_text words address count = nat_le text_start address && nat_le (address + count) (text_start + 4 * words)
 
--- so many bytes from an address on lie in a data of so many bytes
+-- this many bytes from an address on lie in a data of this many bytes
 abbrev pub in_data : ℕ → ℕ → ℕ → Bool
 in_data bytes address count = nat_le data_start address && nat_le (address + count) (data_start + bytes)
 
@@ -151,7 +151,7 @@ written_by Reads accesses = []
 written_by Writes accesses = accesses
 written_by Updates accesses = accesses
 
--- The trap that an access makes in a text of so many words and a data of so many bytes: misaligned before
+-- The trap that an access makes in a text of this many words and a data of this many bytes: misaligned before
 -- outside, and loads may touch text and data, stores and atomic additions data alone.
 abbrev pub fault_of : ℕ → ℕ → Kind → ℕ → ℕ → Option Trap
 fault_of words bytes NoAccess address count = None

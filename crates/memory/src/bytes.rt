@@ -18,9 +18,9 @@ pub const MOST_BYTES: usize = 33_554_432;
 
 /// A memory that harts share: words of text, which are never written, and bytes of data.
 ///
-/// Its law is in the clauses: a read gives the byte that stands at the address, and a write puts one
+/// Its law is in the clauses: a read gives the byte that is at the address, and a write puts one
 /// byte and leaves every other one. The half-words and words of data are those bytes, the lowest first; a memory
-/// that has them side by side may take them in one go, and four words one behind the other too.
+/// that has them side by side may take them in one go, and four words one after the other too.
 pub trait Bytes {
     /// The words of text.
     ghost text: { Self → List ℕ };
@@ -32,11 +32,11 @@ pub trait Bytes {
     fn fetch(&self, pc: u32) -> Option<u32>
         ensures { result ≡ fetched (text self.now) pc };
 
-    /// Whether so many bytes from an address on are all text or all data.
+    /// Whether this many bytes from an address on are all text or all data.
     fn covers_load(&self, address: u32, count: u32) -> bool
         ensures { result ≡ covers_load (length (text self.now)) (length (memory self.now)) address count };
 
-    /// Whether so many bytes from an address on are all data.
+    /// Whether this many bytes from an address on are all data.
     fn covers_store(&self, address: u32, count: u32) -> bool
         ensures { result ≡ in_data (length (memory self.now)) address count };
 
@@ -118,7 +118,7 @@ pub trait Bytes {
         ]
     }
 
-    /// Puts four words of data, one behind the other, from an address on that is a multiple of 4.
+    /// Puts four words of data, one after the other, from an address on that is a multiple of 4.
     #[tactic(auto, using(crate::proofs::Putting::size_kept))]
     fn write_four_words(&mut self, address: u32, words: [u32; 4])
         requires aligned { address % 4 ≡ 0 }

@@ -1,12 +1,12 @@
 //! Memory: words of text, which are never written, and bytes of data, both by their addresses.
 //!
-//! [`Bytes`] is what a memory must do: its law is that a read gives the byte that stands at an address,
+//! [`Bytes`] is what a memory must do: its law is that a read gives the byte that is at an address,
 //! and that a write puts one byte and leaves every other. [`Memory`] is the plain one. The functions
 //! [`read_u8`] to [`write_u32`] work over every memory of that law: they read and write numbers of 8,
 //! 16 and 32 bits with their lowest byte first, and refuse a misaligned address before one that lies
 //! outside.
 //!
-//! `specs/Access.antt` says where text and data lie and what stands at an address, and has the numbers and the traps.
+//! `specs/Access.antt` says where text and data lie and what is at an address, and has the numbers and the traps.
 #![tactic(auto)]
 
 mod bytes;

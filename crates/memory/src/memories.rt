@@ -28,7 +28,6 @@ impl Model for Memory {
         (length (boxed_slice_items m.bytes) ≤ most_bytes) };
 }
 
-/// Written out, so that a check sees a call wherever one is dropped, and not the drops of its parts.
 impl Drop for Memory {
     fn drop(self) {
         let Memory { words, bytes } = self;
@@ -58,7 +57,7 @@ impl Memory {
         &self.bytes
     }
 
-    /// Whether so many bytes from an address on are all text: apart, so that nothing of it is worked out for data.
+    /// Whether this many bytes from an address on are all text: apart, so that nothing of it is worked out for data.
     #[cold]
     #[inline(never)]
     fn covers_text(&self, address: u32, count: u32) -> bool
@@ -122,7 +121,7 @@ impl Bytes for Memory {
 
     #[inline(always)]
     fn covers_store(&self, address: u32, count: u32) -> bool {
-        // an address before the data comes to one far behind its end
+        // an address before the data comes to one far after its end
         let at = address.wrapping_sub(DATA_START) as usize;
         at + count as usize <= self.bytes.len()
     }
@@ -191,7 +190,7 @@ impl Bytes for Memory {
     }
 }
 
-/// Puts four words in bytes of data, one behind the other from an address on.
+/// Puts four words in bytes of data, one after the other from an address on.
 #[tactic(auto, using(crate::proofs::Putting::size_kept))]
 #[inline(always)]
 fn put_four_words(bytes: &mut [u8], address: u32, words: [u32; 4])

@@ -7,7 +7,7 @@ ghost use Rattle.memory.specs.Access.{fault_of, Reads, Writes, Updates, Byte, Ha
 use crate::bytes::Bytes;
 use rv_insn::Trap;
 
-/// Whether so many bytes from an address on may be loaded: trap 4 where the address is no multiple of
+/// Whether this many bytes from an address on may be loaded: trap 4 where the address is no multiple of
 /// their number, else trap 5 where one is neither text nor data.
 fn check_load<M: Bytes>(memory: &M, address: u32, count: u32) -> Result<(), Trap>
     requires { 0 < count }
@@ -25,7 +25,7 @@ fn check_load<M: Bytes>(memory: &M, address: u32, count: u32) -> Result<(), Trap
     Ok(())
 }
 
-/// Whether so many bytes from an address on may be stored: trap 6 where the address is no multiple of
+/// Whether this many bytes from an address on may be stored: trap 6 where the address is no multiple of
 /// their number, else trap 7 where one isn't data.
 pub fn check_store<M: Bytes>(memory: &M, address: u32, count: u32) -> Result<(), Trap>
     requires { 0 < count }

@@ -6,7 +6,7 @@ ghost use Rattle.memory.specs.Access.{fault_of, Updates, Word, number_in, put_nu
 use memory::{Bytes, read_for_amo, write_u32};
 use rv_insn::Trap;
 
-/// Adds a number to the word of data at an address, modulo 2^32, and answers the word that stood there before. Refused,
+/// Adds a number to the word of data at an address, modulo 2^32, and answers the word that was there before. Refused,
 /// with nothing written, as a store of a word is: by trap 6 where the address is no multiple of 4, else by trap 7 where
 /// a byte isn't data.
 #[inline(always)]

@@ -58,7 +58,6 @@ impl Model for Machine {
         (length (boxed_slice_items m.meanings) ≤ most_words) };
 }
 
-/// Written out, so that a check sees a call wherever one is dropped, and not the drops of its parts.
 impl Drop for Machine {
     fn drop(self) {
         let Machine {
@@ -136,7 +135,7 @@ impl Machine {
         Ok(())
     }
 
-    /// Turns of one hart, one after the other, until one doesn't step or so many are made. Takes no memory.
+    /// Turns of one hart, one after the other, until one doesn't step or this many are made. Takes no memory.
     pub fn step_on(&mut self, hart: usize, most: u64) -> TurnsMade
         requires there { hart < length self.old.harts }
         requires some { 1 ≤ most }
@@ -154,7 +153,7 @@ impl Machine {
         run_alone(running, &mut self.memory, &self.meanings, most)
     }
 
-    /// So many turns of one hart, one after the other, and the last one's outcome. A hart that isn't
+    /// This many turns of one hart, one after the other, and the last one's outcome. A hart that isn't
     /// running makes all that are left at once, since they change nothing. Takes no memory.
     pub fn run_same(&mut self, hart: usize, turns: u64) -> Outcome
         requires there { hart < length self.old.harts }
@@ -312,7 +311,7 @@ fn run_down(hart: &mut Hart, memory: &mut Memory, meanings: &[Meaning], most: u6
     }
 }
 
-/// One turn of a hart that runs and stands there, over a memory whose words mean this: where it goes on, or the turn's
+/// One turn of a hart that runs and is there, over a memory whose words mean this: where it goes on, or the turn's
 /// outcome, where it doesn't step.
 #[inline(always)]
 fn step_meant(

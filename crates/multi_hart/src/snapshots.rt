@@ -22,7 +22,6 @@ impl Model for Snapshot {
     ghost view = { λ s. record { memory = s.bytes.items; harts = s.harts.items } };
 }
 
-/// Written out, so that a check sees a call wherever one is dropped, and not the drops of its parts.
 impl Drop for Snapshot {
     fn drop(self) {
         let Snapshot { bytes, harts } = self;

@@ -80,7 +80,7 @@ empty : (xs : List ℕ) → length xs ≡ 0 → xs ≡ []
 empty [] e = refl
 empty (x ∷ xs) e = absurd (omega (arith, e))
 
--- what holds of four numbers and any so many others holds of a list that is four longer
+-- what holds of four numbers and any this many others holds of a list that is four longer
 peeled : (P : List ℕ → Type 0) (n : ℕ) (xs : List ℕ) → length xs ≡ n + 4 → ((p q r s : ℕ) (rest : List ℕ) → length rest ≡ n → P (p ∷ q ∷ r ∷ s ∷ rest)) → P xs
 peeled P n [] e all = absurd (omega (arith, e))
 peeled P n (a ∷ []) e all = absurd (omega (arith, e))

@@ -97,7 +97,7 @@ at-same at f g h e a = record {
   bits = λ i few. a.bits i few ∙ e (bit i);
 }
 
--- ---- operands of a hart that stands somewhere
+-- ---- operands of a hart that is somewhere
 
 module _ (at g : ℕ) (f : ℕ → ℕ) (h : HartState) (a : At at f h) (c : LanesConfigured f g) where
   abbrev state : Vectors

@@ -19,7 +19,7 @@ pub record World : Type 0 where
   pub job : Job
   pub hart : ℕ
 
--- a word stands in the text at the address, and means the instruction
+-- a word is in the text at the address, and means the instruction
 pub record Says (text : List ℕ) (address : ℕ) (insn : Insn) : Type 0 where
   pub word : ℕ
   pub fetched : fetched text address ≡ Some word
@@ -37,7 +37,7 @@ pub record Quiet (world : World) (hart : HartState) : Type 0 where
   pub may_write : Within (λ address. MayWrite world.job world.hart (world.uses address)) (writes (next_of world.text world.size hart) hart)
   pub keeps : Keeps world (writes (next_of world.text world.size hart) hart)
 
--- after so many quiet turns of the hart alone, what is wanted holds
+-- after this many quiet turns of the hart alone, what is wanted holds
 abbrev pub Soon : World → (HartState → List ℕ → Type 0) → ℕ → HartState → List ℕ → Type 0
 Soon world wanted zero hart memory = wanted hart memory
 Soon world wanted (suc turns) hart memory =

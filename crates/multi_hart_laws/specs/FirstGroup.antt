@@ -5,7 +5,7 @@ use Rattle.vector_unit.specs.Vector.{with_elements}
 use Rattle.hart_core.specs.HartState.{HartState, vectors_of, with_vectors, advanced}
 use Rattle.multi_hart_laws.specs.Paths.{At, LanesConfigured, lane, bit, write_lanes, write_bits, vl_number}
 
--- the number that so many bits spell, the lowest first
+-- the number that this many bits spell, the lowest first
 abbrev pub spelled : ℕ → (ℕ → ℕ) → ℕ
 spelled zero b = 0
 spelled (suc n) b = b 0 + 2 * spelled n (λ k. b (suc k))
@@ -27,7 +27,7 @@ write_first f n new =
 abbrev pub write_group : (ℕ → ℕ) → ℕ → ℕ → (ℕ → ℕ) → ℕ → ℕ
 write_group f d n new = if d == 0 then write_first f n new else write_lanes f d n new
 
--- a group of so many registers may begin at this one, whether or not it holds the mask
+-- a group of this many registers may begin at this one, whether or not it holds the mask
 pub record IsAnyGroup (registers v : ℕ) : Type 0 where
   pub some : 1 ≤ registers
   pub fits : v + registers ≤ 32

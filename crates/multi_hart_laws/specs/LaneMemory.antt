@@ -10,7 +10,7 @@ use Rattle.multi_hart_laws.specs.Uses.{MayRead, MayWrite}
 use Rattle.multi_hart_laws.specs.Alone.{World, Keeps}
 use Rattle.multi_hart_laws.specs.Paths.{stored_at, lane, IsGroup}
 
--- so many values of a function, from one number on
+-- this many values of a function, from one number on
 abbrev pub firsts : ℕ → ℕ → (ℕ → ℕ) → List ℕ
 firsts i zero f = []
 firsts i (suc n) f = f i ∷ firsts (suc i) n f
@@ -34,7 +34,7 @@ pub record AllWritable (world : World) (size : Size) (n : ℕ) (a : ℕ → ℕ)
   pub may : (k : ℕ) → k < n → Within (λ b. MayWrite world.job world.hart (world.uses b)) (touched (one_access size (a k)))
   pub keeps : Keeps world (touched (accesses_to size n a))
 
--- memory after so many numbers were stored, one after the other
+-- memory after this many numbers were stored, one after the other
 abbrev pub stored_lanes : List ℕ → Size → ℕ → (ℕ → ℕ) → (ℕ → ℕ) → List ℕ
 stored_lanes memory size zero a x = memory
 stored_lanes memory size (suc n) a x = stored_at (stored_lanes memory size n a x) size (a n) (x n)

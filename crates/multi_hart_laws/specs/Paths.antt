@@ -1,4 +1,4 @@
--- Code that stands in the text, and what it does with all that a hart holds: from one address, numbers and memory to others, in so
+-- Code that is in the text, and what it does with all that a hart holds: from one address, numbers and memory to others, in so
 -- many turns of the hart alone. This project's own.
 use Rattle.std.specs.Prelude.{◌≡◌, ◌<◌, ◌≤◌, ℕ, ◌+◌, ◌*◌, ◌/◌, ◌%◌, ◌^◌, ◌==◌, ◌-◌, ◌&&◌, nat_le, nat_lt, if◌then◌else◌, List, [], ◌∷◌, length, true}
 use Rattle.rv_insn.specs.declared.instructions.Insn.{Insn}
@@ -73,7 +73,7 @@ abbrev pub write_bytes : (ℕ → ℕ) → ℕ → ℕ → (ℕ → ℕ) → ℕ
 write_bytes f d n new =
     write_lanes f d 4 (λ j. of_bytes (λ k. if nat_lt (4 * j + k) n then new (4 * j + k) else byte_of (f (lane d j)) k))
 
--- the configuration is a supported one of lanes of 32 bits, in groups of so many registers
+-- the configuration is a supported one of lanes of 32 bits, in groups of this many registers
 pub record LanesConfigured (f : ℕ → ℕ) (registers : ℕ) : Type 0 where
   pub supported : is_supported (f vtype_number) ≡ true
   pub width : width_of (f vtype_number) ≡ 32
@@ -81,13 +81,13 @@ pub record LanesConfigured (f : ℕ → ℕ) (registers : ℕ) : Type 0 where
   pub most : most_elements (f vtype_number) ≡ 4 * registers
   pub fits : f vl_number ≤ 4 * registers
 
--- a group of so many registers may begin at this one; what begins at v0 holds the mask
+-- a group of this many registers may begin at this one; what begins at v0 holds the mask
 pub record IsGroup (registers v : ℕ) : Type 0 where
   pub above_mask : 1 ≤ v
   pub fits : v + registers ≤ 32
   pub placed : v % registers ≡ 0
 
--- the hart runs, and stands at an address with these numbers
+-- the hart runs, and is at an address with these numbers
 pub record At (at : ℕ) (f : ℕ → ℕ) (hart : HartState) : Type 0 where
   pub running : hart.status ≡ Running
   pub pc : hart.pc ≡ at
@@ -107,7 +107,7 @@ pub record At (at : ℕ) (f : ℕ → ℕ) (hart : HartState) : Type 0 where
 abbrev pub Comes : ℕ → (ℕ → ℕ) → List ℕ → HartState → List ℕ → Type 0
 Comes to g memory' after left = At to g after × (left ≡ memory')
 
--- from one address, numbers and memory to others in so many turns
+-- from one address, numbers and memory to others in this many turns
 abbrev pub Path : World → ℕ → ℕ → ℕ → (ℕ → ℕ) → List ℕ → (ℕ → ℕ) → List ℕ → Type 0
 Path world from to turns f memory g memory' =
     (hart : HartState) → At from f hart → Soon world (Comes to g memory') turns hart memory
@@ -120,7 +120,7 @@ Block world insns turns f memory g memory' = (at : ℕ) → Stand world.text at 
 abbrev pub Line : World → List Insn → (ℕ → ℕ) → List ℕ → (ℕ → ℕ) → List ℕ → Type 0
 Line world insns f memory g memory' = Block world insns (length insns) f memory g memory'
 
--- in so many turns from there, the byte is written
+-- in this many turns from there, the byte is written
 abbrev pub Writes : World → ℕ → ℕ → (ℕ → ℕ) → List ℕ → ℕ → Type 0
 Writes world from turns f memory address = (hart : HartState) → At from f hart → Covers world.text world.size turns hart memory address
 

@@ -51,7 +51,7 @@ ghost use Rattle.multi_hart_laws.specs.Paths.{update, Path, Block, Line, Writes,
 ghost use Rattle.multi_hart_laws.specs.Paths.{configure, lane, bit, vl_number, write_lanes, write_bits, byte_of};
 ghost use Rattle.multi_hart_laws.specs.Paths.{write_bytes, LanesConfigured, IsGroup};
 
-/// A word of a text of any length stands at its address.
+/// A word of a text of any length is at its address.
 pub fn words_stand()
     ensures { (text : List ℕ) (i word : ℕ) (insn : Insn) → slice_get text i ≡ Some word → decoded word ≡ Some insn
         → Says text (text_start + 4 * i) insn }

@@ -1,9 +1,9 @@
 //! What one hart does that runs alone: which bytes each of its turns may touch, and what it has come to
-//! after so many turns.
+//! after this many turns.
 //!
 //! Bytes of memory are each for one purpose (`specs/Uses.antt`). A run alone is told forwards, from where it
-//! begins (`specs/Alone.antt`): after so many quiet turns, what is wanted holds. Code is told by paths
-//! (`specs/Paths.antt`): from one address, numbers and memory to others, whatever stands around. Lanes of the group
+//! begins (`specs/Alone.antt`): after this many quiet turns, what is wanted holds. Code is told by paths
+//! (`specs/Paths.antt`): from one address, numbers and memory to others, whatever is around. Lanes of the group
 //! that begins at v0, whose bits are numbers too, are what these spell (`specs/FirstGroup.antt`).
 //!
 //! - [`laws`]: words that stand in a text, paths one after the other, and what each kind of scalar

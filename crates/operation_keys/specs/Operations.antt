@@ -37,7 +37,7 @@ abbrev pub digit_of : Option (ℕ × ℕ) → ℕ
 digit_of None = 0
 digit_of (Some pair) = pair.1
 
--- the number whose digits are fixed at so many positions from `low` upwards
+-- the number whose digits are fixed at this many positions from `low` upwards
 abbrev pub fixed_at : List (ℕ × ℕ) → ℕ → ℕ → ℕ
 fixed_at pairs low zero = 0
 fixed_at pairs low (suc count) = digit_of (find (λ pair. pair.0 == low) pairs) + 2 * fixed_at pairs (low + 1) count
@@ -176,7 +176,7 @@ reduction_funct6 op = key_in vector_table 26 6 (reduction_name op)
 abbrev pub reduction_of : ℕ → Option ReductionOp
 reduction_of funct6 = find (λ op. reduction_funct6 op == funct6) all_reductions
 
--- ---- widths, where funct3 stands
+-- ---- widths, where funct3 is
 
 abbrev pub width_funct3 : ElementWidth → ℕ
 width_funct3 width = key_in vector_table 12 3 (load_elements_name modes.UnitStride width)

@@ -321,7 +321,7 @@ pub fn reduction_op(funct6: u32) -> Option<ReductionOp>
     }
 }
 
-/// The field of a width, where funct3 stands.
+/// The field of a width, where funct3 is.
 #[tactic(auto, unfolding(crate::specs::Operations::key_in, rv_insn::specs::VectorTable::vector_table, rv_insn::specs::Encoding::in_parts, rv_insn::specs::Encoding::fixed, rv_insn::specs::Encoding::span))]
 pub fn width_funct3(width: ElementWidth) -> u32
     ensures value { result ≡ keys.width_funct3 width }

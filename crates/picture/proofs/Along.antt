@@ -100,7 +100,7 @@ goes-further : (left from k : ℕ) → word.add (word.add left from) k ≡ word.
 unfolding word.add
 goes-further left from k = omega arith
 
--- a stretch after what stands from a column on
+-- a stretch after what is from a column on
 pub one-more-stretch : (plane : Plane) (left y from count whole : ℕ) (pixels stretch next : List ℕ) → AreValues from (λ at. plane (word.add left at) y) pixels
     → AreValues count (λ at. plane (word.add (word.add left from) at) y) stretch → next ≡ pixels ++ stretch → whole ≡ from + count
     → AreValues whole (λ at. plane (word.add left at) y) next

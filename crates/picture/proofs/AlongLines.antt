@@ -28,46 +28,48 @@ use Rattle.std.specs.declared.alloc.Global.{Global}
 
 -- ---- reads
 
-other-source : (scene : Scene) (own : ℕ) (plane : Plane) (source : Source) (x y : ℕ) → is_own own source ≡ false → reads_with scene own plane source x y
-    ≡ reads_in scene own states.Earlier source x y
-other-source scene own plane (sources.Input place) x y other = refl
-other-source scene own plane (sources.Func place) x y other = rw other refl
+other-source : (scene : Scene) (func_index : ℕ) (plane : Plane) (source : Source) (x y : ℕ) → is_own func_index source ≡ false → reads_with scene func_index plane source x y
+    ≡ reads_in scene func_index states.Earlier source x y
+other-source scene func_index plane (sources.Input place) x y other = refl
+other-source scene func_index plane (sources.Func place) x y other = rw other refl
 
-pub own-source : (scene : Scene) (own : ℕ) (plane : Plane) (source : Source) (x y : ℕ) → is_own own source ≡ true → reads_with scene own plane source x y
+pub own-source : (scene : Scene) (func_index : ℕ) (plane : Plane) (source : Source) (x y : ℕ) → is_own func_index source ≡ true → reads_with scene func_index plane source x y
     ≡ plane x y
-own-source scene own plane (sources.Input place) x y same = absurd cc
-own-source scene own plane (sources.Func place) x y same = rw same refl
+own-source scene func_index plane (sources.Input place) x y same = absurd cc
+own-source scene func_index plane (sources.Func place) x y same = rw same refl
 
 -- what reads answer along a line, where the own Func isn't read
-pub shared-other : (scene : Scene) (own : ℕ) (line : PointLine) (source : Source) (x y row : Row) (columns rows : Plane → ℕ → ℕ) → is_own own source ≡ false
+pub shared-other : (scene : Scene) (func_index : ℕ) (line : PointLine) (source : Source) (x y row : Row) (columns rows : Plane → ℕ → ℕ) → is_own func_index source ≡ false
     → IsShared line columns x → IsShared line rows y
-    → are.IsRow line.width (λ at. reads_in scene own states.Earlier source (are.value_at x at) (are.value_at y at)) row
-    → IsShared line (λ plane at. reads_with scene own plane source (columns plane at) (rows plane at)) row
-shared-other scene own line source x y row columns rows other is_x is_y is = record {
+    → are.IsRow line.width (λ at. reads_in scene func_index states.Earlier source (are.value_at x at)
+    (are.value_at y at)) row
+    → IsShared line (λ plane at. reads_with scene func_index plane source (columns plane at) (rows plane at)) row
+shared-other scene func_index line source x y row columns rows other is_x is_y is = record {
   len = is.len;
-  each = λ plane fits at less. is.each at less ∙ sym (other-source scene own plane source (are.value_at x at) (are.value_at y at) other)
-      ∙ ap (λ (n : ℕ). reads_with scene own plane source n (are.value_at y at)) (is_x.each plane fits at less)
-      ∙ ap (λ (n : ℕ). reads_with scene own plane source (columns plane at) n) (is_y.each plane fits at less);
+  each = λ plane fits at less. is.each at less ∙ sym (other-source scene func_index plane source (are.value_at x at) (are.value_at y at) other)
+      ∙ ap (λ (n : ℕ). reads_with scene func_index plane source n (are.value_at y at)) (is_x.each plane fits at less)
+      ∙ ap (λ (n : ℕ). reads_with scene func_index plane source (columns plane at) n) (is_y.each plane fits at less);
 }
 
 -- and where it is
-pub shared-own : (scene : Scene) (own : ℕ) (line : PointLine) (source : Source) (x y : Row) (found : Option Row) (columns rows : Plane → ℕ → ℕ)
-    → is_own own source ≡ true
-    → IsShared line columns x → IsShared line rows y → IfSome found (IsShared line (λ plane at. plane (are.value_at x at) (are.value_at y at)))
-    → IfSome found (IsShared line (λ plane at. reads_with scene own plane source (columns plane at) (rows plane at)))
-shared-own scene own line source x y None columns rows same is_x is_y is = is
-shared-own scene own line source x y (Some row) columns rows same is_x is_y is = record {
+pub shared-own : (scene : Scene) (func_index : ℕ) (line : PointLine) (source : Source) (x y : Row) (found_row : Option Row) (columns rows : Plane → ℕ → ℕ)
+    → is_own func_index source ≡ true
+    → IsShared line columns x → IsShared line rows y → IfSome found_row (IsShared line (λ plane at. plane (are.value_at x at) (are.value_at y at)))
+    → IfSome found_row (IsShared line (λ plane at. reads_with scene func_index plane source (columns plane at)
+    (rows plane at)))
+shared-own scene func_index line source x y None columns rows same is_x is_y is = is
+shared-own scene func_index line source x y (Some row) columns rows same is_x is_y is = record {
   len = is.len;
-  each = λ plane fits at less. is.each plane fits at less ∙ sym (own-source scene own plane source (are.value_at x at) (are.value_at y at) same)
-      ∙ ap (λ (n : ℕ). reads_with scene own plane source n (are.value_at y at)) (is_x.each plane fits at less)
-      ∙ ap (λ (n : ℕ). reads_with scene own plane source (columns plane at) n) (is_y.each plane fits at less);
+  each = λ plane fits at less. is.each plane fits at less ∙ sym (own-source scene func_index plane source (are.value_at x at) (are.value_at y at) same)
+      ∙ ap (λ (n : ℕ). reads_with scene func_index plane source n (are.value_at y at)) (is_x.each plane fits at less)
+      ∙ ap (λ (n : ℕ). reads_with scene func_index plane source (columns plane at) n) (is_y.each plane fits at less);
 }
 
 -- ---- expressions
 
 -- what is known along a line is what another one says that is the same
-pub says-same : (line : PointLine) (one other : Plane → ℕ → ℕ) (found : Option Row) → ((plane : Plane) (at : ℕ) → one plane at ≡ other plane at)
-    → IfSome found (IsShared line one) → IfSome found (IsShared line other)
+pub says-same : (line : PointLine) (one other : Plane → ℕ → ℕ) (found_row : Option Row) → ((plane : Plane) (at : ℕ) → one plane at ≡ other plane at)
+    → IfSome found_row (IsShared line one) → IfSome found_row (IsShared line other)
 says-same line one other None same is = is
 says-same line one other (Some row) same is = record { len = is.len; each = λ plane fits at less. is.each plane fits at less ∙ same plane at }
 
@@ -131,28 +133,28 @@ module _ (reads : Reads) (env : Environment) (e : Expr) where
       ap (λ (n : ℕ). reads source n (value reads env q)) (ap (value reads env) p_is) ∙ ap (reads source (value reads env a)) (ap (value reads env) q_is)
       ∙ sym (ap (value reads env) is ∙ at_call2 ℕ (value_at reads env) source a b)
 
-pub index-some : (scene : Scene) (own : ℕ) (line : PointLine) (index : Option Expr) (e : Expr) (found : Option Row) → index ≡ Some e
-    → IfSome found (IsShared line (λ plane at. value (reads_with scene own plane) (line_point line.along line.start at) e))
-    → IfSome found (IsShared line (λ plane at. index_value (reads_with scene own plane) (line_point line.along line.start at) index))
-index-some scene own line index e found is shared =
-    says-same line _ _ found (λ plane at. sym (ap (index_value (reads_with scene own plane) (line_point line.along line.start at)) is)) shared
+pub index-some : (scene : Scene) (func_index : ℕ) (line : PointLine) (index : Option Expr) (e : Expr) (found_row : Option Row) → index ≡ Some e
+    → IfSome found_row (IsShared line (λ plane at. value (reads_with scene func_index plane) (line_point line.along line.start at) e))
+    → IfSome found_row (IsShared line (λ plane at. index_value (reads_with scene func_index plane) (line_point line.along line.start at) index))
+index-some scene func_index line index e found_row is shared =
+    says-same line _ _ found_row (λ plane at. sym (ap (index_value (reads_with scene func_index plane) (line_point line.along line.start at)) is)) shared
 
 -- ---- what indices on the left read: the Funcs before, whatever the own one answers
 
-own-earlier : (scene : Scene) (own : ℕ) (source : Source) (x y : ℕ) → reads_with scene own (earlier_of scene own own) source x y
-    ≡ reads_in scene own states.Earlier source x y
-own-earlier scene own (sources.Input place) x y = refl
-own-earlier scene own (sources.Func place) x y = elim (cases_eq place own) [
+own-earlier : (scene : Scene) (func_index : ℕ) (source : Source) (x y : ℕ) → reads_with scene func_index (earlier_of scene func_index func_index) source x y
+    ≡ reads_in scene func_index states.Earlier source x y
+own-earlier scene func_index (sources.Input place) x y = refl
+own-earlier scene func_index (sources.Func place) x y = elim (cases_eq place func_index) [
   | inl same ↦
-      let test : (place == own) ≡ true = eq-eqb place own same in
-      rw test (ap (λ (n : ℕ). earlier_of scene own n x y) (sym same))
+      let test : (place == func_index) ≡ true = eq-eqb place func_index same in
+      rw test (ap (λ (n : ℕ). earlier_of scene func_index n x y) (sym same))
   | inr other ↦
-      let test : (place == own) ≡ false = ne_eqb place own other in
+      let test : (place == func_index) ≡ false = ne_eqb place func_index other in
       rw test refl
 ]
 
-pub reads-earlier : (scene : Scene) (own : ℕ) → reads_with scene own (earlier_of scene own own) ≡ reads_in scene own states.Earlier
-reads-earlier scene own = λ i source x y. own-earlier scene own source x y i
+pub reads-earlier : (scene : Scene) (func_index : ℕ) → reads_with scene func_index (earlier_of scene func_index func_index) ≡ reads_in scene func_index states.Earlier
+reads-earlier scene func_index = λ i source x y. own-earlier scene func_index source x y i
 
 -- ---- values written one by one
 
@@ -198,12 +200,12 @@ column-row width plane x y column first values x_is y_is is =
 
 -- ---- what the own Func has along a line
 
-pub long-of : (width : ℕ) (says : ℕ → ℕ) (found : Option Row) → IfSome found (are.IsRow width says) → IfSome found (are.HasLength width)
+pub long-of : (width : ℕ) (says : ℕ → ℕ) (found_row : Option Row) → IfSome found_row (are.IsRow width says) → IfSome found_row (are.HasLength width)
 long-of width says None is = tt
 long-of width says (Some row) is = is.len
 
-pub shared-known : (line : PointLine) (says : Plane → ℕ → ℕ) (found : Option Row) → IfSome found (are.HasLength line.width)
-    → ((plane : Plane) → Fits line plane → IfSome found (are.IsRow line.width (says plane))) → IfSome found (IsShared line says)
+pub shared-known : (line : PointLine) (says : Plane → ℕ → ℕ) (found_row : Option Row) → IfSome found_row (are.HasLength line.width)
+    → ((plane : Plane) → Fits line plane → IfSome found_row (are.IsRow line.width (says plane))) → IfSome found_row (IsShared line says)
 shared-known line says None long is = tt
 shared-known line says (Some row) long is = record { len = long; each = λ plane fits at less. (is plane fits).each at less }
 

@@ -29,38 +29,38 @@ use Rattle.picture_rows.specs.declared.rows.Row.{Row}
 use Rattle.picture_rows.specs.declared.rows.Row.TheVariants as rows
 use Rattle.picture_rows.specs.Rows as are
 
-pub own-call1 : (scene : Scene) (own width : ℕ) (start : Environment) (e : Expr) (source : Source) (a p : Expr) (indices : Indices) → e ≡ exprs.Call1 source a
-    → p ≡ a → is_own own source ≡ true
-    → IsShared (reduction_line width start) (λ plane at. value (reads_with scene own plane) (row_point start at) p) indices.x → indices.y ≡ rows.Same 0
-    → AreIndices width (λ plane at. value (reads_with scene own plane) (row_point start at) e) indices
+pub own-call1 : (scene : Scene) (func_index width : ℕ) (start : Environment) (e : Expr) (source : Source) (a p : Expr) (indices : Indices) → e ≡ exprs.Call1 source a
+    → p ≡ a → is_own func_index source ≡ true
+    → IsShared (reduction_line width start) (λ plane at. value (reads_with scene func_index plane) (row_point start at) p) indices.x → indices.y ≡ rows.Same 0
+    → AreIndices width (λ plane at. value (reads_with scene func_index plane) (row_point start at) e) indices
 unfolding value
-own-call1 scene own width start e source a p indices e_is p_is same is zero_is = record {
+own-call1 scene func_index width start e source a p indices e_is p_is same is zero_is = record {
   x_len = is.len;
   y_len = rw zero_is tt;
   each = λ plane at less.
-      let reads = reads_with scene own plane in
+      let reads = reads_with scene func_index plane in
       let env = row_point start at in
       ap (λ (n : ℕ). plane n (are.value_at indices.y at)) (is.each plane tt at less ∙ ap (value reads env) p_is)
       ∙ ap (λ (r : Row). plane (value reads env a) (are.value_at r at)) zero_is
-      ∙ sym (own-source scene own plane source (value reads env a) 0 same)
+      ∙ sym (own-source scene func_index plane source (value reads env a) 0 same)
       ∙ sym (ap (value reads env) e_is ∙ at_call1 ℕ (value_at reads env) source a);
 }
 
-pub own-call2 : (scene : Scene) (own width : ℕ) (start : Environment) (e : Expr) (source : Source) (a b p q : Expr) (indices : Indices)
-    → e ≡ exprs.Call2 source a b → p ≡ a → q ≡ b → is_own own source ≡ true
-    → IsShared (reduction_line width start) (λ plane at. value (reads_with scene own plane) (row_point start at) p) indices.x
-    → IsShared (reduction_line width start) (λ plane at. value (reads_with scene own plane) (row_point start at) q) indices.y
-    → AreIndices width (λ plane at. value (reads_with scene own plane) (row_point start at) e) indices
+pub own-call2 : (scene : Scene) (func_index width : ℕ) (start : Environment) (e : Expr) (source : Source) (a b p q : Expr) (indices : Indices)
+    → e ≡ exprs.Call2 source a b → p ≡ a → q ≡ b → is_own func_index source ≡ true
+    → IsShared (reduction_line width start) (λ plane at. value (reads_with scene func_index plane) (row_point start at) p) indices.x
+    → IsShared (reduction_line width start) (λ plane at. value (reads_with scene func_index plane) (row_point start at) q) indices.y
+    → AreIndices width (λ plane at. value (reads_with scene func_index plane) (row_point start at) e) indices
 unfolding value
-own-call2 scene own width start e source a b p q indices e_is p_is q_is same is_x is_y = record {
+own-call2 scene func_index width start e source a b p q indices e_is p_is q_is same is_x is_y = record {
   x_len = is_x.len;
   y_len = is_y.len;
   each = λ plane at less.
-      let reads = reads_with scene own plane in
+      let reads = reads_with scene func_index plane in
       let env = row_point start at in
       ap (λ (n : ℕ). plane n (are.value_at indices.y at)) (is_x.each plane tt at less ∙ ap (value reads env) p_is)
       ∙ ap (λ (n : ℕ). plane (value reads env a) n) (is_y.each plane tt at less ∙ ap (value reads env) q_is)
-      ∙ sym (own-source scene own plane source (value reads env a) (value reads env b) same)
+      ∙ sym (own-source scene func_index plane source (value reads env a) (value reads env b) same)
       ∙ sym (ap (value reads env) e_is ∙ at_call2 ℕ (value_at reads env) source a b);
 }
 
@@ -97,28 +97,29 @@ reduction-row update row at x y less =
 
 -- ---- stores
 
-pub store-of-row : (scene : Scene) (own updates number : ℕ) (update : Update) (start : Environment) (row : UpdateRow) (at : ℕ) (slice : Slice) (store : UpdateStore)
-    → IsUpdateRow scene own update.first.extent start update row → at < update.first.extent → at_reduction update number slice.x slice.y ≡ row_point start at
+pub store-of-row : (scene : Scene) (func_index updates number : ℕ) (update : Update) (start : Environment) (row : UpdateRow) (at : ℕ) (slice : Slice) (store : UpdateStore)
+    → IsUpdateRow scene func_index update.first.extent start update row → at < update.first.extent → at_reduction update number slice.x slice.y ≡ row_point start at
     → store.x ≡ are.value_at row.left_x at → store.y ≡ are.value_at row.left_y at
-    → store.value ≡ right_says row.right (after_of own (slice_get scene.funcs.now own) (inputs_of scene) (earlier_of scene own) updates number) at
-    → IsStore scene own updates number update slice store
-store-of-row scene own updates number update start row at slice store is less point x_is y_is value_is = record {
-  left_x = x_is ∙ is.left_x.each (earlier_of scene own own) tt at less ∙ ap (λ (reads : Reads). value reads (row_point start at) update.left_x)
-      (reads-earlier scene own)
-      ∙ ap (λ (env : Environment). value (reads_in scene own states.Earlier) env update.left_x) (sym point);
-  left_y = y_is ∙ is.left_y.each (earlier_of scene own own) tt at less ∙ ap (λ (reads : Reads). index_value reads (row_point start at) update.left_y)
-      (reads-earlier scene own)
-      ∙ ap (λ (env : Environment). index_value (reads_in scene own states.Earlier) env update.left_y) (sym point);
-  right = value_is ∙ is.right.each (after_of own (slice_get scene.funcs.now own) (inputs_of scene) (earlier_of scene own) updates number) at less
-      ∙ ap (λ (env : Environment). value (reads_in scene own (states.After updates number)) env update.right) (sym point);
+    → store.value ≡ right_says row.right (after_of func_index (slice_get scene.funcs.now func_index) (inputs_of scene) (earlier_of scene func_index) updates number) at
+    → IsStore scene func_index updates number update slice store
+store-of-row scene func_index updates number update start row at slice store is less point x_is y_is value_is = record {
+  left_x = x_is ∙ is.left_x.each (earlier_of scene func_index func_index) tt at less ∙ ap (λ (reads : Reads). value reads (row_point start at) update.left_x)
+      (reads-earlier scene func_index)
+      ∙ ap (λ (env : Environment). value (reads_in scene func_index states.Earlier) env update.left_x) (sym point);
+  left_y = y_is ∙ is.left_y.each (earlier_of scene func_index func_index) tt at less ∙ ap (λ (reads : Reads). index_value reads (row_point start at) update.left_y)
+      (reads-earlier scene func_index)
+      ∙ ap (λ (env : Environment). index_value (reads_in scene func_index states.Earlier) env update.left_y)
+      (sym point);
+  right = value_is ∙ is.right.each (after_of func_index (slice_get scene.funcs.now func_index) (inputs_of scene) (earlier_of scene func_index) updates number) at less
+      ∙ ap (λ (env : Environment). value (reads_in scene func_index (states.After updates number)) env update.right) (sym point);
 }
 
-pub one-store-more : (scene : Scene) (own : ℕ) (func : Func) (update : Update) (updates number : ℕ) (slice next : Slice) (store : UpdateStore)
-    → slice_get scene.funcs.now own ≡ Some func → slice_get func.updates updates ≡ Some update
-    → is_forward update ≡ true → IsOfUpdate update slice → IsStore scene own updates number update slice store → Puts slice next store
-    → IsForward scene own updates number slice → IsForward scene own updates (number + 1) next
-one-store-more scene own func update updates number slice next store is next_update forward of stores puts run =
-    forward_more scene own func update updates number slice next store.x store.y store.value is next_update forward of.first of.second stores.left_x
+pub one-store-more : (scene : Scene) (func_index : ℕ) (func : Func) (update : Update) (updates number : ℕ) (slice next : Slice) (store : UpdateStore)
+    → slice_get scene.funcs.now func_index ≡ Some func → slice_get func.updates updates ≡ Some update
+    → is_forward update ≡ true → IsOfUpdate update slice → IsStore scene func_index updates number update slice store → Puts slice next store
+    → IsForward scene func_index updates number slice → IsForward scene func_index updates (number + 1) next
+one-store-more scene func_index func update updates number slice next store is next_update forward of stores puts run =
+    forward_more scene func_index func update updates number slice next store.x store.y store.value is next_update forward of.first of.second stores.left_x
     stores.left_y stores.right
     puts.sets puts.place.x puts.place.y puts.place.first puts.place.second run
 

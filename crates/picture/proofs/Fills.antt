@@ -49,11 +49,11 @@ each_zipped P [] (first ∷ values) zip at value is = absurd zip
 each_zipped P (place ∷ places) (first ∷ values) zip zero value is = let e : first ≡ value = cc in subst P e zip.0
 each_zipped P (place ∷ places) (first ∷ values) zip (suc at) value is = each_zipped P places values zip.1 at value is
 
-pub slices_collected : (funcs : List Func) (pictures : List PictureContents) (own updates : ℕ) (places : List ℕ) (answer : Result (Vec Slice Global) AllocError)
-    → IfOk answer (λ v. AllZip (λ at slice. IsSliceOf funcs pictures own updates slice) places v.items)
-    → IfOk answer (λ v. AreSlicesOf funcs pictures own updates v.items)
-slices_collected funcs pictures own updates places (Ok v) zip = record { each = each_zipped (IsSliceOf funcs pictures own updates) places v.items zip }
-slices_collected funcs pictures own updates places (Err e) zip = tt
+pub slices_collected : (funcs : List Func) (pictures : List PictureContents) (func_index updates : ℕ) (places : List ℕ) (answer : Result (Vec Slice Global) AllocError)
+    → IfOk answer (λ v. AllZip (λ at slice. IsSliceOf funcs pictures func_index updates slice) places v.items)
+    → IfOk answer (λ v. AreSlicesOf funcs pictures func_index updates v.items)
+slices_collected funcs pictures func_index updates places (Ok v) zip = record { each = each_zipped (IsSliceOf funcs pictures func_index updates) places v.items zip }
+slices_collected funcs pictures func_index updates places (Err e) zip = tt
 
 pub boxes_collected : (plane : Plane) (places : List ℕ) (answer : Result (Vec Table Global) AllocError)
     → IfOk answer (λ v. AllZip (λ at table. IsTable plane table) places v.items) → IfOk answer (λ v. AreBoxes plane v.items)

@@ -24,24 +24,25 @@ use Rattle.picture.proofs.Levels.{reads-after}
 
 -- ---- before the first point
 
-after_some-zero : (own : ℕ) (update : Option Update) (inputs earlier : Planes) (before : Plane) (x y : ℕ) → after_some own update inputs earlier before 0 x y
+after_some-zero : (func_index : ℕ) (update : Option Update) (inputs earlier : Planes) (before : Plane) (x y : ℕ) → after_some func_index update inputs earlier before 0 x y
     ≡ before x y
 unfolding after
-after_some-zero own None inputs earlier before x y = refl
-after_some-zero own (Some update) inputs earlier before x y = refl
+after_some-zero func_index None inputs earlier before x y = refl
+after_some-zero func_index (Some update) inputs earlier before x y = refl
 
-after_of-zero : (own : ℕ) (func : Option Func) (inputs earlier : Planes) (updates x y : ℕ) → after_of own func inputs earlier updates 0 x y
-    ≡ stage_some own func inputs earlier updates x y
-after_of-zero own None inputs earlier updates x y = refl
-after_of-zero own (Some func) inputs earlier updates x y = after_some-zero own (slice_get func.updates updates) inputs earlier (stage own func inputs earlier
+after_of-zero : (func_index : ℕ) (func : Option Func) (inputs earlier : Planes) (updates x y : ℕ) → after_of func_index func inputs earlier updates 0 x y
+    ≡ stage_some func_index func inputs earlier updates x y
+after_of-zero func_index None inputs earlier updates x y = refl
+after_of-zero func_index (Some func) inputs earlier updates x y = after_some-zero func_index (slice_get func.updates updates) inputs earlier (stage func_index func inputs earlier
     updates) x y
 
-pub forward_none : (scene : Scene) (own updates : ℕ) (slice : Slice) → IsNone slice.writes → IsForward scene own updates 0 slice
-forward_none scene own updates slice none = record {
+pub forward_none : (scene : Scene) (func_index updates : ℕ) (slice : Slice) → IsNone slice.writes → IsForward scene func_index updates 0 slice
+forward_none scene func_index updates slice none = record {
   each = λ x y fits_x fits_y on.
-      subst (λ (o : Option ℕ). Holds o (after_of own (slice_get scene.funcs.now own) (inputs_of scene) (earlier_of scene own) updates 0 x y)
-      (stage_of scene own updates x y)) (sym (none.each x y))
-      (sym (after_of-zero own (slice_get scene.funcs.now own) (inputs_of scene) (earlier_of scene own) updates x y));
+      subst (λ (o : Option ℕ). Holds o (after_of func_index (slice_get scene.funcs.now func_index) (inputs_of scene) (earlier_of scene func_index) updates 0 x y)
+      (stage_of scene func_index updates x y)) (sym (none.each x y))
+      (sym (after_of-zero func_index (slice_get scene.funcs.now func_index) (inputs_of scene)
+      (earlier_of scene func_index) updates x y));
 }
 
 by_place : (test : Bool) (pixel now before : ℕ) → (test ≡ true → pixel ≡ now) → before ≡ now → Holds (cond test (Some pixel) None) now before
@@ -49,23 +50,27 @@ by_place true pixel now before own same = own refl
 by_place false pixel now before own same = same
 
 -- what was there before is written down
-pub forward_seeded : (scene : Scene) (own updates : ℕ) (func : Func) (blank slice : Slice) (x y pixel : ℕ) → slice_get scene.funcs.now own ≡ Some func
+pub forward_seeded : (scene : Scene) (func_index updates : ℕ) (func : Func) (blank slice : Slice) (x y pixel : ℕ) → slice_get scene.funcs.now func_index ≡ Some func
     → IsNone blank.writes → Sets blank.writes slice.writes x y pixel
-    → pixel ≡ stage own func (inputs_of scene) (earlier_of scene own) updates x y → IsForward scene own updates 0 slice
-forward_seeded scene own updates func blank slice x y pixel is none sets pixel_is = record {
+    → pixel ≡ stage func_index func (inputs_of scene) (earlier_of scene func_index) updates x y
+    → IsForward scene func_index updates 0 slice
+forward_seeded scene func_index updates func blank slice x y pixel is none sets pixel_is = record {
   each = λ i j fits_i fits_j on.
-      let now = after_of own (slice_get scene.funcs.now own) (inputs_of scene) (earlier_of scene own) updates 0 i j in
-      let before = stage_of scene own updates i j in
-      let same : before ≡ now = sym (after_of-zero own (slice_get scene.funcs.now own) (inputs_of scene) (earlier_of scene own) updates i j) in
-      let there : stage_of scene own updates x y ≡ stage own func (inputs_of scene) (earlier_of scene own) updates x y =
-      ap (λ (f : Option Func). stage_some own f (inputs_of scene) (earlier_of scene own) updates x y) is in
+      let now = after_of func_index (slice_get scene.funcs.now func_index) (inputs_of scene)
+      (earlier_of scene func_index) updates 0 i j in
+      let before = stage_of scene func_index updates i j in
+      let same : before ≡ now = sym (after_of-zero func_index (slice_get scene.funcs.now func_index) (inputs_of scene) (earlier_of scene func_index) updates i j) in
+      let there : stage_of scene func_index updates x y ≡ stage func_index func (inputs_of scene)
+      (earlier_of scene func_index) updates x y =
+      ap (λ (f : Option Func). stage_some func_index f (inputs_of scene) (earlier_of scene func_index) updates x y) is
+      in
       subst (λ (o : Option ℕ). Holds o now before) (sym (sets.each i j fits_i fits_j ∙ ap (cond (i == x && j == y) (Some pixel)) (none.each i j)))
       (by_place (i == x && j == y) pixel now before
       (λ hit.
       let parts = and_parts (i == x) (j == y) hit in
       let at_i : i ≡ x = grind (arith, nat_tests, parts.0) in
       let at_j : j ≡ y = grind (arith, nat_tests, parts.1) in
-      pixel_is ∙ sym there ∙ ap (λ (n : ℕ). stage_of scene own updates n y) (sym at_i) ∙ ap (λ (n : ℕ). stage_of scene own updates i n) (sym at_j) ∙ same)
+      pixel_is ∙ sym there ∙ ap (λ (n : ℕ). stage_of scene func_index updates n y) (sym at_i) ∙ ap (λ (n : ℕ). stage_of scene func_index updates i n) (sym at_j) ∙ same)
       same);
 }
 
@@ -138,25 +143,27 @@ same_sides update one other used = record {
 
 -- ---- one point further
 
-after_of-known : (scene : Scene) (own : ℕ) (func : Func) (update : Update) (updates number x y : ℕ) → slice_get scene.funcs.now own ≡ Some func
+after_of-known : (scene : Scene) (func_index : ℕ) (func : Func) (update : Update) (updates number x y : ℕ) → slice_get scene.funcs.now func_index ≡ Some func
     → slice_get func.updates updates ≡ Some update
-    → after_of own (slice_get scene.funcs.now own) (inputs_of scene) (earlier_of scene own) updates number x y ≡ after own update (inputs_of scene)
-    (earlier_of scene own) (stage own func (inputs_of scene) (earlier_of scene own) updates) number x y
-after_of-known scene own func update updates number x y is next =
-    ap (λ (f : Option Func). after_of own f (inputs_of scene) (earlier_of scene own) updates number x y) is
-    ∙ ap (λ (u : Option Update). after_some own u (inputs_of scene) (earlier_of scene own) (stage own func (inputs_of scene) (earlier_of scene own) updates)
+    → after_of func_index (slice_get scene.funcs.now func_index) (inputs_of scene) (earlier_of scene func_index) updates number x y ≡ after func_index update (inputs_of scene)
+    (earlier_of scene func_index) (stage func_index func (inputs_of scene) (earlier_of scene func_index) updates) number
+    x y
+after_of-known scene func_index func update updates number x y is next =
+    ap (λ (f : Option Func). after_of func_index f (inputs_of scene) (earlier_of scene func_index) updates number x y)
+    is
+    ∙ ap (λ (u : Option Update). after_some func_index u (inputs_of scene) (earlier_of scene func_index) (stage func_index func (inputs_of scene) (earlier_of scene func_index) updates)
     number x y) next
 
--- what stands after one more point
-pub after-suc : (own : ℕ) (update : Update) (inputs earlier : Planes) (before : Plane) (number x y : ℕ)
-    → after own update inputs earlier before (number + 1) x y
+-- what is after one more point
+pub after-suc : (func_index : ℕ) (update : Update) (inputs earlier : Planes) (before : Plane) (number x y : ℕ)
+    → after func_index update inputs earlier before (number + 1) x y
     ≡ cond (is_hit (reads_of inputs earlier) update (at_reduction update number x y))
-    (value (reads_of inputs (with_plane own (after own update inputs earlier before number) earlier)) (at_reduction update number x y) update.right)
-    (after own update inputs earlier before number x y)
+    (value (reads_of inputs (with_plane func_index (after func_index update inputs earlier before number) earlier)) (at_reduction update number x y) update.right)
+    (after func_index update inputs earlier before number x y)
 unfolding after
-after-suc own update inputs earlier before number x y =
+after-suc func_index update inputs earlier before number x y =
     let e : number + 1 ≡ suc number = omega arith in
-    ap (λ (n : ℕ). after own update inputs earlier before n x y) e
+    ap (λ (n : ℕ). after func_index update inputs earlier before n x y) e
 
 -- a write, or what was before
 holds_next : (hit : Bool) (one : ℕ) (o : Option ℕ) (next now before : ℕ) → next ≡ cond hit one now → Holds o now before
@@ -174,21 +181,22 @@ swap_test i a = elim (cases_eq i a) [
 swap_tests : (i j a b : ℕ) → (i == a && j == b) ≡ (a == i && b == j)
 swap_tests i j a b = ap (λ (t : Bool). t && j == b) (swap_test i a) ∙ ap (λ (t : Bool). a == i && t) (swap_test j b)
 
-pub forward_more : (scene : Scene) (own : ℕ) (func : Func) (update : Update) (updates number : ℕ) (slice next : Slice) (left_x left_y right : ℕ)
-    → slice_get scene.funcs.now own ≡ Some func → slice_get func.updates updates ≡ Some update
+pub forward_more : (scene : Scene) (func_index : ℕ) (func : Func) (update : Update) (updates number : ℕ) (slice next : Slice) (left_x left_y right : ℕ)
+    → slice_get scene.funcs.now func_index ≡ Some func → slice_get func.updates updates ≡ Some update
     → is_forward update ≡ true → slice.is_first_in_place ≡ is_first_in_place update → slice.is_second_in_place ≡ is_second_in_place update
-    → left_x ≡ value (reads_in scene own states.Earlier) (at_reduction update number slice.x slice.y) update.left_x
-    → left_y ≡ index_value (reads_in scene own states.Earlier) (at_reduction update number slice.x slice.y) update.left_y
-    → right ≡ value (reads_in scene own (states.After updates number)) (at_reduction update number slice.x slice.y) update.right
+    → left_x ≡ value (reads_in scene func_index states.Earlier) (at_reduction update number slice.x slice.y)
+    update.left_x
+    → left_y ≡ index_value (reads_in scene func_index states.Earlier) (at_reduction update number slice.x slice.y) update.left_y
+    → right ≡ value (reads_in scene func_index (states.After updates number)) (at_reduction update number slice.x slice.y) update.right
     → Sets slice.writes next.writes left_x left_y right → next.x ≡ slice.x → next.y ≡ slice.y → next.is_first_in_place ≡ slice.is_first_in_place
     → next.is_second_in_place ≡ slice.is_second_in_place
-    → IsForward scene own updates number slice → IsForward scene own updates (number + 1) next
-forward_more scene own func update updates number slice next left_x left_y right is next_update forward first second left_x_is left_y_is right_is sets next_x
+    → IsForward scene func_index updates number slice → IsForward scene func_index updates (number + 1) next
+forward_more scene func_index func update updates number slice next left_x left_y right is next_update forward first second left_x_is left_y_is right_is sets next_x
     next_y next_first next_second run = record {
       each = λ i j fits_i fits_j on.
           let inputs = inputs_of scene in
-          let earlier = earlier_of scene own in
-          let before = stage own func inputs earlier updates in
+          let earlier = earlier_of scene func_index in
+          let before = stage func_index func inputs earlier updates in
           let on_slice : is_on slice i j ≡ true =
           ap (λ (n : ℕ). (not slice.is_first_in_place || i == n) && (not slice.is_second_in_place || j == slice.y)) (sym next_x)
           ∙ ap (λ (n : ℕ). (not slice.is_first_in_place || i == next.x) && (not slice.is_second_in_place || j == n)) (sym next_y)
@@ -201,56 +209,62 @@ forward_more scene own func update updates number slice next left_x left_y right
           ap (λ (n : ℕ). n == i && index_value (reads_of inputs earlier) here update.left_y == j) (same.left_x (reads_of inputs earlier) ∙ sym left_x_is)
           ∙ ap (λ (n : ℕ). left_x == i && n == j) (same.left_y (reads_of inputs earlier) ∙ sym left_y_is)
           ∙ swap_tests left_x left_y i j in
-          let reads = reads-after scene own func update updates number is next_update in
-          let value_is : value (reads_of inputs (with_plane own (after own update inputs earlier before number) earlier)) here update.right ≡ right =
-          same.right (reads_of inputs (with_plane own (after own update inputs earlier before number) earlier))
+          let reads = reads-after scene func_index func update updates number is next_update in
+          let value_is : value (reads_of inputs (with_plane func_index (after func_index update inputs earlier before number) earlier)) here update.right ≡ right =
+          same.right (reads_of inputs (with_plane func_index (after func_index update inputs earlier before number)
+          earlier))
           ∙ ap (λ (answers : Reads). value answers there update.right) (sym reads) ∙ sym right_is in
-          let now = after_of own (slice_get scene.funcs.now own) inputs earlier updates number i j in
-          let then : after_of own (slice_get scene.funcs.now own) inputs earlier updates (number + 1) i j ≡ cond (i == left_x && j == left_y) right now =
-          after_of-known scene own func update updates (number + 1) i j is next_update
-          ∙ after-suc own update inputs earlier before number i j
-          ∙ ap (λ (b : Bool). cond b (value (reads_of inputs (with_plane own (after own update inputs earlier before number) earlier)) here update.right)
-          (after own update inputs earlier before number i j)) hit
-          ∙ ap (λ (n : ℕ). cond (i == left_x && j == left_y) n (after own update inputs earlier before number i j)) value_is
-          ∙ ap (λ (n : ℕ). cond (i == left_x && j == left_y) right n) (sym (after_of-known scene own func update updates number i j is next_update)) in
-          subst (λ (o : Option ℕ). Holds o (after_of own (slice_get scene.funcs.now own) inputs earlier updates (number + 1) i j) (stage_of scene own updates i
+          let now = after_of func_index (slice_get scene.funcs.now func_index) inputs earlier updates number i j in
+          let then : after_of func_index (slice_get scene.funcs.now func_index) inputs earlier updates (number + 1) i j ≡ cond (i == left_x && j == left_y) right now =
+          after_of-known scene func_index func update updates (number + 1) i j is next_update
+          ∙ after-suc func_index update inputs earlier before number i j
+          ∙ ap (λ (b : Bool). cond b (value (reads_of inputs (with_plane func_index (after func_index update inputs earlier before number) earlier)) here update.right)
+          (after func_index update inputs earlier before number i j)) hit
+          ∙ ap (λ (n : ℕ). cond (i == left_x && j == left_y) n (after func_index update inputs earlier before number i j)) value_is
+          ∙ ap (λ (n : ℕ). cond (i == left_x && j == left_y) right n) (sym (after_of-known scene func_index func update updates number i j is next_update)) in
+          subst (λ (o : Option ℕ). Holds o (after_of func_index (slice_get scene.funcs.now func_index) inputs earlier updates (number + 1) i j) (stage_of scene func_index updates i
           j))
           (sym (sets.each i j fits_i fits_j))
-          (holds_next (i == left_x && j == left_y) right (written slice.writes i j) (after_of own (slice_get scene.funcs.now own) inputs earlier updates
-          (number + 1) i j) now (stage_of scene own updates i j) then (run.each i j fits_i fits_j on_slice));
+          (holds_next (i == left_x && j == left_y) right (written slice.writes i j) (after_of func_index (slice_get scene.funcs.now func_index) inputs earlier updates
+          (number + 1) i j) now (stage_of scene func_index updates i j) then (run.each i j fits_i fits_j on_slice));
     }
 
 -- ---- all points
 
-pub stage-suc : (own : ℕ) (func : Func) (update : Update) (inputs earlier : Planes) (updates x y : ℕ) → 0 < updates
+pub stage-suc : (func_index : ℕ) (func : Func) (update : Update) (inputs earlier : Planes) (updates x y : ℕ)
+    → 0 < updates
     → slice_get func.updates (updates - 1) ≡ Some update
-    → stage own func inputs earlier updates x y ≡ after own update inputs earlier (stage own func inputs earlier (updates - 1)) (points update) x y
+    → stage func_index func inputs earlier updates x y ≡ after func_index update inputs earlier (stage func_index func inputs earlier (updates - 1)) (points update) x y
 unfolding stage
-stage-suc own func update inputs earlier zero x y some next = absurd (omega arith)
-stage-suc own func update inputs earlier (suc updates) x y some next =
+stage-suc func_index func update inputs earlier zero x y some next = absurd (omega arith)
+stage-suc func_index func update inputs earlier (suc updates) x y some next =
     let e : suc updates - 1 ≡ updates = omega arith in
     let next' : slice_get func.updates updates ≡ Some update = subst (λ (n : ℕ). slice_get func.updates n ≡ Some update) e next in
-    ap (λ (u : Option Update). after_all own u inputs earlier (stage own func inputs earlier updates) x y) next'
-    ∙ ap (λ (n : ℕ). after own update inputs earlier (stage own func inputs earlier n) (points update) x y) (sym e)
+    ap (λ (u : Option Update). after_all func_index u inputs earlier (stage func_index func inputs earlier updates) x y)
+    next'
+    ∙ ap (λ (n : ℕ). after func_index update inputs earlier (stage func_index func inputs earlier n) (points update) x
+    y) (sym e)
 
-pub slice_from_run : (scene : Scene) (own : ℕ) (func : Func) (update : Update) (updates : ℕ) (slice : Slice) → slice_get scene.funcs.now own ≡ Some func
+pub slice_from_run : (scene : Scene) (func_index : ℕ) (func : Func) (update : Update) (updates : ℕ) (slice : Slice) → slice_get scene.funcs.now func_index ≡ Some func
     → slice_get func.updates updates ≡ Some update
-    → IsForward scene own updates (points update) slice → IsSliceOf scene.funcs.now scene.pictures.now own updates slice
-slice_from_run scene own func update updates slice is next run = record {
+    → IsForward scene func_index updates (points update) slice → IsSliceOf scene.funcs.now scene.pictures.now func_index
+    updates slice
+slice_from_run scene func_index func update updates slice is next run = record {
   each = λ x y fits_x fits_y on.
       let e : updates + 1 - 1 ≡ updates = omega arith in
       let next' : slice_get func.updates (updates + 1 - 1) ≡ Some update = subst (λ (n : ℕ). slice_get func.updates n ≡ Some update) (sym e) next in
-      let now : after_of own (slice_get scene.funcs.now own) (inputs_of scene) (earlier_of scene own) updates (points update) x y
-      ≡ stage_in scene.funcs.now scene.pictures.now own (updates + 1) x y =
-      after_of-known scene own func update updates (points update) x y is next
-      ∙ ap (λ (n : ℕ). after own update (inputs_of scene) (earlier_of scene own) (stage own func (inputs_of scene) (earlier_of scene own) n) (points update) x
+      let now : after_of func_index (slice_get scene.funcs.now func_index) (inputs_of scene) (earlier_of scene func_index) updates (points update) x y
+      ≡ stage_in scene.funcs.now scene.pictures.now func_index (updates + 1) x y =
+      after_of-known scene func_index func update updates (points update) x y is next
+      ∙ ap (λ (n : ℕ). after func_index update (inputs_of scene) (earlier_of scene func_index) (stage func_index func (inputs_of scene) (earlier_of scene func_index) n) (points update) x
       y) (sym e)
-      ∙ sym (stage-suc own func update (inputs_of scene) (earlier_of scene own) (updates + 1) x y (omega arith) next')
-      ∙ ap (λ (f : Option Func). stage_some own f (inputs_of scene) (earlier_of scene own) (updates + 1) x y) (sym is) in
-      subst (λ (n : ℕ). Holds (written slice.writes x y) n (stage_of scene own updates x y)) now (run.each x y fits_x fits_y on);
+      ∙ sym (stage-suc func_index func update (inputs_of scene) (earlier_of scene func_index) (updates + 1) x y
+      (omega arith) next')
+      ∙ ap (λ (f : Option Func). stage_some func_index f (inputs_of scene) (earlier_of scene func_index) (updates + 1) x y) (sym is) in
+      subst (λ (n : ℕ). Holds (written slice.writes x y) n (stage_of scene func_index updates x y)) now (run.each x y fits_x fits_y on);
 }
 
 -- a stage of a Func that is known
-pub stage_in-known : (scene : Scene) (own : ℕ) (func : Func) (updates x y : ℕ) → slice_get scene.funcs.now own ≡ Some func
-    → stage_in scene.funcs.now scene.pictures.now own updates x y ≡ stage own func (inputs_of scene) (earlier_of scene own) updates x y
-stage_in-known scene own func updates x y is = ap (λ (f : Option Func). stage_some own f (inputs_of scene) (earlier_of scene own) updates x y) is
+pub stage_in-known : (scene : Scene) (func_index : ℕ) (func : Func) (updates x y : ℕ) → slice_get scene.funcs.now func_index ≡ Some func
+    → stage_in scene.funcs.now scene.pictures.now func_index updates x y ≡ stage func_index func (inputs_of scene) (earlier_of scene func_index) updates x y
+stage_in-known scene func_index func updates x y is = ap (λ (f : Option Func). stage_some func_index f (inputs_of scene) (earlier_of scene func_index) updates x y) is

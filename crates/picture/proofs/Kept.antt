@@ -34,15 +34,16 @@ by_test true pixel value wanted before own others e =
     sym same ∙ own refl
 by_test false pixel value wanted before own others e = others e
 
-pub one_more_kept : (funcs : List Func) (pictures : List PictureContents) (old new : Memo) (place x y pixel : ℕ) → IsMemo funcs pictures old
-    → pixel ≡ plane_in funcs pictures place x y
-    → Remembers old new place x y pixel → IsMemo funcs pictures new
-one_more_kept funcs pictures old new place x y pixel are is more = record {
+pub one_more_kept : (funcs : List Func) (pictures : List PictureContents) (old new : Memo) (func_index x y pixel : ℕ) → IsMemo funcs pictures old
+    → pixel ≡ plane_in funcs pictures func_index x y
+    → Remembers old new func_index x y pixel → IsMemo funcs pictures new
+one_more_kept funcs pictures old new func_index x y pixel are is more = record {
   each = λ at i j value fits_i fits_j found.
-      by_test (at == place && i == x && j == y) pixel value (plane_in funcs pictures at i j) (remembered old at i j)
+      by_test (at == func_index && i == x && j == y) pixel value (plane_in funcs pictures at i j)
+      (remembered old at i j)
       (λ same.
-      let parts = all_three (at == place) (i == x) (j == y) same in
-      is ∙ ap (λ (n : ℕ). plane_in funcs pictures n x y) (sym (from_test at place parts.0))
+      let parts = all_three (at == func_index) (i == x) (j == y) same in
+      is ∙ ap (λ (n : ℕ). plane_in funcs pictures n x y) (sym (from_test at func_index parts.0))
       ∙ ap (λ (n : ℕ). plane_in funcs pictures at n y) (sym (from_test i x parts.1))
       ∙ ap (λ (n : ℕ). plane_in funcs pictures at i n) (sym (from_test j y parts.2)))
       (are.each at i j value fits_i fits_j)
@@ -50,12 +51,12 @@ one_more_kept funcs pictures old new place x y pixel are is more = record {
 }
 
 -- a pixel of a Func without updates
-pub pure-pixel : (scene : Scene) (place : ℕ) (func : Func) (x y : ℕ) (point : Environment) (found : Option ℕ) → slice_get scene.funcs.now place ≡ Some func
+pub pure-pixel : (scene : Scene) (func_index : ℕ) (func : Func) (x y : ℕ) (point : Environment) (found : Option ℕ) → slice_get scene.funcs.now func_index ≡ Some func
     → func.updates ≡ [] → point ≡ at_point x y
-    → IfSome found (λ v. v ≡ value (reads_in scene place states.Earlier) point func.pure) → IfSome found (λ v. v ≡ plane_of scene place x y)
+    → IfSome found (λ v. v ≡ value (reads_in scene func_index states.Earlier) point func.pure) → IfSome found (λ v. v ≡ plane_of scene func_index x y)
 unfolding stage
-pure-pixel scene place func x y point None is none at_is found = found
-pure-pixel scene place func x y point (Some v) is none at_is found =
-    found ∙ ap (λ (p : Environment). value (reads_in scene place states.Earlier) p func.pure) at_is
-    ∙ ap (λ (n : ℕ). stage place func (inputs_of scene) (earlier_of scene place) n x y) (sym (ap length none))
-    ∙ ap (λ (f : Option Func). func_plane place f (inputs_of scene) (earlier_of scene place) x y) (sym is)
+pure-pixel scene func_index func x y point None is none at_is found = found
+pure-pixel scene func_index func x y point (Some v) is none at_is found =
+    found ∙ ap (λ (p : Environment). value (reads_in scene func_index states.Earlier) p func.pure) at_is
+    ∙ ap (λ (n : ℕ). stage func_index func (inputs_of scene) (earlier_of scene func_index) n x y) (sym (ap length none))
+    ∙ ap (λ (f : Option Func). func_plane func_index f (inputs_of scene) (earlier_of scene func_index) x y) (sym is)

@@ -20,15 +20,17 @@ abbrev pub last : Scene → ℕ
 last scene = all_updates scene.funcs.now + 1
 
 abbrev pub level : Scene → ℕ → ℕ → ℕ → ℕ
-level scene own updates number = (own * (all_updates scene.funcs.now + 2) + updates) * 2 ^ 65 + number
+level scene func_index updates number = (func_index * (all_updates scene.funcs.now + 2) + updates) * 2 ^ 65 + number
 
 unfoldable pub measure : Scene → ℕ → ℕ → ℕ → ℕ → ℕ
-measure scene own updates number size = level scene own updates number * (all_nodes scene.funcs.now + 8) + size
+measure scene func_index updates number size = level scene func_index updates number * (all_nodes scene.funcs.now + 8) +
+    size
 
 abbrev pub state_measure : Scene → ℕ → FuncState → ℕ → ℕ
-state_measure scene own states.Earlier size = measure scene own 0 0 size
-state_measure scene own (states.After updates number) size = measure scene own (updates + 1) number size
-state_measure scene own (states.Forward updates number slice) size = measure scene own (updates + 1) number size
+state_measure scene func_index states.Earlier size = measure scene func_index 0 0 size
+state_measure scene func_index (states.After updates number) size = measure scene func_index (updates + 1) number size
+state_measure scene func_index (states.Forward updates number slice) size = measure scene func_index (updates + 1)
+    number size
 
 -- ---- what is less
 
@@ -39,23 +41,23 @@ below width low high small big less fits =
     omega (arith, more, one)
 
 -- a smaller part, at the same place
-pub less_size : (scene : Scene) (own updates number small big : ℕ) → small < big → measure scene own updates number small < measure scene own updates number big
+pub less_size : (scene : Scene) (func_index updates number small big : ℕ) → small < big → measure scene func_index updates number small < measure scene func_index updates number big
 unfolding measure
-less_size scene own updates number small big less = omega arith
+less_size scene func_index updates number small big less = omega arith
 
 -- fewer points
-pub less_number : (scene : Scene) (own updates low high small big : ℕ) → low < high → small < all_nodes scene.funcs.now + 8
-    → measure scene own updates low small < measure scene own updates high big
+pub less_number : (scene : Scene) (func_index updates low high small big : ℕ) → low < high → small < all_nodes scene.funcs.now + 8
+    → measure scene func_index updates low small < measure scene func_index updates high big
 unfolding measure
-less_number scene own updates low high small big less fits =
-    below (all_nodes scene.funcs.now + 8) (level scene own updates low) (level scene own updates high) small big (omega arith) fits
+less_number scene func_index updates low high small big less fits =
+    below (all_nodes scene.funcs.now + 8) (level scene func_index updates low) (level scene func_index updates high) small big (omega arith) fits
 
 -- an earlier update
-pub less_updates : (scene : Scene) (own low high number more small big : ℕ) → low < high → number < 2 ^ 65 → small < all_nodes scene.funcs.now + 8
-    → measure scene own low number small < measure scene own high more big
+pub less_updates : (scene : Scene) (func_index low high number more small big : ℕ) → low < high → number < 2 ^ 65 → small < all_nodes scene.funcs.now + 8
+    → measure scene func_index low number small < measure scene func_index high more big
 unfolding measure
-less_updates scene own low high number more small big less few fits =
-    below (all_nodes scene.funcs.now + 8) (level scene own low number) (level scene own high more) small big (omega arith) fits
+less_updates scene func_index low high number more small big less few fits =
+    below (all_nodes scene.funcs.now + 8) (level scene func_index low number) (level scene func_index high more) small big (omega arith) fits
 
 -- an earlier Func
 pub less_own : (scene : Scene) (low high updates upto number more small big : ℕ) → low < high → updates < all_updates scene.funcs.now + 2 → number < 2 ^ 65
@@ -69,12 +71,12 @@ less_own scene low high updates upto number more small big less last few fits =
 
 -- ---- parts are no larger than the whole
 
-pub pure_nodes : (funcs : List Func) (own : ℕ) (func : Func) → slice_get funcs own ≡ Some func → nodes func.pure ≤ all_nodes funcs
+pub pure_nodes : (funcs : List Func) (func_index : ℕ) (func : Func) → slice_get funcs func_index ≡ Some func → nodes func.pure ≤ all_nodes funcs
 unfolding all_nodes
-pure_nodes [] own func e = absurd cc
+pure_nodes [] func_index func e = absurd cc
 pure_nodes (first ∷ funcs) zero func e = let same : first ≡ func = cc in let n : nodes first.pure ≡ nodes func.pure = ap (λ (f : Func). nodes f.pure) same in
     omega (arith, n)
-pure_nodes (first ∷ funcs) (suc own) func e = omega (arith, pure_nodes funcs own func e)
+pure_nodes (first ∷ funcs) (suc func_index) func e = omega (arith, pure_nodes funcs func_index func e)
 
 update_in : (updates : List Update) (at : ℕ) (update : Update) → slice_get updates at ≡ Some update → update_nodes update ≤ updates_nodes updates
 update_in [] at update e = absurd cc
@@ -82,28 +84,29 @@ update_in (first ∷ updates) zero update e = let same : first ≡ update = cc i
     omega (arith, n)
 update_in (first ∷ updates) (suc at) update e = omega (arith, update_in updates at update e)
 
-pub in_updates : (funcs : List Func) (own at : ℕ) (func : Func) (update : Update) → slice_get funcs own ≡ Some func → slice_get func.updates at ≡ Some update
+pub in_updates : (funcs : List Func) (func_index at : ℕ) (func : Func) (update : Update) → slice_get funcs func_index ≡ Some func → slice_get func.updates at ≡ Some update
     → update_nodes update ≤ all_nodes funcs
 unfolding all_nodes
-in_updates [] own at func update e u = absurd cc
+in_updates [] func_index at func update e u = absurd cc
 in_updates (first ∷ funcs) zero at func update e u =
     let same : first ≡ func = cc in
     let n : updates_nodes first.updates ≡ updates_nodes func.updates = ap (λ (f : Func). updates_nodes f.updates) same in
     omega (arith, n, update_in func.updates at update u)
-in_updates (first ∷ funcs) (suc own) at func update e u = omega (arith, in_updates funcs own at func update e u)
+in_updates (first ∷ funcs) (suc func_index) at func update e u = omega
+    (arith, in_updates funcs func_index at func update e u)
 
-pub length-updates : (funcs : List Func) (own : ℕ) (func : Func) → slice_get funcs own ≡ Some func → length func.updates ≤ all_updates funcs
+pub length-updates : (funcs : List Func) (func_index : ℕ) (func : Func) → slice_get funcs func_index ≡ Some func → length func.updates ≤ all_updates funcs
 unfolding all_updates
-length-updates [] own func e = absurd cc
+length-updates [] func_index func e = absurd cc
 length-updates (first ∷ funcs) zero func e = let same : first ≡ func = cc in let n : length first.updates ≡ length func.updates =
     ap (λ (f : Func). length f.updates) same in omega (arith, n)
-length-updates (first ∷ funcs) (suc own) func e = omega (arith, length-updates funcs own func e)
+length-updates (first ∷ funcs) (suc func_index) func e = omega (arith, length-updates funcs func_index func e)
 
-pub less_in_state : (scene : Scene) (own : ℕ) (state : FuncState) (small big : ℕ) → small < big
-    → state_measure scene own state small < state_measure scene own state big
-less_in_state scene own states.Earlier small big less = less_size scene own 0 0 small big less
-less_in_state scene own (states.After updates number) small big less = less_size scene own (updates + 1) number small big less
-less_in_state scene own (states.Forward updates number slice) small big less = less_size scene own (updates + 1) number small big less
+pub less_in_state : (scene : Scene) (func_index : ℕ) (state : FuncState) (small big : ℕ) → small < big
+    → state_measure scene func_index state small < state_measure scene func_index state big
+less_in_state scene func_index states.Earlier small big less = less_size scene func_index 0 0 small big less
+less_in_state scene func_index (states.After updates number) small big less = less_size scene func_index (updates + 1) number small big less
+less_in_state scene func_index (states.Forward updates number slice) small big less = less_size scene func_index (updates + 1) number small big less
 
 -- ---- the nodes of each kind of expression
 

@@ -81,7 +81,7 @@ abbrev pub sign : Bool → List ℕ
 sign true = 45 ∷ []
 sign false = []
 
--- a text, and the number that was read at its front with what stands after
+-- a text, and the number that was read at its front with what is after
 pub record HasNumeral (text : List ℕ) (read : Numeral × List ℕ) : Type 0 where
   pub text_is : text ≡ sign read.0.negative ++ (read.0.digits ++ read.1)
   pub digits : list_all is_digit read.0.digits ≡ true

@@ -22,16 +22,16 @@ unfolding word.subtract
 subtract-zero x fits = omega arith
 
 -- the last Funcs' planes are those of all
-func_plane-past : (place : ℕ) (func : Option Func) (inputs earlier : Planes) (x y : ℕ) → func ≡ None → func_plane place func inputs earlier x y ≡ 0
-func_plane-past place func inputs earlier x y e = rw e refl
+func_plane-past : (func_index : ℕ) (func : Option Func) (inputs earlier : Planes) (x y : ℕ) → func ≡ None → func_plane func_index func inputs earlier x y ≡ 0
+func_plane-past func_index func inputs earlier x y e = rw e refl
 
-pub plane_of-all : (funcs : List Func) (given : List PictureContents) (place x y : ℕ)
-    → plane_in funcs given place x y ≡ pixels funcs (input_planes given) (length funcs) place x y
-plane_of-all funcs given place x y = elim (cases_lt place (length funcs)) [
-  | inl before ↦ sym (pixels-before funcs (input_planes given) (length funcs) place x y before)
+pub plane_of-all : (funcs : List Func) (given : List PictureContents) (func_index x y : ℕ)
+    → plane_in funcs given func_index x y ≡ pixels funcs (input_planes given) (length funcs) func_index x y
+plane_of-all funcs given func_index x y = elim (cases_lt func_index (length funcs)) [
+  | inl before ↦ sym (pixels-before funcs (input_planes given) (length funcs) func_index x y before)
   | inr past ↦
-      func_plane-past place (slice_get funcs place) (input_planes given) (pixels funcs (input_planes given) place) x y (slice_get_past funcs place past)
-      ∙ sym (pixels-past funcs (input_planes given) (length funcs) place x y past)
+      func_plane-past func_index (slice_get funcs func_index) (input_planes given) (pixels funcs (input_planes given) func_index) x y (slice_get_past funcs func_index past)
+      ∙ sym (pixels-past funcs (input_planes given) (length funcs) func_index x y past)
 ]
 
 -- parts that were accepted

@@ -31,33 +31,34 @@ everywhere update y first second = record {
       ap (λ (b : Bool). b && index_value reads point update.left_y == y) column ∙ row;
 }
 
-pub not-begun : (scene : Scene) (own : ℕ) (update : Update) (plane : Plane) (stretch : PixelSpan) (before pixels : List ℕ) → pixels ≡ before
+pub not-begun : (scene : Scene) (func_index : ℕ) (update : Update) (plane : Plane) (stretch : PixelSpan) (before pixels : List ℕ) → pixels ≡ before
     → IsRowOf plane stretch before
-    → IsRowOf (after own update (inputs_of scene) (earlier_of scene own) plane 0) stretch pixels
+    → IsRowOf (after func_index update (inputs_of scene) (earlier_of scene func_index) plane 0) stretch pixels
 unfolding after
-not-begun scene own update plane stretch before pixels same is = rw same (record { len = is.len; each = λ at less. is.each at less })
+not-begun scene func_index update plane stretch before pixels same is = rw same (record { len = is.len; each = λ at less. is.each at less })
 
-pub one-point-more : (scene : Scene) (own : ℕ) (update : Update) (plane : Plane) (stretch : PixelSpan) (number : ℕ) (pixels : List ℕ)
+pub one-point-more : (scene : Scene) (func_index : ℕ) (update : Update) (plane : Plane) (stretch : PixelSpan) (number : ℕ) (pixels : List ℕ)
     → StoresEverywhere update stretch.y
-    → IsRowOf (one_more scene own update number (after own update (inputs_of scene) (earlier_of scene own) plane number)) stretch pixels
-    → IsRowOf (after own update (inputs_of scene) (earlier_of scene own) plane (number + 1)) stretch pixels
-one-point-more scene own update plane stretch number pixels stores is = record {
+    → IsRowOf (one_more scene func_index update number (after func_index update (inputs_of scene) (earlier_of scene func_index) plane number)) stretch pixels
+    → IsRowOf (after func_index update (inputs_of scene) (earlier_of scene func_index) plane (number + 1)) stretch
+    pixels
+one-point-more scene func_index update plane stretch number pixels stores is = record {
   len = is.len;
   each = λ at less.
       let x = word.add stretch.left at in
       let inputs = inputs_of scene in
-      let earlier = earlier_of scene own in
-      let now = after own update inputs earlier plane number in
-      is.each at less ∙ sym (after-suc own update inputs earlier plane number x stretch.y
-      ∙ ap (λ (b : Bool). cond b (one_more scene own update number now x stretch.y) (now x stretch.y)) (stores.each (reads_of inputs earlier) number x));
+      let earlier = earlier_of scene func_index in
+      let now = after func_index update inputs earlier plane number in
+      is.each at less ∙ sym (after-suc func_index update inputs earlier plane number x stretch.y
+      ∙ ap (λ (b : Bool). cond b (one_more scene func_index update number now x stretch.y) (now x stretch.y)) (stores.each (reads_of inputs earlier) number x));
 }
 
 -- after all points of an update
-pub staged : (own : ℕ) (func : Func) (update : Update) (inputs earlier : Planes) (updates : ℕ) (stretch : PixelSpan) (pixels : List ℕ) → 0 < updates
+pub staged : (func_index : ℕ) (func : Func) (update : Update) (inputs earlier : Planes) (updates : ℕ) (stretch : PixelSpan) (pixels : List ℕ) → 0 < updates
     → slice_get func.updates (updates - 1) ≡ Some update
-    → IsRowOf (after own update inputs earlier (stage own func inputs earlier (updates - 1)) (points update)) stretch pixels
-    → IsRowOf (stage own func inputs earlier updates) stretch pixels
-staged own func update inputs earlier updates stretch pixels some next is = record {
+    → IsRowOf (after func_index update inputs earlier (stage func_index func inputs earlier (updates - 1)) (points update)) stretch pixels
+    → IsRowOf (stage func_index func inputs earlier updates) stretch pixels
+staged func_index func update inputs earlier updates stretch pixels some next is = record {
   len = is.len;
-  each = λ at less. is.each at less ∙ sym (stage-suc own func update inputs earlier updates (word.add stretch.left at) stretch.y some next);
+  each = λ at less. is.each at less ∙ sym (stage-suc func_index func update inputs earlier updates (word.add stretch.left at) stretch.y some next);
 }

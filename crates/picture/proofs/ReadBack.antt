@@ -57,7 +57,7 @@ pixel_of-Ok false text digits rest pixel has e =
       word = omega arith;
     }
 
--- a pixel at the front, and what stands after the word after it
+-- a pixel at the front, and what is after the word after it
 pub record HasPixel (word text : List ℕ) (read : ℕ × List ℕ) : Type 0 where
   pub text_is : text ≡ number_text read.0 ++ (word ++ read.1)
   pub fits : read.0 < 2 ^ 32

@@ -1,4 +1,4 @@
--- The rows of a picture as one sequence of pixels, each with what stands after it.
+-- The rows of a picture as one sequence of pixels, each with what is after it.
 use Rattle.std.proofs.Common.{◌≡◌, ℕ, zero, suc, ◌+◌, ◌-◌, ◌≤◌, ◌*◌, ◌%◌, ◌<◌, false, List, [], ◌∷◌, ◌++◌, length, get_or, take, drop, map, refl, sym, ap, ◌∙◌}
 use Rattle.std.proofs.Common.{append_assoc, arith}
 use Rattle.std.specs.Prelude.{◌==◌, codes}
@@ -13,7 +13,7 @@ unfoldable pub pixels_text : ℕ → List ℕ → List ℕ
 pixels_text width [] = []
 pixels_text width (pixel ∷ pixels) = number_text pixel ++ (separator width (length pixels) ++ pixels_text width pixels)
 
--- after so many rows a pixel is the last of its row, or not
+-- after this many rows a pixel is the last of its row, or not
 ends_row : (width rows : ℕ) → separator width (rows * width) ≡ codes "\n"
 ends_row width rows = rw (mul-mod_left rows width) refl
 

@@ -10,7 +10,7 @@ use Rattle.std.specs.List.{prefix_len, starts_with}
 use Rattle.line_text.specs.Lines.{is_digit, decimal_number}
 use Rattle.picture.specs.Reading.{behind, is_plain, numeral_at, pixel_of, pixel_then, plain_at}
 
--- a sign that is passed, where one stands in front
+-- a sign that is passed, where one is in front
 pub sign-passed : (text unsigned : List ℕ) (negative : Bool) (count : ℕ) → 1 ≤ length text → negative ≡ (get_or text 0 0 == 45) → count ≡ from_bool negative
     → unsigned ≡ drop count text → numeral_at text ≡ plain_at negative unsigned
 unfolding numeral_at

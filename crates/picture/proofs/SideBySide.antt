@@ -64,7 +64,7 @@ swap i a = elim (cases_eq i a) [
   | inr other ↦ ne_eqb i a other ∙ sym (ne_eqb a i (λ e. other (sym e)))
 ]
 
--- what stands at a point after one more point of the reduction box, by what that stores at another one of the same slice
+-- what is at a point after one more point of the reduction box, by what that stores at another one of the same slice
 pub one-more-point : (scene : Scene) (pass : Pass) (number i j x y left_x left_y right : ℕ) → is_forward pass.update.now ≡ true
     → (is_first_in_place pass.update.now ≡ true → i ≡ x) → (is_second_in_place pass.update.now ≡ true → j ≡ y)
     → left_x ≡ value (reads_of (inputs_of scene) (earlier_of scene pass.own)) (at_reduction pass.update.now number x y) pass.update.now.left_x
@@ -415,15 +415,16 @@ store-more row at x y pixel plane table x_is y_is pixel_is is =
 -- ---- pixels of a box
 
 -- pixels of the pure definition
-pub pure-stretch : (scene : Scene) (own : ℕ) (func : Func) (stretch : PixelSpan) (start : Environment) (row : Row) (pixels : List ℕ)
+pub pure-stretch : (scene : Scene) (func_index : ℕ) (func : Func) (stretch : PixelSpan) (start : Environment) (row : Row) (pixels : List ℕ)
     → start ≡ at_point stretch.left stretch.y
-    → ((plane : Plane) (at : ℕ) → at < stretch.width → value_at row at ≡ value (reads_with scene own plane) (pixel_point start at) func.pure)
-    → AreValues stretch.width (value_at row) pixels → IsRowOf (stage own func (inputs_of scene) (earlier_of scene own) 0) stretch pixels
+    → ((plane : Plane) (at : ℕ) → at < stretch.width → value_at row at ≡ value (reads_with scene func_index plane) (pixel_point start at) func.pure)
+    → AreValues stretch.width (value_at row) pixels → IsRowOf (stage func_index func (inputs_of scene) (earlier_of scene func_index) 0) stretch pixels
 unfolding stage
-pure-stretch scene own func stretch start row pixels start_is shared written = record {
+pure-stretch scene func_index func stretch start row pixels start_is shared written = record {
   len = written.len;
   each = λ at less.
-      written.each at less ∙ shared (earlier_of scene own own) at less ∙ ap (λ (reads : Reads). value reads (pixel_point start at) func.pure)
-      (reads-earlier scene own)
-      ∙ ap (λ (from : Environment). value (reads_in scene own states.Earlier) (pixel_point from at) func.pure) start_is;
+      written.each at less ∙ shared (earlier_of scene func_index func_index) at less ∙ ap (λ (reads : Reads). value reads (pixel_point start at) func.pure)
+      (reads-earlier scene func_index)
+      ∙ ap (λ (from : Environment). value (reads_in scene func_index states.Earlier) (pixel_point from at) func.pure)
+      start_is;
 }

@@ -42,12 +42,12 @@ pixel_at_place table plane x y column row at is fits_x fits_y fits_left fits_top
 -- ---- tables, one after the other
 
 -- an item after others
-got : {X : Type 0} (tables : List X) (table : X) (place : ℕ) (other : X) → slice_get (tables ++ table ∷ []) place ≡ Some other
-    → (slice_get tables place ≡ Some other) ⊎ ((place ≡ length tables) × (table ≡ other))
+got : {X : Type 0} (tables : List X) (table : X) (func_index : ℕ) (other : X) → slice_get (tables ++ table ∷ []) func_index ≡ Some other
+    → (slice_get tables func_index ≡ Some other) ⊎ ((func_index ≡ length tables) × (table ≡ other))
 got [] table zero other at = inr (refl, cc)
-got [] table (suc place) other at = absurd cc
+got [] table (suc func_index) other at = absurd cc
 got (first ∷ tables) table zero other at = inl at
-got (first ∷ tables) table (suc place) other at = elim (got tables table place other at) [
+got (first ∷ tables) table (suc func_index) other at = elim (got tables table func_index other at) [
   | inl before ↦ inl before
   | inr last ↦ inr (ap suc last.0, last.1)
 ]
@@ -57,15 +57,15 @@ pub one_more_table : (funcs : List Func) (pictures : List PictureContents) (tabl
     → AreTablesOf funcs pictures next
 one_more_table funcs pictures tables next table are is e =
     subst (λ (all : List Table). AreTablesOf funcs pictures all) (sym e) (record {
-      each = λ place other at. by_place place other (got tables table place other
+      each = λ func_index other at. by_place func_index other (got tables table func_index other
           at);
     })
   where
-    by_place : (place : ℕ) (other : Table) → (slice_get tables place ≡ Some other) ⊎ ((place ≡ length tables) × (table ≡ other))
-        → IsTable (plane_in funcs pictures place) other
-    by_place place other (inl before) = are.each place other before
-    by_place place other (inr last) =
-        subst (λ (t : Table). IsTable (plane_in funcs pictures place) t) last.1 (subst (λ (at : ℕ). IsTable (plane_in funcs pictures at) table) (sym last.0) is)
+    by_place : (func_index : ℕ) (other : Table) → (slice_get tables func_index ≡ Some other) ⊎ ((func_index ≡ length tables) × (table ≡ other))
+        → IsTable (plane_in funcs pictures func_index) other
+    by_place func_index other (inl before) = are.each func_index other before
+    by_place func_index other (inr last) =
+        subst (λ (t : Table). IsTable (plane_in funcs pictures func_index) t) last.1 (subst (λ (at : ℕ). IsTable (plane_in funcs pictures at) table) (sym last.0) is)
 
 -- an item of a list
 pub item-is : {X : Type 0} (items : List X) (at : ℕ) (item : X) → item ≡ get_or items at item → at < length items → slice_get items at ≡ Some item
@@ -75,10 +75,10 @@ item-is (first ∷ items) (suc at) item is less = item-is items at item is (omeg
 
 -- ---- what updates come to, one after the other
 
-pub known-at : (funcs : List Func) (pictures : List PictureContents) (known : List UpdatedPixels) (at : ℕ) (one : UpdatedPixels) (own updates : ℕ)
+pub known-at : (funcs : List Func) (pictures : List PictureContents) (known : List UpdatedPixels) (at : ℕ) (one : UpdatedPixels) (func_index updates : ℕ)
     → AreKnownOf funcs pictures known
-    → one ≡ get_or known at one → at < length known → one.own ≡ own → one.updates ≡ updates → IsKnown funcs pictures own updates one
-known-at funcs pictures known at one own updates are is less own_is updates_is =
+    → one ≡ get_or known at one → at < length known → one.own ≡ func_index → one.updates ≡ updates → IsKnown funcs pictures func_index updates one
+known-at funcs pictures known at one func_index updates are is less own_is updates_is =
     subst (λ (n : ℕ). IsKnown funcs pictures n updates one) own_is
     (subst (λ (n : ℕ). IsKnown funcs pictures one.own n one) updates_is (are.each at one (item-is known at one is less)))
 

@@ -21,15 +21,15 @@ number_of Number = 3
 
 -- ---- parts of a text
 
--- a value and what stands after it, or a fault
+-- a value and what is after it, or a fault
 abbrev pub Read : Type 0 → Type 0
 Read A = Result (A × List ℕ) PictureFault
 
--- what stands after this word
+-- what is after this word
 unfoldable pub behind : List ℕ → List ℕ → Result (List ℕ) PictureFault
 behind word text = if starts_with nat_eq text word then Ok (drop (length word) text) else Err Syntax
 
--- whether a sign stands before a number, and its digits
+-- whether a sign is before a number, and its digits
 pub record Numeral : Type 0 where
   pub negative : Bool
   pub digits : List ℕ
@@ -91,11 +91,11 @@ pixel_then word text =
     behind word numeral.1 >>= λ rest.
     Ok (pixel, rest)
 
--- what stands after a pixel that so many follow: a line feed after the last of a row
+-- what is after a pixel that this many follow: a line feed after the last of a row
 abbrev pub separator : ℕ → ℕ → List ℕ
 separator width left = if left % width == 0 then codes "\n" else codes " "
 
--- so many pixels, in rows of this width
+-- this many pixels, in rows of this width
 unfoldable pub pixels_at : ℕ → ℕ → List ℕ → Read (List ℕ)
 pixels_at width zero text = Ok ([], text)
 pixels_at width (suc left) text =
@@ -112,7 +112,7 @@ picture_at text =
     pixels_at heading.0.0 (heading.0.0 * heading.0.1) heading.1 >>= λ pixels.
     Ok (record { width = heading.0.0; height = heading.0.1; pixels = pixels.0 }, pixels.1)
 
--- nothing stands after the picture
+-- nothing is after the picture
 unfoldable pub ended : PictureContents → List ℕ → Result PictureContents PictureFault
 ended picture [] = Ok picture
 ended picture (byte ∷ text) = Err Syntax
@@ -140,7 +140,7 @@ number_text pixel = if nat_lt pixel (2 ^ 31) then decimal pixel else codes "-" +
 abbrev pub row_text : List ℕ → List ℕ
 row_text row = join_with_byte 32 (map number_text row) ++ codes "\n"
 
--- so many rows, each of this width
+-- this many rows, each of this width
 unfoldable pub rows_text : ℕ → ℕ → List ℕ → List ℕ
 rows_text width zero pixels = []
 rows_text width (suc rows) pixels = row_text (take width pixels) ++ rows_text width rows (drop width pixels)

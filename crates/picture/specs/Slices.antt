@@ -18,11 +18,11 @@ abbrev pub index_uses : Variable → Option Expr → Bool
 index_uses variable None = false
 index_uses variable (Some index) = uses variable index
 
--- the variable stands anywhere in the update
+-- the variable occurs anywhere in the update
 abbrev pub mentions : Variable → Update → Bool
 mentions variable update = uses variable update.left_x || index_uses variable update.left_y || uses variable update.right
 
--- an argument that isn't in place stands nowhere, so that the update can be run forward
+-- an argument that isn't in place occurs nowhere, so that the update can be run forward
 abbrev pub is_forward : Update → Bool
 is_forward update =
     (is_first_in_place update || not (mentions variables.FirstArgument update))

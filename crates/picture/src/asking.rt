@@ -29,41 +29,46 @@ struct AskedPixel {
 const MOST_DEPTH: usize = 512;
 
 /// Whether a pixel has to be kept before it is read.
-fn is_missing(scene: &Scene, place: usize, x: u32, y: u32) -> bool
+fn is_missing(scene: &Scene, func_index: usize, x: u32, y: u32) -> bool
     requires tables { AreTables scene.now }
 {
-    is_kept(scene.costs, place) && known_pixel(scene, place, x, y).is_none()
+    is_kept(scene.costs, func_index) && known_pixel(scene, func_index, x, y).is_none()
 }
 
 /// What a read answers in the pure definition of the Func at a place; none where that is asked for.
 fn ask(
     scene: &Scene,
-    own: usize,
+    func_index: usize,
     source: Source,
     x: u32,
     y: u32,
     asked: &mut Vec<AskedPixel>,
 ) -> Result<Option<u32>, AllocError>
     requires tables { AreTables scene.now }
-    ensures { IfOk result (λ found. IfSome found (λ pixel. pixel ≡ reads_in scene.now own states.Earlier source x y)) }
+    ensures { IfOk result (λ found. IfSome found (λ pixel. pixel ≡ reads_in scene.now func_index states.Earlier source x
+        y)) }
 {
-    if let Source::Func(place) = source {
-        if place >= own {
+    if let Source::Func(source_index) = source {
+        if source_index >= func_index {
             return Ok(None);
         }
-        if is_missing(scene, place, x, y) {
-            asked.push(AskedPixel { place, x, y })?;
+        if is_missing(scene, source_index, x, y) {
+            asked.push(AskedPixel {
+                place: source_index,
+                x,
+                y,
+            })?;
             return Ok(None);
         }
     }
-    let pixel = read(scene, own, FuncState::Earlier, source, x, y)?;
+    let pixel = read(scene, func_index, FuncState::Earlier, source, x, y)?;
     Ok(Some(pixel))
 }
 
 /// The same where the indices are known.
 fn ask_at(
     scene: &Scene,
-    own: usize,
+    func_index: usize,
     source: Source,
     x: Option<u32>,
     y: Option<u32>,
@@ -71,7 +76,8 @@ fn ask_at(
 ) -> Result<Option<u32>, AllocError>
     requires tables { AreTables scene.now }
     ensures { (column row : ℕ) → IfSome x (λ v. v ≡ column) → IfSome y (λ v. v ≡ row)
-        → IfOk result (λ found. IfSome found (λ pixel. pixel ≡ reads_in scene.now own states.Earlier source column
+        → IfOk result (λ found. IfSome found (λ pixel. pixel ≡ reads_in scene.now func_index states.Earlier source
+        column
         row)) }
 {
     let Some(x) = x else {
@@ -80,7 +86,7 @@ fn ask_at(
     let Some(y) = y else {
         return Ok(None);
     };
-    let pixel = ask(scene, own, source, x, y, asked)?;
+    let pixel = ask(scene, func_index, source, x, y, asked)?;
     Ok(pixel)
 }
 
@@ -123,49 +129,49 @@ fn remainder(a: Option<u32>, divisor: u32) -> Option<u32>
 #[tactic(auto, unfolding(halide_pipeline::specs::Pixel::value))]
 fn attempt(
     scene: &Scene,
-    own: usize,
+    func_index: usize,
     environment: &Environment,
     expr: &Expr,
     asked: &mut Vec<AskedPixel>,
 ) -> Result<Option<u32>, AllocError>
     requires tables { AreTables scene.now }
-    ensures { IfOk result (λ found. IfSome found (λ v. v ≡ spec.value (reads_in scene.now own states.Earlier)
+    ensures { IfOk result (λ found. IfSome found (λ v. v ≡ spec.value (reads_in scene.now func_index states.Earlier)
         environment.now expr.now)) }
 {
     match expr {
         Expr::Number(number) => Ok(Some(*number)),
         Expr::Variable(own_variable) => Ok(Some(variable(environment, *own_variable))),
         Expr::Binary(operation, a, b) => {
-            let a = attempt(scene, own, environment, a.get(), asked)?;
-            let b = attempt(scene, own, environment, b.get(), asked)?;
+            let a = attempt(scene, func_index, environment, a.get(), asked)?;
+            let b = attempt(scene, func_index, environment, b.get(), asked)?;
             Ok(both(*operation, a, b))
         }
         Expr::Divide(a, divisor) => {
-            let a = attempt(scene, own, environment, a.get(), asked)?;
+            let a = attempt(scene, func_index, environment, a.get(), asked)?;
             Ok(quotient(a, *divisor))
         }
         Expr::Remainder(a, divisor) => {
-            let a = attempt(scene, own, environment, a.get(), asked)?;
+            let a = attempt(scene, func_index, environment, a.get(), asked)?;
             Ok(remainder(a, *divisor))
         }
         Expr::Select(condition, a, b) => {
-            let condition = attempt(scene, own, environment, condition.get(), asked)?;
+            let condition = attempt(scene, func_index, environment, condition.get(), asked)?;
             let Some(condition) = condition else {
                 return Ok(None);
             };
             let chosen = if condition == 0 { b } else { a };
-            let chosen = attempt(scene, own, environment, chosen.get(), asked)?;
+            let chosen = attempt(scene, func_index, environment, chosen.get(), asked)?;
             Ok(chosen)
         }
         Expr::Call1(source, x) => {
-            let x = attempt(scene, own, environment, x.get(), asked)?;
-            let pixel = ask_at(scene, own, *source, x, Some(0), asked)?;
+            let x = attempt(scene, func_index, environment, x.get(), asked)?;
+            let pixel = ask_at(scene, func_index, *source, x, Some(0), asked)?;
             Ok(pixel)
         }
         Expr::Call2(source, x, y) => {
-            let x = attempt(scene, own, environment, x.get(), asked)?;
-            let y = attempt(scene, own, environment, y.get(), asked)?;
-            let pixel = ask_at(scene, own, *source, x, y, asked)?;
+            let x = attempt(scene, func_index, environment, x.get(), asked)?;
+            let y = attempt(scene, func_index, environment, y.get(), asked)?;
+            let pixel = ask_at(scene, func_index, *source, x, y, asked)?;
             Ok(pixel)
         }
     }
@@ -174,18 +180,18 @@ fn attempt(
 /// Asks for what a point of an update reads.
 fn ask_point(
     scene: &Scene,
-    own: usize,
+    func_index: usize,
     update: &Update,
     point: &Environment,
     asked: &mut Vec<AskedPixel>,
 ) -> Result<(), AllocError>
     requires tables { AreTables scene.now }
 {
-    attempt(scene, own, point, &update.left_x, asked)?;
+    attempt(scene, func_index, point, &update.left_x, asked)?;
     if let Some(left_y) = &update.left_y {
-        attempt(scene, own, point, left_y, asked)?;
+        attempt(scene, func_index, point, left_y, asked)?;
     }
-    attempt(scene, own, point, &update.right, asked)?;
+    attempt(scene, func_index, point, &update.right, asked)?;
     Ok(())
 }
 
@@ -383,7 +389,7 @@ fn prepare_row(
 /// Keeps what the pixels of the Func at a place in a box depend on.
 pub(crate) fn prepare_box(
     scene: &Scene,
-    place: usize,
+    func_index: usize,
     bounds: TableBounds,
     memo: &mut Memo,
 ) -> Result<(), AllocError>
@@ -392,16 +398,16 @@ pub(crate) fn prepare_box(
     requires memo { IsMemo scene.now.funcs.now scene.now.pictures.now memo.old }
     ensures { OnOk result (IsMemo scene.now.funcs.now scene.now.pictures.now memo.new) }
 {
-    let Some(func) = func_at(scene.funcs, place) else {
+    let Some(func) = func_at(scene.funcs, func_index) else {
         return Ok(());
     };
-    if !needs_kept(scene.costs, place) {
+    if !needs_kept(scene.costs, func_index) {
         return Ok(());
     }
     for row in 0..bounds.height {
         let y = words::add(bounds.top, row);
         let first = AskedPixel {
-            place,
+            place: func_index,
             x: bounds.left,
             y,
         };
@@ -413,7 +419,7 @@ pub(crate) fn prepare_box(
 /// Keeps what an update of the Func at a place reads on the slices on which it is to run.
 pub(crate) fn prepare_slices(
     scene: &Scene,
-    place: usize,
+    func_index: usize,
     func: &Func,
     wanted: Slices,
     memo: &mut Memo,
@@ -423,12 +429,12 @@ pub(crate) fn prepare_slices(
     requires memo { IsMemo scene.now.funcs.now scene.now.pictures.now memo.old }
     ensures { OnOk result (IsMemo scene.now.funcs.now scene.now.pictures.now memo.new) }
 {
-    if !needs_kept(scene.costs, place) {
+    if !needs_kept(scene.costs, func_index) {
         return Ok(());
     }
     for number in 0..wanted.count {
         let top = AskedPixel {
-            place,
+            place: func_index,
             x: words::add(wanted.left, number),
             y: words::add(wanted.top, number),
         };

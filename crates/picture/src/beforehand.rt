@@ -206,7 +206,7 @@ fn know_update(
 pub(crate) fn know_wanted(
     rt: &(impl Threads + Sync),
     scene: &Scene,
-    own: usize,
+    func_index: usize,
     wanted: WantedPoints,
     known: &mut Vec<UpdatedPixels>,
     memo: &mut Memo,
@@ -217,7 +217,7 @@ pub(crate) fn know_wanted(
     ensures known { OnOk result (AreKnownOf scene.now.funcs.now scene.now.pictures.now known.new.items) }
     ensures memo { OnOk result (IsMemo scene.now.funcs.now scene.now.pictures.now memo.new) }
 {
-    let Some(func) = func_at(scene.funcs, own) else {
+    let Some(func) = func_at(scene.funcs, func_index) else {
         return Ok(());
     };
     if !wanted.is_wanted() {
@@ -225,7 +225,7 @@ pub(crate) fn know_wanted(
     }
     for (updates, update) in func.updates.as_slice().iter().enumerate() {
         let pass = Pass {
-            own,
+            own: func_index,
             func,
             updates,
             update,

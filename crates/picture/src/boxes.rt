@@ -11,13 +11,13 @@ use crate::ranges::{
 use halide_pipeline::{Expr, Func, Output, Reduction, Source, Update};
 use std::alloc::{AllocError, Global};
 
-/// A table has at most so many pixels, and an update is run beforehand on at most so many slices.
+/// A table has at most this many pixels, and an update is run beforehand on at most this many slices.
 const MOST_POINTS: u64 = 2_097_152;
 
-/// The boxes in which an update is run beforehand on all slices have at most so many pixels.
+/// The boxes in which an update is run beforehand on all slices have at most this many pixels.
 const MOST_BOX_POINTS: u64 = 16_777_216;
 
-/// A Func has at most so many updates; none past these is run beforehand.
+/// A Func has at most this many updates; none past these is run beforehand.
 const MOST_UPDATES: usize = 4;
 
 /// Columns and rows at which pixels are wanted, and how many reads there are at most.
@@ -103,7 +103,7 @@ impl WantedPoints {
     }
 }
 
-/// Slices on which an update is run beforehand: so many, from the column and the row on.
+/// Slices on which an update is run beforehand: this many, from the column and the row on.
 #[derive(Clone, Copy)]
 pub(crate) struct Slices {
     pub left: u32,
@@ -111,7 +111,7 @@ pub(crate) struct Slices {
     pub count: u32,
 }
 
-/// Where a table stands: columns `left` on, rows `top` on.
+/// Where a table is: columns `left` on, rows `top` on.
 #[derive(Clone, Copy)]
 pub(crate) struct TableBounds {
     pub left: u32,
@@ -207,34 +207,34 @@ fn ask_update(update: &Update, area: WantedArea, values: Values, wanted: &mut Ve
 }
 
 /// Where the Func at a place is wanted so far.
-fn area_of(wanted: &Vec<WantedPoints>, place: usize) -> Option<WantedArea> {
-    match wanted.get(place) {
+fn area_of(wanted: &Vec<WantedPoints>, func_index: usize) -> Option<WantedArea> {
+    match wanted.get(func_index) {
         None => None,
         Some(own) => own.last,
     }
 }
 
 /// Asks for what the Func at a place reads for its own wanted pixels: the last update first, since it
-/// reads what stands after those before it.
-fn ask_func(func: &Func, place: usize, values: Values, wanted: &mut Vec<WantedPoints>) {
-    let last = area_of(wanted, place);
+/// reads what is after those before it.
+fn ask_func(func: &Func, func_index: usize, values: Values, wanted: &mut Vec<WantedPoints>) {
+    let last = area_of(wanted, func_index);
     let mut stages = [NOWHERE; MOST_UPDATES];
     for (updates, update) in func.updates.as_slice().iter().enumerate().rev() {
-        let behind = area_of(wanted, place);
+        let behind = area_of(wanted, func_index);
         if let Some(area) = behind {
             ask_update(update, area, values, wanted);
         }
-        let whole = area_of(wanted, place);
+        let whole = area_of(wanted, func_index);
         if let Some(stage) = stages.get_mut(updates) {
             *stage = WantedStage { behind, whole };
         }
     }
-    if let Some(area) = area_of(wanted, place) {
+    if let Some(area) = area_of(wanted, func_index) {
         let times = area.points().min(area.reads);
         let setting = pure_setting(area.columns, area.rows, times, values);
         range_of(&func.pure, &setting, wanted);
     }
-    if let Some(own) = wanted.get_mut(place) {
+    if let Some(own) = wanted.get_mut(func_index) {
         *own = WantedPoints { last, stages };
     }
 }
@@ -334,7 +334,7 @@ pub(crate) fn box_of(
     area.bounds(MOST_BOX_POINTS)
 }
 
-/// So many columns of a box make one part of it, if its columns are slices; else so many rows.
+/// This many columns of a box make one part of it, if its columns are slices; else this many rows.
 const PART_COLUMNS: u32 = 4096;
 
 const PART_ROWS: u32 = 256;

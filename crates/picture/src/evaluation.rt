@@ -92,16 +92,17 @@ pub fn judge(inputs: &[Input], pictures: &[Picture]) -> Option<EvalError>
 /// The pixels in the row with this number of a box of the Func at a place.
 fn numbered_row(
     scene: &Scene,
-    place: usize,
+    func_index: usize,
     bounds: TableBounds,
     number: usize,
 ) -> Result<Vec<u32>, AllocError>
     requires tables { AreTables scene.now }
-    ensures { IfOk result (λ row. IsNumberedRow (plane_of scene.now place) bounds.left bounds.top bounds.width number
+    ensures { IfOk result (λ row. IsNumberedRow (plane_of scene.now func_index) bounds.left bounds.top bounds.width
+        number
         row.items) }
 {
     let y = words::add(bounds.top, (number % (1 << 32)) as u32);
-    let row = pixel_row(scene, place, bounds.left, y, bounds.width as usize)?;
+    let row = pixel_row(scene, func_index, bounds.left, y, bounds.width as usize)?;
     Ok(row)
 }
 
@@ -109,11 +110,12 @@ fn numbered_row(
 fn fill(
     rt: &(impl Threads + Sync),
     scene: &Scene,
-    place: usize,
+    func_index: usize,
     bounds: TableBounds,
 ) -> Result<Vec<Vec<u32>>, AllocError>
     requires tables { AreTables scene.now }
-    ensures { IfOk result (λ rows. AllZip (λ number row. IsNumberedRow (plane_of scene.now place) bounds.left bounds.top
+    ensures { IfOk result (λ rows. AllZip (λ number row. IsNumberedRow (plane_of scene.now func_index) bounds.left
+        bounds.top
         bounds.width number row.items) (range_with_len 0 bounds.height) rows.items) }
 {
     let scene = *scene;
@@ -122,9 +124,9 @@ fn fill(
         .map(
             move |number: usize| -> Result<Vec<u32>, AllocError>
                 requires { AreTables scene }
-                ensures { IfOk result (λ row. IsNumberedRow (plane_of scene.entry place) bounds.left bounds.top
+                ensures { IfOk result (λ row. IsNumberedRow (plane_of scene.entry func_index) bounds.left bounds.top
                     bounds.width number row.items) }
-            { numbered_row(&scene, place, bounds, number) },
+            { numbered_row(&scene, func_index, bounds, number) },
         )
         .collect(rt, scene.alloc)?;
     rows
@@ -146,15 +148,15 @@ fn joined(alloc: Global, rows: &[Vec<u32>]) -> Result<Vec<u32>, AllocError>
 fn tabulate(
     rt: &(impl Threads + Sync),
     scene: &Scene,
-    place: usize,
+    func_index: usize,
     bounds: TableBounds,
 ) -> Result<Table, AllocError>
     requires tables { AreTables scene.now }
     requires wide { 0 < bounds.width }
-    ensures table { IfOk result (IsTable (plane_of scene.now place)) }
+    ensures table { IfOk result (IsTable (plane_of scene.now func_index)) }
     ensures bounds { IfOk result (IsAt bounds.left bounds.top bounds.width bounds.height) }
 {
-    let rows = fill(rt, scene, place, bounds)?;
+    let rows = fill(rt, scene, func_index, bounds)?;
     let pixels = joined(scene.alloc, &rows)?;
     Ok(Table {
         left: bounds.left,
@@ -169,7 +171,7 @@ fn tabulate(
 fn tabulate_next(
     rt: &(impl Threads + Sync),
     scene: &Scene,
-    own: usize,
+    func_index: usize,
     wanted: WantedPoints,
     known: &mut Vec<UpdatedPixels>,
     memo: &mut Memo,
@@ -177,23 +179,23 @@ fn tabulate_next(
     requires tables { AreTablesOf scene.now.funcs.now scene.now.pictures.now scene.now.tables.now }
     requires known { AreKnownOf scene.now.funcs.now scene.now.pictures.now known.old.items }
     requires memo { IsMemo scene.now.funcs.now scene.now.pictures.now memo.old }
-    ensures table { IfOk result (IsTable (plane_of scene.now own)) }
+    ensures table { IfOk result (IsTable (plane_of scene.now func_index)) }
     ensures known { OnOk result (AreKnownOf scene.now.funcs.now scene.now.pictures.now known.new.items) }
     ensures memo { OnOk result (IsMemo scene.now.funcs.now scene.now.pictures.now memo.new) }
 {
-    know_wanted(rt, scene, own, wanted, known, memo)?;
+    know_wanted(rt, scene, func_index, wanted, known, memo)?;
     let bounds = bounds_of(wanted);
     let before = Scene {
         known: known.as_slice(),
         ..*scene
     };
-    prepare_box(&before, own, bounds, memo)?;
+    prepare_box(&before, func_index, bounds, memo)?;
     let now = Scene {
         known: known.as_slice(),
         memo,
         ..*scene
     };
-    let table = tabulate(rt, &now, own, bounds)?;
+    let table = tabulate(rt, &now, func_index, bounds)?;
     Ok(table)
 }
 
@@ -204,7 +206,6 @@ struct MadeFuncs {
     memo: Memo,
 }
 
-/// Written out, so that a check sees a call wherever one is dropped, and not the drops of its parts.
 impl Drop for MadeFuncs {
     fn drop(self) {
         let MadeFuncs {
@@ -237,7 +238,7 @@ fn tabulate_all(
     let mut known = Vec::new(alloc);
     let mut memo = Memo::new(alloc);
     for own in wanted {
-        let place = tables.len();
+        let func_index = tables.len();
         let scene = Scene {
             alloc,
             funcs,
@@ -247,7 +248,7 @@ fn tabulate_all(
             memo: &nothing,
             costs: &costs,
         };
-        let table = tabulate_next(rt, &scene, place, *own, &mut known, &mut memo)?;
+        let table = tabulate_next(rt, &scene, func_index, *own, &mut known, &mut memo)?;
         tables.push(table)?;
     }
     Ok(MadeFuncs {

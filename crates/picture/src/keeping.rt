@@ -5,7 +5,7 @@ use crate::boxes::{WantedPoints, bounds_of, box_of, box_points, slices_of};
 use halide_pipeline::{Expr, Func, Source, Update};
 use std::alloc::{AllocError, Global};
 
-/// A Func that has no table and takes at most so many steps a pixel is computed wherever it is read.
+/// A Func that has no table and takes at most this many steps a pixel is computed wherever it is read.
 const LIGHT: u64 = 256;
 
 /// How many steps it takes to read a pixel of a Func, and whether its pixels are kept, or pixels that it reads.
@@ -43,16 +43,16 @@ impl Cost {
 }
 
 /// Whether the pixels of the Func at a place are kept.
-pub(crate) fn is_kept(costs: &[Cost], place: usize) -> bool {
-    match costs.get(place) {
+pub(crate) fn is_kept(costs: &[Cost], func_index: usize) -> bool {
+    match costs.get(func_index) {
         None => false,
         Some(cost) => cost.is_kept,
     }
 }
 
 /// Whether the definition of the Func at a place reads pixels that are kept.
-pub(crate) fn needs_kept(costs: &[Cost], place: usize) -> bool {
-    match costs.get(place) {
+pub(crate) fn needs_kept(costs: &[Cost], func_index: usize) -> bool {
+    match costs.get(func_index) {
         None => false,
         Some(cost) => cost.needs_kept,
     }
@@ -62,7 +62,7 @@ pub(crate) fn needs_kept(costs: &[Cost], place: usize) -> bool {
 fn read_cost(costs: &[Cost], source: Source) -> Cost {
     match source {
         Source::Input(_) => READ,
-        Source::Func(place) => match costs.get(place) {
+        Source::Func(func_index) => match costs.get(func_index) {
             None => READ,
             Some(cost) => Cost {
                 steps: cost.steps,
@@ -137,8 +137,8 @@ pub(crate) fn costs_of(
     wanted: &[WantedPoints],
 ) -> Result<Vec<Cost>, AllocError> {
     let mut costs = Vec::new(alloc);
-    for (place, func) in funcs.iter().enumerate() {
-        let cost = match wanted.get(place) {
+    for (func_index, func) in funcs.iter().enumerate() {
+        let cost = match wanted.get(func_index) {
             None => READ,
             Some(own) => next_cost(&costs, *own, func),
         };

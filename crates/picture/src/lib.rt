@@ -9,7 +9,7 @@
 //! wanted of it (`boxes`), filled by as many threads as there are processors (`evaluation`); what no table has is kept
 //! pixel by pixel (`asking`), or computed as it is defined (`plain`).
 //! An update is run forward over its reduction box, row by row (`update_rows`, `update_runs`), beforehand and once
-//! where at most one argument stands in place. Where all do, it is run along rows of pixels (`in_place`).
+//! where at most one argument is in place. Where all do, it is run along rows of pixels (`in_place`).
 #![tactic(auto)]
 
 mod asking;

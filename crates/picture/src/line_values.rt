@@ -22,7 +22,7 @@ use std::alloc::AllocError;
 #[tactic(auto, unfolding(halide_pipeline::specs::Pixel::value))]
 pub(crate) fn shared_row(
     scene: &Scene,
-    own: usize,
+    func_index: usize,
     line: PointLine,
     expr: &Expr,
 ) -> Result<Option<Row>, AllocError>
@@ -31,7 +31,8 @@ pub(crate) fn shared_row(
     requires narrow { line.width < 2 ^ 32 }
     ensures len { IfOk result (λ found. IfSome found (HasLength line.entry.width)) }
     ensures values { IfOk result (λ found. IfSome found (IsShared line.entry
-        (λ plane at. spec.value (reads_with scene.now own plane) (line_point line.entry.along line.entry.start at)
+        (λ plane at. spec.value (reads_with scene.now func_index plane)
+        (line_point line.entry.along line.entry.start at)
         expr.now))) }
 {
     match expr {
@@ -41,24 +42,31 @@ pub(crate) fn shared_row(
         }
         Expr::Binary(operation, a, b) => shared_binary(
             scene,
-            own,
+            func_index,
             line,
             *operation,
             a.get(),
             b.get(),
         ),
-        Expr::Divide(a, divisor) => shared_divide(scene, own, line, a.get(), *divisor),
-        Expr::Remainder(a, divisor) => shared_remainder(scene, own, line, a.get(), *divisor),
+        Expr::Divide(a, divisor) => shared_divide(scene, func_index, line, a.get(), *divisor),
+        Expr::Remainder(a, divisor) => shared_remainder(scene, func_index, line, a.get(), *divisor),
         Expr::Select(condition, a, b) => shared_select(
             scene,
-            own,
+            func_index,
             line,
             condition.get(),
             a.get(),
             b.get(),
         ),
-        Expr::Call1(source, x) => shared_call1(scene, own, line, *source, x.get()),
-        Expr::Call2(source, x, y) => shared_call2(scene, own, line, *source, x.get(), y.get()),
+        Expr::Call1(source, x) => shared_call1(scene, func_index, line, *source, x.get()),
+        Expr::Call2(source, x, y) => shared_call2(
+            scene,
+            func_index,
+            line,
+            *source,
+            x.get(),
+            y.get(),
+        ),
     }
 }
 
@@ -67,7 +75,7 @@ pub(crate) fn shared_row(
 #[inline(never)]
 fn shared_binary(
     scene: &Scene,
-    own: usize,
+    func_index: usize,
     line: PointLine,
     operation: Operation,
     a: &Expr,
@@ -78,10 +86,11 @@ fn shared_binary(
     requires narrow { line.width < 2 ^ 32 }
     ensures len { IfOk result (λ found. IfSome found (HasLength line.entry.width)) }
     ensures values { IfOk result (λ found. IfSome found (IsShared line.entry (λ plane at. word.applied operation
-        (value_along scene.now own line.entry a.now plane at) (value_along scene.now own line.entry b.now plane at)))) }
+        (value_along scene.now func_index line.entry a.now plane at)
+        (value_along scene.now func_index line.entry b.now plane at)))) }
 {
-    let a = shared_row(scene, own, line, a)?;
-    let b = shared_row(scene, own, line, b)?;
+    let a = shared_row(scene, func_index, line, a)?;
+    let b = shared_row(scene, func_index, line, b)?;
     shared_both(scene.alloc, line, operation, a, b)
 }
 
@@ -90,7 +99,7 @@ fn shared_binary(
 #[inline(never)]
 fn shared_divide(
     scene: &Scene,
-    own: usize,
+    func_index: usize,
     line: PointLine,
     a: &Expr,
     divisor: u32,
@@ -100,9 +109,9 @@ fn shared_divide(
     requires narrow { line.width < 2 ^ 32 }
     ensures len { IfOk result (λ found. IfSome found (HasLength line.entry.width)) }
     ensures values { IfOk result (λ found. IfSome found (IsShared line.entry (λ plane at. word.divide
-        (value_along scene.now own line.entry a.now plane at) divisor))) }
+        (value_along scene.now func_index line.entry a.now plane at) divisor))) }
 {
-    let a = shared_row(scene, own, line, a)?;
+    let a = shared_row(scene, func_index, line, a)?;
     shared_quotients(scene.alloc, line, a, divisor)
 }
 
@@ -111,7 +120,7 @@ fn shared_divide(
 #[inline(never)]
 fn shared_remainder(
     scene: &Scene,
-    own: usize,
+    func_index: usize,
     line: PointLine,
     a: &Expr,
     divisor: u32,
@@ -121,9 +130,9 @@ fn shared_remainder(
     requires narrow { line.width < 2 ^ 32 }
     ensures len { IfOk result (λ found. IfSome found (HasLength line.entry.width)) }
     ensures values { IfOk result (λ found. IfSome found (IsShared line.entry (λ plane at. word.remainder
-        (value_along scene.now own line.entry a.now plane at) divisor))) }
+        (value_along scene.now func_index line.entry a.now plane at) divisor))) }
 {
-    let a = shared_row(scene, own, line, a)?;
+    let a = shared_row(scene, func_index, line, a)?;
     shared_remainders(scene.alloc, line, a, divisor)
 }
 
@@ -132,7 +141,7 @@ fn shared_remainder(
 #[inline(never)]
 fn shared_select(
     scene: &Scene,
-    own: usize,
+    func_index: usize,
     line: PointLine,
     condition: &Expr,
     a: &Expr,
@@ -143,13 +152,13 @@ fn shared_select(
     requires narrow { line.width < 2 ^ 32 }
     ensures len { IfOk result (λ found. IfSome found (HasLength line.entry.width)) }
     ensures values { IfOk result (λ found. IfSome found (IsShared line.entry (λ plane at. cond
-        (value_along scene.now own line.entry condition.now plane at == 0)
-        (value_along scene.now own line.entry b.now plane at)
-        (value_along scene.now own line.entry a.now plane at)))) }
+        (value_along scene.now func_index line.entry condition.now plane at == 0)
+        (value_along scene.now func_index line.entry b.now plane at)
+        (value_along scene.now func_index line.entry a.now plane at)))) }
 {
-    let condition = shared_row(scene, own, line, condition)?;
-    let a = shared_row(scene, own, line, a)?;
-    let b = shared_row(scene, own, line, b)?;
+    let condition = shared_row(scene, func_index, line, condition)?;
+    let a = shared_row(scene, func_index, line, a)?;
+    let b = shared_row(scene, func_index, line, b)?;
     shared_choice(scene.alloc, line, condition, a, b)
 }
 
@@ -158,7 +167,7 @@ fn shared_select(
 #[inline(never)]
 fn shared_call1(
     scene: &Scene,
-    own: usize,
+    func_index: usize,
     line: PointLine,
     source: Source,
     x: &Expr,
@@ -167,11 +176,12 @@ fn shared_call1(
     requires line { IsLine line }
     requires narrow { line.width < 2 ^ 32 }
     ensures len { IfOk result (λ found. IfSome found (HasLength line.entry.width)) }
-    ensures values { IfOk result (λ found. IfSome found (IsShared line.entry (λ plane at. reads_with scene.now own plane
-        source (value_along scene.now own line.entry x.now plane at) 0))) }
+    ensures values { IfOk result (λ found. IfSome found (IsShared line.entry
+        (λ plane at. reads_with scene.now func_index plane
+        source (value_along scene.now func_index line.entry x.now plane at) 0))) }
 {
-    let x = shared_row(scene, own, line, x)?;
-    shared_read(scene, own, line, source, x, Some(Row::Same(0)))
+    let x = shared_row(scene, func_index, line, x)?;
+    shared_read(scene, func_index, line, source, x, Some(Row::Same(0)))
 }
 
 /// Reads of a source of two dimensions along a line.
@@ -179,7 +189,7 @@ fn shared_call1(
 #[inline(never)]
 fn shared_call2(
     scene: &Scene,
-    own: usize,
+    func_index: usize,
     line: PointLine,
     source: Source,
     x: &Expr,
@@ -189,19 +199,20 @@ fn shared_call2(
     requires line { IsLine line }
     requires narrow { line.width < 2 ^ 32 }
     ensures len { IfOk result (λ found. IfSome found (HasLength line.entry.width)) }
-    ensures values { IfOk result (λ found. IfSome found (IsShared line.entry (λ plane at. reads_with scene.now own plane
-        source (value_along scene.now own line.entry x.now plane at)
-        (value_along scene.now own line.entry y.now plane at)))) }
+    ensures values { IfOk result (λ found. IfSome found (IsShared line.entry
+        (λ plane at. reads_with scene.now func_index plane
+        source (value_along scene.now func_index line.entry x.now plane at)
+        (value_along scene.now func_index line.entry y.now plane at)))) }
 {
-    let x = shared_row(scene, own, line, x)?;
-    let y = shared_row(scene, own, line, y)?;
-    shared_read(scene, own, line, source, x, y)
+    let x = shared_row(scene, func_index, line, x)?;
+    let y = shared_row(scene, func_index, line, y)?;
+    shared_read(scene, func_index, line, source, x, y)
 }
 
 /// The values along a line of an index that may not be written, which is 0 then.
 pub(crate) fn index_row(
     scene: &Scene,
-    own: usize,
+    func_index: usize,
     line: PointLine,
     index: &Option<Expr>,
 ) -> Result<Option<Row>, AllocError>
@@ -209,12 +220,12 @@ pub(crate) fn index_row(
     requires line { IsLine line }
     requires narrow { line.width < 2 ^ 32 }
     ensures { IfOk result (λ found. IfSome found (IsShared line.entry (λ plane at. spec.index_value
-        (reads_with scene.now own plane) (line_point line.entry.along line.entry.start at) index.now))) }
+        (reads_with scene.now func_index plane) (line_point line.entry.along line.entry.start at) index.now))) }
 {
     match index {
         None => Ok(Some(Row::Same(0))),
         Some(index) => {
-            let row = shared_row(scene, own, line, index)?;
+            let row = shared_row(scene, func_index, line, index)?;
             Ok(row)
         }
     }

@@ -28,7 +28,7 @@ pub(crate) enum Along {
 
 /// What is known of the Func whose definition is computed.
 #[derive(Clone, Copy)]
-pub(crate) enum Own<'a> {
+pub(crate) enum KnownPixels<'a> {
     /// Nothing.
     Nothing,
     /// Its pixels along the line.
@@ -43,7 +43,7 @@ pub(crate) struct PointLine<'a> {
     pub start: Environment,
     pub along: Along,
     pub width: usize,
-    pub own: Own<'a>,
+    pub own: KnownPixels<'a>,
 }
 
 /// What a variable stands for along a line.
@@ -68,12 +68,12 @@ pub(crate) fn variable_along(variable: Variable, start: Environment, along: Alon
 }
 
 /// Whether a source is the Func at a place.
-pub(crate) fn is_own(own: usize, source: Source) -> bool
-    ensures { result ≡ is_own own source }
+pub(crate) fn is_own(func_index: usize, source: Source) -> bool
+    ensures { result ≡ is_own func_index source }
 {
     match source {
         Source::Input(_) => false,
-        Source::Func(place) => place == own,
+        Source::Func(source_index) => source_index == func_index,
     }
 }
 
@@ -195,12 +195,12 @@ fn own_read(alloc: Global, line: PointLine, x: &Row, y: &Row) -> Result<Option<R
         (IsShared line.entry (λ plane at. plane (value_at x.now at) (value_at y.now at)))) }
 {
     match line.own {
-        Own::Nothing => Ok(None),
-        Own::Pixels(before) => {
+        KnownPixels::Nothing => Ok(None),
+        KnownPixels::Pixels(before) => {
             let row = same_pixels(alloc, line.start, before, x, y)?;
             Ok(row)
         }
-        Own::Box(own_box) => {
+        KnownPixels::Box(own_box) => {
             let row = box_pixels(alloc, own_box, x, y, line.width)?;
             Ok(row)
         }
@@ -210,7 +210,7 @@ fn own_read(alloc: Global, line: PointLine, x: &Row, y: &Row) -> Result<Option<R
 /// What reads of a source answer along a line; none where they are of the own Func, and that isn't known there.
 pub(crate) fn shared_read(
     scene: &Scene,
-    own: usize,
+    func_index: usize,
     line: PointLine,
     source: Source,
     x: Option<Row>,
@@ -223,7 +223,7 @@ pub(crate) fn shared_read(
     requires narrow { line.width < 2 ^ 32 }
     ensures { (columns rows : spec.Plane → ℕ → ℕ) → IfSome x (IsShared line.entry columns)
         → IfSome y (IsShared line.entry rows) → IfOk result (λ found. IfSome found (IsShared line.entry
-        (λ plane at. reads_with scene.now own plane source (columns plane at) (rows plane at)))) }
+        (λ plane at. reads_with scene.now func_index plane source (columns plane at) (rows plane at)))) }
 {
     let Some(x) = x else {
         return Ok(None);
@@ -231,11 +231,11 @@ pub(crate) fn shared_read(
     let Some(y) = y else {
         return Ok(None);
     };
-    if is_own(own, source) {
+    if is_own(func_index, source) {
         let row = own_read(scene.alloc, line, &x, &y)?;
         return Ok(row);
     }
-    let row = read_row(scene, own, source, x, y, line.width)?;
+    let row = read_row(scene, func_index, source, x, y, line.width)?;
     Ok(Some(row))
 }
 

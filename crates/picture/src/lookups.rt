@@ -17,10 +17,10 @@ use crate::scenes::{Scene, Slice, Table, UpdatedPixels};
 use halide_pipeline::{Func, words};
 
 /// An input's pixel, 0 outside its extents.
-pub(crate) fn input_pixel(pictures: &[Picture], place: usize, x: u32, y: u32) -> u32
-    ensures { result ≡ spec.input_planes pictures.now place x y }
+pub(crate) fn input_pixel(pictures: &[Picture], input_index: usize, x: u32, y: u32) -> u32
+    ensures { result ≡ spec.input_planes pictures.now input_index x y }
 {
-    match pictures.get(place) {
+    match pictures.get(input_index) {
         None => 0,
         Some(picture) => {
             if x < picture.width() && y < picture.height() {
@@ -33,10 +33,10 @@ pub(crate) fn input_pixel(pictures: &[Picture], place: usize, x: u32, y: u32) ->
 }
 
 /// The Func at a place.
-pub(crate) fn func_at(funcs: &[Func], place: usize) -> Option<&Func>
-    ensures { option_copied result ≡ slice_get funcs.now place }
+pub(crate) fn func_at(funcs: &[Func], func_index: usize) -> Option<&Func>
+    ensures { option_copied result ≡ slice_get funcs.now func_index }
 {
-    funcs.get(place)
+    funcs.get(func_index)
 }
 
 /// A pixel that a table has.
@@ -53,32 +53,33 @@ pub(crate) fn pixel_in(table: &Table, x: u32, y: u32) -> Option<u32>
 }
 
 /// A pixel that the table of the Func at a place has.
-fn tabled(tables: &[Table], place: usize, x: u32, y: u32) -> Option<u32>
-    ensures { (plane : spec.Plane) → ((table : Table) → slice_get tables.now place ≡ Some table → IsTable plane table)
+fn tabled(tables: &[Table], func_index: usize, x: u32, y: u32) -> Option<u32>
+    ensures { (plane : spec.Plane) → ((table : Table) → slice_get tables.now func_index ≡ Some table
+        → IsTable plane table)
         → IfSome result (λ pixel. pixel ≡ plane x y) }
 {
-    match tables.get(place) {
+    match tables.get(func_index) {
         None => None,
         Some(table) => pixel_in(table, x, y),
     }
 }
 
 /// A pixel of the Func at a place that is kept by itself.
-fn kept(memo: &Memo, place: usize, x: u32, y: u32) -> Option<u32>
+fn kept(memo: &Memo, func_index: usize, x: u32, y: u32) -> Option<u32>
     ensures { (funcs : List Func) (pictures : List PictureContents) → IsMemo funcs pictures memo.now
-        → IfSome result (λ pixel. pixel ≡ plane_in funcs pictures place x y) }
+        → IfSome result (λ pixel. pixel ≡ plane_in funcs pictures func_index x y) }
 {
-    memo.get(place, x, y)
+    memo.get(func_index, x, y)
 }
 
 /// A pixel of the Func at a place, where a table has it or it is kept by itself.
-pub(crate) fn known_pixel(scene: &Scene, place: usize, x: u32, y: u32) -> Option<u32>
+pub(crate) fn known_pixel(scene: &Scene, func_index: usize, x: u32, y: u32) -> Option<u32>
     requires tables { AreTables scene.now }
-    ensures { IfSome result (λ pixel. pixel ≡ plane_of scene.now place x y) }
+    ensures { IfSome result (λ pixel. pixel ≡ plane_of scene.now func_index x y) }
 {
-    match tabled(scene.tables, place, x, y) {
+    match tabled(scene.tables, func_index, x, y) {
         Some(pixel) => Some(pixel),
-        None => kept(scene.memo, place, x, y),
+        None => kept(scene.memo, func_index, x, y),
     }
 }
 
@@ -99,12 +100,12 @@ fn slice_at(slices: &[Slice], x: u32, y: u32) -> Option<&Slice>
 }
 
 /// What is known of an update of the Func at a place.
-fn known_of(known: &[UpdatedPixels], own: usize, updates: usize) -> Option<&UpdatedPixels>
+fn known_of(known: &[UpdatedPixels], func_index: usize, updates: usize) -> Option<&UpdatedPixels>
     ensures { (funcs : List Func) (pictures : List PictureContents) → AreKnownOf funcs pictures known.now
-        → IfSome result (λ one. IsKnown funcs pictures own updates one.now) }
+        → IfSome result (λ one. IsKnown funcs pictures func_index updates one.now) }
 {
     for one in known {
-        if one.own == own && one.updates == updates {
+        if one.own == func_index && one.updates == updates {
             return Some(one);
         }
     }
@@ -114,15 +115,15 @@ fn known_of(known: &[UpdatedPixels], own: usize, updates: usize) -> Option<&Upda
 /// The slice with a point on which an update has run.
 pub(crate) fn known_slice(
     known: &[UpdatedPixels],
-    own: usize,
+    func_index: usize,
     updates: usize,
     x: u32,
     y: u32,
 ) -> Option<&Slice>
     ensures { (funcs : List Func) (pictures : List PictureContents) → AreKnownOf funcs pictures known.now
-        → IfSome result (λ slice. IsSliceOf funcs pictures own updates slice.now × (is_on slice.now x y ≡ true)) }
+        → IfSome result (λ slice. IsSliceOf funcs pictures func_index updates slice.now × (is_on slice.now x y ≡ true)) }
 {
-    match known_of(known, own, updates) {
+    match known_of(known, func_index, updates) {
         None => None,
         Some(one) => slice_at(&one.slices, x, y),
     }
@@ -142,15 +143,15 @@ pub(crate) fn box_at(boxes: &[Table], x: u32, y: u32) -> Option<&Table>
 /// The box with a point in which an update has run.
 pub(crate) fn known_box(
     known: &[UpdatedPixels],
-    own: usize,
+    func_index: usize,
     updates: usize,
     x: u32,
     y: u32,
 ) -> Option<&Table>
     ensures { (funcs : List Func) (pictures : List PictureContents) → AreKnownOf funcs pictures known.now
-        → IfSome result (λ own_box. IsTable (stage_in funcs pictures own (updates + 1)) own_box.now) }
+        → IfSome result (λ own_box. IsTable (stage_in funcs pictures func_index (updates + 1)) own_box.now) }
 {
-    match known_of(known, own, updates) {
+    match known_of(known, func_index, updates) {
         None => None,
         Some(one) => box_at(&one.boxes, x, y),
     }
@@ -159,29 +160,35 @@ pub(crate) fn known_box(
 /// A pixel of the Func at a place after an update, where that has run in a box.
 pub(crate) fn boxed_pixel(
     known: &[UpdatedPixels],
-    own: usize,
+    func_index: usize,
     updates: usize,
     x: u32,
     y: u32,
 ) -> Option<u32>
     ensures { (funcs : List Func) (pictures : List PictureContents) → AreKnownOf funcs pictures known.now
-        → IfSome result (λ pixel. pixel ≡ stage_in funcs pictures own (updates + 1) x y) }
+        → IfSome result (λ pixel. pixel ≡ stage_in funcs pictures func_index (updates + 1) x y) }
 {
-    match known_box(known, own, updates, x, y) {
+    match known_box(known, func_index, updates, x, y) {
         None => None,
         Some(own_box) => pixel_in(own_box, x, y),
     }
 }
 
 /// Whether an update has run at a point.
-pub(crate) fn has_run(known: &[UpdatedPixels], own: usize, updates: usize, x: u32, y: u32) -> bool {
-    known_slice(known, own, updates, x, y).is_some()
-        || boxed_pixel(known, own, updates, x, y).is_some()
+pub(crate) fn has_run(
+    known: &[UpdatedPixels],
+    func_index: usize,
+    updates: usize,
+    x: u32,
+    y: u32,
+) -> bool {
+    known_slice(known, func_index, updates, x, y).is_some()
+        || boxed_pixel(known, func_index, updates, x, y).is_some()
 }
 
-/// Whether the last of so many updates has run in boxes.
-pub(crate) fn has_boxes(known: &[UpdatedPixels], own: usize, updates: usize) -> bool {
-    match known_of(known, own, updates.saturating_sub(1)) {
+/// Whether the last of this many updates has run in boxes.
+pub(crate) fn has_boxes(known: &[UpdatedPixels], func_index: usize, updates: usize) -> bool {
+    match known_of(known, func_index, updates.saturating_sub(1)) {
         None => false,
         Some(one) => !one.boxes.is_empty(),
     }

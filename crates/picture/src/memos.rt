@@ -11,14 +11,14 @@ pub(crate) struct Memo {
     values: HashMap<u128, u32>,
 }
 
-/// So many pixels are kept at most, half as many as a table has.
+/// This many pixels are kept at most, half as many as a table has.
 const MOST_PIXELS: usize = 1 << 20;
 
 /// A number for each point of each Func.
-fn pixel_number(place: usize, x: u32, y: u32) -> u128
-    ensures { result ≡ place * 2 ^ 64 + x * 2 ^ 32 + y }
+fn pixel_number(func_index: usize, x: u32, y: u32) -> u128
+    ensures { result ≡ func_index * 2 ^ 64 + x * 2 ^ 32 + y }
 {
-    place as u128 * (1 << 64) + u128::from(x) * (1 << 32) + u128::from(y)
+    func_index as u128 * (1 << 64) + u128::from(x) * (1 << 32) + u128::from(y)
 }
 
 impl Memo {
@@ -36,10 +36,10 @@ impl Memo {
 
     /// The pixel of the Func at a place, if it is known.
     #[tactic(auto, unfolding(crate::specs::inner::Memos::remembered))]
-    pub fn get(&self, place: usize, x: u32, y: u32) -> Option<u32>
-        ensures { result ≡ remembered self.now place x y }
+    pub fn get(&self, func_index: usize, x: u32, y: u32) -> Option<u32>
+        ensures { result ≡ remembered self.now func_index x y }
     {
-        self.values.get(&pixel_number(place, x, y)).copied()
+        self.values.get(&pixel_number(func_index, x, y)).copied()
     }
 
     /// Whether no more pixels are to be kept.
@@ -49,10 +49,10 @@ impl Memo {
 
     /// Keeps a pixel of the Func at a place.
     #[tactic(auto, unfolding(crate::specs::inner::Memos::remembered))]
-    pub fn set(&mut self, place: usize, x: u32, y: u32, pixel: u32) -> Result<(), AllocError>
-        ensures { OnOk result (Remembers self.old self.new place x y pixel) }
+    pub fn set(&mut self, func_index: usize, x: u32, y: u32, pixel: u32) -> Result<(), AllocError>
+        ensures { OnOk result (Remembers self.old self.new func_index x y pixel) }
     {
-        self.values.insert(pixel_number(place, x, y), pixel)?;
+        self.values.insert(pixel_number(func_index, x, y), pixel)?;
         Ok(())
     }
 }

@@ -28,7 +28,6 @@ impl Model for Picture {
     ghost invariant = { λ p. IsPicture (record { width = p.width; height = p.height; pixels = p.pixels.items }) };
 }
 
-/// Written out, so that a check sees a call wherever one is dropped, and not the drops of its parts.
 impl Drop for Picture {
     fn drop(self) {
         let Picture {

@@ -20,47 +20,47 @@ use std::alloc::AllocError;
 #[tactic(auto, unfolding(halide_pipeline::specs::Pixel::value, halide_pipeline::specs::Expressions::nodes))]
 pub(crate) fn value(
     scene: &Scene,
-    own: usize,
+    func_index: usize,
     state: FuncState,
     environment: &Environment,
     expr: &Expr,
 ) -> Result<u32, AllocError>
     requires tables { AreTables scene.now }
-    requires state { IsState scene.now own state }
+    requires state { IsState scene.now func_index state }
     requires short { nodes expr.now ≤ all_nodes scene.now.funcs.now }
-    ensures { IfOk result (λ v. v ≡ spec.value (reads_in scene.now own state.entry) environment.now expr.now) }
+    ensures { IfOk result (λ v. v ≡ spec.value (reads_in scene.now func_index state.entry) environment.now expr.now) }
 {
     match expr {
         Expr::Number(number) => Ok(*number),
         Expr::Variable(own_variable) => Ok(variable(environment, *own_variable)),
         Expr::Binary(operation, a, b) => {
-            let a = value(scene, own, state, environment, a.get())?;
-            let b = value(scene, own, state, environment, b.get())?;
+            let a = value(scene, func_index, state, environment, a.get())?;
+            let b = value(scene, func_index, state, environment, b.get())?;
             Ok(operation.apply(a, b))
         }
         Expr::Divide(a, divisor) => {
-            let a = value(scene, own, state, environment, a.get())?;
+            let a = value(scene, func_index, state, environment, a.get())?;
             Ok(words::divide(a, *divisor))
         }
         Expr::Remainder(a, divisor) => {
-            let a = value(scene, own, state, environment, a.get())?;
+            let a = value(scene, func_index, state, environment, a.get())?;
             Ok(words::remainder(a, *divisor))
         }
         Expr::Select(condition, a, b) => {
-            let condition = value(scene, own, state, environment, condition.get())?;
+            let condition = value(scene, func_index, state, environment, condition.get())?;
             let chosen = if condition == 0 { b } else { a };
-            let chosen = value(scene, own, state, environment, chosen.get())?;
+            let chosen = value(scene, func_index, state, environment, chosen.get())?;
             Ok(chosen)
         }
         Expr::Call1(source, x) => {
-            let x = value(scene, own, state, environment, x.get())?;
-            let read = read(scene, own, state, *source, x, 0)?;
+            let x = value(scene, func_index, state, environment, x.get())?;
+            let read = read(scene, func_index, state, *source, x, 0)?;
             Ok(read)
         }
         Expr::Call2(source, x, y) => {
-            let x = value(scene, own, state, environment, x.get())?;
-            let y = value(scene, own, state, environment, y.get())?;
-            let read = read(scene, own, state, *source, x, y)?;
+            let x = value(scene, func_index, state, environment, x.get())?;
+            let y = value(scene, func_index, state, environment, y.get())?;
+            let read = read(scene, func_index, state, *source, x, y)?;
             Ok(read)
         }
     }
@@ -70,86 +70,92 @@ pub(crate) fn value(
 #[cycle(pixel)]
 pub(crate) fn read(
     scene: &Scene,
-    own: usize,
+    func_index: usize,
     state: FuncState,
     source: Source,
     x: u32,
     y: u32,
 ) -> Result<u32, AllocError>
     requires tables { AreTables scene.now }
-    requires state { IsState scene.now own state }
-    ensures { IfOk result (λ v. v ≡ reads_in scene.now own state.entry source x y) }
+    requires state { IsState scene.now func_index state }
+    ensures { IfOk result (λ v. v ≡ reads_in scene.now func_index state.entry source x y) }
 {
     match source {
-        Source::Input(place) => Ok(input_pixel(scene.pictures, place, x, y)),
-        Source::Func(place) => match state {
+        Source::Input(source_index) => Ok(input_pixel(scene.pictures, source_index, x, y)),
+        Source::Func(source_index) => match state {
             FuncState::Earlier => {
-                let pixel = earlier_pixel(scene, own, place, x, y)?;
+                let pixel = earlier_pixel(scene, func_index, source_index, x, y)?;
                 Ok(pixel)
             }
             FuncState::After(updates, number) => {
-                if place != own {
-                    let pixel = earlier_pixel(scene, own, place, x, y)?;
+                if source_index != func_index {
+                    let pixel = earlier_pixel(scene, func_index, source_index, x, y)?;
                     return Ok(pixel);
                 }
-                let pixel = after_of(scene, own, updates, number, x, y)?;
+                let pixel = after_of(scene, func_index, updates, number, x, y)?;
                 Ok(pixel)
             }
             FuncState::Forward(updates, number, slice) => {
-                if place != own {
-                    let pixel = earlier_pixel(scene, own, place, x, y)?;
+                if source_index != func_index {
+                    let pixel = earlier_pixel(scene, func_index, source_index, x, y)?;
                     return Ok(pixel);
                 }
                 let progress = Progress {
                     slice,
                     points: number,
                 };
-                let pixel = forward_pixel(scene, own, updates, progress, x, y)?;
+                let pixel = forward_pixel(scene, func_index, updates, progress, x, y)?;
                 Ok(pixel)
             }
         },
     }
 }
 
-/// A pixel of the Func at a place after so many whole updates and so many points of the next one, of
+/// A pixel of the Func at a place after this many whole updates and this many points of the next one, of
 /// which a slice is known.
 #[cycle(pixel)]
 pub(crate) fn forward_pixel(
     scene: &Scene,
-    own: usize,
+    func_index: usize,
     updates: usize,
     progress: Progress,
     x: u32,
     y: u32,
 ) -> Result<u32, AllocError>
     requires tables { AreTables scene.now }
-    requires slice { IsForward scene.now own updates progress.points progress.slice.now }
-    ensures { IfOk result (λ v. v ≡ after_of own (slice_get scene.now.funcs.now own) (inputs_of scene.now)
-        (earlier_of scene.now own) updates progress.entry.points x y) }
+    requires slice { IsForward scene.now func_index updates progress.points progress.slice.now }
+    ensures { IfOk result (λ v. v ≡ after_of func_index (slice_get scene.now.funcs.now func_index) (inputs_of scene.now)
+        (earlier_of scene.now func_index) updates progress.entry.points x y) }
 {
     if !progress.slice.is_on(x, y) {
-        let pixel = after_of(scene, own, updates, progress.points, x, y)?;
+        let pixel = after_of(scene, func_index, updates, progress.points, x, y)?;
         return Ok(pixel);
     }
     match progress.slice.writes.get(x, y) {
         Some(pixel) => Ok(pixel),
         None => {
-            let pixel = stage_of(scene, own, updates, x, y)?;
+            let pixel = stage_of(scene, func_index, updates, x, y)?;
             Ok(pixel)
         }
     }
 }
 
-/// A pixel of the Func at a place after so many whole updates.
+/// A pixel of the Func at a place after this many whole updates.
 #[cycle(pixel)]
-fn stage_of(scene: &Scene, own: usize, updates: usize, x: u32, y: u32) -> Result<u32, AllocError>
+fn stage_of(
+    scene: &Scene,
+    func_index: usize,
+    updates: usize,
+    x: u32,
+    y: u32,
+) -> Result<u32, AllocError>
     requires tables { AreTables scene.now }
-    ensures { IfOk result (λ v. v ≡ stage_of scene.now own updates x y) }
+    ensures { IfOk result (λ v. v ≡ stage_of scene.now func_index updates x y) }
 {
-    match func_at(scene.funcs, own) {
+    match func_at(scene.funcs, func_index) {
         None => Ok(0),
         Some(func) => {
-            let pixel = stage(scene, own, func, updates, x, y)?;
+            let pixel = stage(scene, func_index, func, updates, x, y)?;
             Ok(pixel)
         }
     }
@@ -157,64 +163,77 @@ fn stage_of(scene: &Scene, own: usize, updates: usize, x: u32, y: u32) -> Result
 
 /// A pixel of a Func before this place, 0 for all others.
 #[cycle(pixel)]
-fn earlier_pixel(scene: &Scene, own: usize, place: usize, x: u32, y: u32) -> Result<u32, AllocError>
+fn earlier_pixel(
+    scene: &Scene,
+    func_index: usize,
+    source_index: usize,
+    x: u32,
+    y: u32,
+) -> Result<u32, AllocError>
     requires tables { AreTables scene.now }
-    ensures { IfOk result (λ v. v ≡ earlier_of scene.now own place x y) }
+    ensures { IfOk result (λ v. v ≡ earlier_of scene.now func_index source_index x y) }
 {
-    if place >= own {
+    if source_index >= func_index {
         return Ok(0);
     }
-    let pixel = pixel(scene, place, x, y)?;
+    let pixel = pixel(scene, source_index, x, y)?;
     Ok(pixel)
 }
 
 /// A pixel of the Func at a place.
 #[cycle(pixel)]
-pub(crate) fn pixel(scene: &Scene, place: usize, x: u32, y: u32) -> Result<u32, AllocError>
+pub(crate) fn pixel(scene: &Scene, func_index: usize, x: u32, y: u32) -> Result<u32, AllocError>
     requires tables { AreTables scene.now }
-    ensures { IfOk result (λ v. v ≡ plane_of scene.now place x y) }
+    ensures { IfOk result (λ v. v ≡ plane_of scene.now func_index x y) }
 {
-    if let Some(pixel) = known_pixel(scene, place, x, y) {
+    if let Some(pixel) = known_pixel(scene, func_index, x, y) {
         return Ok(pixel);
     }
-    match func_at(scene.funcs, place) {
+    match func_at(scene.funcs, func_index) {
         None => Ok(0),
         Some(func) => {
-            let pixel = stage(scene, place, func, func.updates.len(), x, y)?;
+            let pixel = stage(scene, func_index, func, func.updates.len(), x, y)?;
             Ok(pixel)
         }
     }
 }
 
-/// A pixel of a Func after so many whole updates.
+/// A pixel of a Func after this many whole updates.
 #[cycle(pixel)]
 #[tactic(auto, unfolding(halide_pipeline::specs::Pixel::stage))]
 pub(crate) fn stage(
     scene: &Scene,
-    own: usize,
+    func_index: usize,
     func: &Func,
     updates: usize,
     x: u32,
     y: u32,
 ) -> Result<u32, AllocError>
     requires tables { AreTables scene.now }
-    requires is { slice_get scene.now.funcs.now own ≡ Some func.now }
-    ensures { IfOk result (λ v. v ≡ spec.stage own func.now (inputs_of scene.now) (earlier_of scene.now own) updates x
+    requires is { slice_get scene.now.funcs.now func_index ≡ Some func.now }
+    ensures { IfOk result (λ v. v ≡ spec.stage func_index func.now (inputs_of scene.now)
+        (earlier_of scene.now func_index) updates x
         y) }
 {
     if updates == 0 {
-        let pixel = value(scene, own, FuncState::Earlier, &at_point(x, y), &func.pure)?;
+        let pixel = value(
+            scene,
+            func_index,
+            FuncState::Earlier,
+            &at_point(x, y),
+            &func.pure,
+        )?;
         return Ok(pixel);
     }
-    if let Some(pixel) = boxed_pixel(scene.known, own, updates - 1, x, y) {
+    if let Some(pixel) = boxed_pixel(scene.known, func_index, updates - 1, x, y) {
         return Ok(pixel);
     }
     let Some(update) = func.updates.get(updates - 1) else {
-        let pixel = stage(scene, own, func, updates - 1, x, y)?;
+        let pixel = stage(scene, func_index, func, updates - 1, x, y)?;
         return Ok(pixel);
     };
     let pass = Pass {
-        own,
+        own: func_index,
         func,
         updates: updates - 1,
         update,
@@ -313,47 +332,47 @@ fn run_forward(scene: &Scene, pass: Pass, x: u32, y: u32) -> Result<Slice, Alloc
 #[cycle(pixel)]
 pub(crate) fn index_value(
     scene: &Scene,
-    own: usize,
+    func_index: usize,
     point: &Environment,
     index: &Option<Expr>,
 ) -> Result<u32, AllocError>
     requires tables { AreTables scene.now }
     requires short { index_nodes index.now ≤ all_nodes scene.now.funcs.now }
-    ensures { IfOk result (λ v. v ≡ spec.index_value (reads_in scene.now own states.Earlier) point.now index.now) }
+    ensures { IfOk result (λ v. v ≡ spec.index_value (reads_in scene.now func_index states.Earlier) point.now index.now) }
 {
     match index {
         None => Ok(0),
         Some(index) => {
-            let index = value(scene, own, FuncState::Earlier, point, index)?;
+            let index = value(scene, func_index, FuncState::Earlier, point, index)?;
             Ok(index)
         }
     }
 }
 
-/// A pixel of the Func at a place after so many whole updates and so many points of the next one.
+/// A pixel of the Func at a place after this many whole updates and this many points of the next one.
 #[cycle(pixel)]
 fn after_of(
     scene: &Scene,
-    own: usize,
+    func_index: usize,
     updates: usize,
     number: u64,
     x: u32,
     y: u32,
 ) -> Result<u32, AllocError>
     requires tables { AreTables scene.now }
-    ensures { IfOk result (λ v. v ≡ after_of own (slice_get scene.now.funcs.now own) (inputs_of scene.now)
-        (earlier_of scene.now own) updates number x y) }
+    ensures { IfOk result (λ v. v ≡ after_of func_index (slice_get scene.now.funcs.now func_index) (inputs_of scene.now)
+        (earlier_of scene.now func_index) updates number x y) }
 {
-    match func_at(scene.funcs, own) {
+    match func_at(scene.funcs, func_index) {
         None => Ok(0),
         Some(func) => match func.updates.get(updates) {
             None => {
-                let pixel = stage(scene, own, func, updates, x, y)?;
+                let pixel = stage(scene, func_index, func, updates, x, y)?;
                 Ok(pixel)
             }
             Some(update) => {
                 let pass = Pass {
-                    own,
+                    own: func_index,
                     func,
                     updates,
                     update,
@@ -365,7 +384,7 @@ fn after_of(
     }
 }
 
-/// A pixel of a Func after so many whole updates and so many points of this next one.
+/// A pixel of a Func after this many whole updates and this many points of this next one.
 #[cycle(pixel)]
 #[tactic(auto, unfolding(halide_pipeline::specs::Pixel::after))]
 fn after(scene: &Scene, pass: Pass, number: u64, x: u32, y: u32) -> Result<u32, AllocError>
@@ -393,22 +412,22 @@ fn after(scene: &Scene, pass: Pass, number: u64, x: u32, y: u32) -> Result<u32, 
 #[cycle(pixel)]
 fn is_hit(
     scene: &Scene,
-    own: usize,
+    func_index: usize,
     update: &Update,
     point: &Environment,
 ) -> Result<bool, AllocError>
     requires tables { AreTables scene.now }
     requires short { update_nodes update.now ≤ all_nodes scene.now.funcs.now }
-    ensures { IfOk result (λ hit. hit ≡ spec.is_hit (reads_in scene.now own states.Earlier) update.now point.now) }
+    ensures { IfOk result (λ hit. hit ≡ spec.is_hit (reads_in scene.now func_index states.Earlier) update.now point.now) }
 {
-    let left_x = value(scene, own, FuncState::Earlier, point, &update.left_x)?;
+    let left_x = value(scene, func_index, FuncState::Earlier, point, &update.left_x)?;
     if left_x != point.first_argument {
         return Ok(false);
     }
     match &update.left_y {
         None => Ok(point.second_argument == 0),
         Some(left_y) => {
-            let left_y = value(scene, own, FuncState::Earlier, point, left_y)?;
+            let left_y = value(scene, func_index, FuncState::Earlier, point, left_y)?;
             Ok(left_y == point.second_argument)
         }
     }

@@ -51,7 +51,7 @@ pub(crate) fn points(update: &Update) -> u64
     product(update.first.extent, second)
 }
 
-/// The value of a reduction variable after so many steps.
+/// The value of a reduction variable after this many steps.
 #[tactic(auto, unfolding(halide_pipeline::specs::Words::add))]
 fn reduction_value(minimum: u32, step: u64) -> u32
     ensures { result ≡ word.add minimum step }
@@ -90,7 +90,7 @@ fn steps(number: u64, extent: u64) -> (u64, u64)
     }
 }
 
-/// Whether a variable stands anywhere in an update.
+/// Whether a variable occurs anywhere in an update.
 fn mentions(variable: Variable, update: &Update) -> bool
     ensures { result ≡ mentions variable update.now }
 {
@@ -101,7 +101,7 @@ fn mentions(variable: Variable, update: &Update) -> bool
     update.left_x.uses(variable) || in_left_y || update.right.uses(variable)
 }
 
-/// Whether an argument that isn't in place stands nowhere in an update, so that it can be run
+/// Whether an argument that isn't in place occurs nowhere in an update, so that it can be run
 /// forward.
 pub(crate) fn is_forward(update: &Update) -> bool
     ensures { result ≡ is_forward update.now }

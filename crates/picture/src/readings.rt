@@ -21,7 +21,7 @@ use std::alloc::{AllocError, Global};
 /// How many bytes are looked at for a number of few digits and the byte after them. Fewer digits spell less than 2^31.
 const SHORT_LEN: usize = 9;
 
-/// What stands after a word.
+/// What is after a word.
 #[tactic(auto, unfolding(crate::specs::Reading::behind))]
 fn behind<'a>(word: &[u8], text: &'a [u8]) -> Result<&'a [u8], PictureFault>
     ensures { spec.Shows (λ rest. rest.now) result (spec.behind word.now text.now) }
@@ -43,7 +43,7 @@ fn is_plain(negative: bool, digits: &[u8]) -> bool
     }
 }
 
-/// The digits at the front and what stands after them.
+/// The digits at the front and what is after them.
 #[tactic(auto, unfolding(crate::specs::Reading::plain_at))]
 fn plain_at(negative: bool, text: &[u8]) -> Result<(bool, &[u8], &[u8]), PictureFault>
     ensures { spec.Shows (λ numeral. (record { negative = numeral.0; digits = numeral.1.now }, numeral.2.now)) result
@@ -57,7 +57,7 @@ fn plain_at(negative: bool, text: &[u8]) -> Result<(bool, &[u8], &[u8]), Picture
     }
 }
 
-/// Whether a number at the front has a sign, and what stands after the sign.
+/// Whether a number at the front has a sign, and what is after the sign.
 #[tactic(auto, unfolding(crate::specs::Reading::numeral_at, crate::specs::Reading::plain_at))]
 fn sign_at(text: &[u8]) -> (bool, &[u8])
     ensures { spec.numeral_at text.now ≡ spec.plain_at result.0 result.1.now }
@@ -69,7 +69,7 @@ fn sign_at(text: &[u8]) -> (bool, &[u8])
     }
 }
 
-/// The number at the front: whether it has a sign, its digits, and what stands after it.
+/// The number at the front: whether it has a sign, its digits, and what is after it.
 fn numeral_at(text: &[u8]) -> Result<(bool, &[u8], &[u8]), PictureFault>
     ensures { spec.Shows (λ numeral. (record { negative = numeral.0; digits = numeral.1.now }, numeral.2.now)) result
         (spec.numeral_at text.now) }
@@ -97,7 +97,7 @@ fn pixel_of(negative: bool, digits: &[u8]) -> Result<u32, PictureFault>
     Ok(signed(negative, size as u32))
 }
 
-/// The width at the front and what stands after it.
+/// The width at the front and what is after it.
 #[tactic(auto, unfolding(crate::specs::Reading::extent_at))]
 fn width_at(text: &[u8]) -> Result<(u32, &[u8]), PictureFault>
     ensures value { spec.Shows (λ width. (width.0, width.1.now)) result (spec.extent_at is_width text.now) }
@@ -111,7 +111,7 @@ fn width_at(text: &[u8]) -> Result<(u32, &[u8]), PictureFault>
     Ok((width as u32, rest))
 }
 
-/// The height at the front, beside this width, and what stands after it.
+/// The height at the front, beside this width, and what is after it.
 #[tactic(auto, unfolding(crate::specs::Reading::extent_at))]
 fn height_at(width: u32, text: &[u8]) -> Result<(u32, &[u8]), PictureFault>
     ensures value { spec.Shows (λ height. (height.0, height.1.now)) result (spec.extent_at (is_height width) text.now) }
@@ -125,7 +125,7 @@ fn height_at(width: u32, text: &[u8]) -> Result<(u32, &[u8]), PictureFault>
     Ok((height as u32, rest))
 }
 
-/// Width and height at the front of a whole text, and what stands after them.
+/// Width and height at the front of a whole text, and what is after them.
 #[tactic(auto, unfolding(crate::specs::Reading::heading_at))]
 fn heading_at(text: &[u8]) -> Result<(u32, u32, &[u8]), PictureFault>
     ensures value { spec.Shows (λ heading. ((heading.0, heading.1), heading.2.now)) result (spec.heading_at text.now) }
@@ -162,7 +162,7 @@ fn short_number(text: &[u8]) -> Option<(u32, usize)>
     None
 }
 
-/// A pixel of few digits and this word of one byte after it, and what stands after both. The digits are added up
+/// A pixel of few digits and this word of one byte after it, and what is after both. The digits are added up
 /// while their end is looked for.
 fn short_pixel_then<'a>(word: &[u8], text: &'a [u8]) -> Option<(u32, &'a [u8])>
     ensures { IfSome result (λ pixel. spec.pixel_then word.now text.now ≡ Ok (pixel.0, pixel.1.now)) }
@@ -187,7 +187,7 @@ fn short_pixel_then<'a>(word: &[u8], text: &'a [u8]) -> Option<(u32, &'a [u8])>
     Some((signed(negative, size), rest))
 }
 
-/// A pixel and this word after it, and what stands after both.
+/// A pixel and this word after it, and what is after both.
 fn pixel_then<'a>(word: &[u8], text: &'a [u8]) -> Result<(u32, &'a [u8]), PictureFault>
     ensures { spec.Shows (λ pixel. (pixel.0, pixel.1.now)) result (spec.pixel_then word.now text.now) }
 {
@@ -210,7 +210,7 @@ fn any_pixel_then<'a>(word: &[u8], text: &'a [u8]) -> Result<(u32, &'a [u8]), Pi
     Ok((pixel, rest))
 }
 
-/// What stands after a pixel that so many follow, in rows of this width.
+/// What is after a pixel that this many follow, in rows of this width.
 pub(crate) fn separator(width: usize, left: usize) -> &'static [u8]
     requires { 0 < width }
     ensures value { result.now ≡ spec.separator width left }
@@ -219,7 +219,7 @@ pub(crate) fn separator(width: usize, left: usize) -> &'static [u8]
     separator_ahead_of(left % width)
 }
 
-/// What stands after a pixel that so many follow in its row.
+/// What is after a pixel that this many follow in its row.
 fn separator_ahead_of(ahead: usize) -> &'static [u8]
     ensures value { result.now ≡ (if ahead == 0 then codes "\n" else codes " ") }
     ensures len { length result.now ≡ 1 }
@@ -227,7 +227,7 @@ fn separator_ahead_of(ahead: usize) -> &'static [u8]
     if ahead == 0 { b"\n" } else { b" " }
 }
 
-/// So many pixels at the front, in rows of this width, and what stands after them.
+/// This many pixels at the front, in rows of this width, and what is after them.
 fn pixels_at(
     alloc: Global,
     width: usize,
@@ -252,7 +252,7 @@ fn pixels_at(
     Ok((pixels, rest))
 }
 
-/// The picture at the front, and what stands after it.
+/// The picture at the front, and what is after it.
 #[tactic(auto, unfolding(crate::specs::Reading::picture_at))]
 fn picture_at(alloc: Global, text: &[u8]) -> Result<(Picture, &[u8]), ReadError<PictureFault>>
     ensures value { Gives (λ picture. (picture.0, picture.1.now)) result (spec.picture_at text.now) }
@@ -283,7 +283,7 @@ impl Picture {
     /// the decimal numbers of its pixels, joined by one space. Each line is ended by a line feed.
     /// Refused by the first place that is faulty: there a width or height is outside the limits
     /// ([`PictureFault::Extents`]), a pixel isn't a signed number of 32 bits
-    /// ([`PictureFault::Number`]), or something else stands ([`PictureFault::Syntax`]).
+    /// ([`PictureFault::Number`]), or something else is ([`PictureFault::Syntax`]).
     /// [`ReadError::Memory`] comes only where memory runs out; the memory that is taken is what the
     /// picture holds, and no more than two bytes for each byte of the text.
     pub fn read(alloc: Global, text: &str) -> Result<Picture, ReadError<PictureFault>>

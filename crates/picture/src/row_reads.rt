@@ -20,10 +20,10 @@ use picture_rows::{Clamp, Row, Window};
 use std::alloc::AllocError;
 
 /// The row of an input's pixels; nothing of it where the input has none.
-fn input_window<'a>(pictures: &'a [Picture], place: usize, y: u32) -> Window<'a>
-    ensures { IsWindow (λ x. spec.input_planes pictures.now place x y) result }
+fn input_window<'a>(pictures: &'a [Picture], input_index: usize, y: u32) -> Window<'a>
+    ensures { IsWindow (λ x. spec.input_planes pictures.now input_index x y) result }
 {
-    match pictures.get(place) {
+    match pictures.get(input_index) {
         None => Window::nothing(),
         Some(picture) => picture_window(picture, y),
     }
@@ -60,54 +60,54 @@ pub(crate) fn table_window<'a>(table: &'a Table, y: u32) -> Window<'a>
 }
 
 /// The table of the Func at a place.
-pub(crate) fn table_at<'a>(tables: &'a [Table], place: usize) -> Option<&'a Table>
-    ensures { option_copied result ≡ slice_get tables.now place }
+pub(crate) fn table_at<'a>(tables: &'a [Table], func_index: usize) -> Option<&'a Table>
+    ensures { option_copied result ≡ slice_get tables.now func_index }
 {
-    tables.get(place)
+    tables.get(func_index)
 }
 
 /// What is known of a row of a Func before the one at a place.
-fn func_window<'a>(scene: &Scene<'a>, own: usize, place: usize, y: u32) -> Window<'a>
+fn func_window<'a>(scene: &Scene<'a>, func_index: usize, source_index: usize, y: u32) -> Window<'a>
     requires tables { AreTables scene.now }
-    ensures { IsWindow (λ x. earlier_of scene.now own place x y) result }
+    ensures { IsWindow (λ x. earlier_of scene.now func_index source_index x y) result }
 {
-    if place >= own {
+    if source_index >= func_index {
         return Window::nothing();
     }
-    match table_at(scene.tables, place) {
+    match table_at(scene.tables, source_index) {
         None => Window::nothing(),
         Some(table) => table_window(table, y),
     }
 }
 
 /// What is known of a row of a source, in the pure definition of the Func at a place.
-fn window<'a>(scene: &Scene<'a>, own: usize, source: Source, y: u32) -> Window<'a>
+fn window<'a>(scene: &Scene<'a>, func_index: usize, source: Source, y: u32) -> Window<'a>
     requires tables { AreTables scene.now }
-    ensures { IsWindow (λ x. reads_in scene.now own states.Earlier source x y) result }
+    ensures { IsWindow (λ x. reads_in scene.now func_index states.Earlier source x y) result }
 {
     match source {
         Source::Input(place) => input_window(scene.pictures, place, y),
-        Source::Func(place) => func_window(scene, own, place, y),
+        Source::Func(place) => func_window(scene, func_index, place, y),
     }
 }
 
 /// A pixel of a source in a row of which a window is known.
 fn read_column(
     scene: &Scene,
-    own: usize,
+    func_index: usize,
     source: Source,
     window: Window,
     x: u32,
     y: u32,
 ) -> Result<u32, AllocError>
     requires tables { AreTables scene.now }
-    requires known { IsWindow (λ x. reads_in scene.now own states.Earlier source x y) window }
-    ensures { IfOk result (λ pixel. pixel ≡ reads_in scene.now own states.Earlier source x y) }
+    requires known { IsWindow (λ x. reads_in scene.now func_index states.Earlier source x y) window }
+    ensures { IfOk result (λ pixel. pixel ≡ reads_in scene.now func_index states.Earlier source x y) }
 {
     match window.get(x) {
         Some(pixel) => Ok(pixel),
         None => {
-            let pixel = read(scene, own, FuncState::Earlier, source, x, y)?;
+            let pixel = read(scene, func_index, FuncState::Earlier, source, x, y)?;
             Ok(pixel)
         }
     }
@@ -116,7 +116,7 @@ fn read_column(
 /// The pixels of a source in one row and in these columns.
 fn read_columns(
     scene: &Scene,
-    own: usize,
+    func_index: usize,
     source: Source,
     x: &Row,
     y: u32,
@@ -125,13 +125,14 @@ fn read_columns(
     requires tables { AreTables scene.now }
     requires columns { HasLength width x.now }
     requires narrow { width < 2 ^ 32 }
-    ensures { IfOk result (IsRow width (λ at. reads_in scene.now own states.Earlier source (value_at x.now at) y)) }
+    ensures { IfOk result (IsRow width (λ at. reads_in scene.now func_index states.Earlier source (value_at x.now at)
+        y)) }
 {
-    let known = window(scene, own, source, y);
+    let known = window(scene, func_index, source, y);
     let mut values = vec![in scene.alloc; 0; width]?;
     for at in 0..width {
         let column = x.value_at(at, width);
-        values[at] = read_column(scene, own, source, known, column, y)?;
+        values[at] = read_column(scene, func_index, source, known, column, y)?;
     }
     Ok(Row::Each(values))
 }
@@ -139,7 +140,7 @@ fn read_columns(
 /// The pixels of a source in one row and in these columns, in their place where all are known.
 fn read_each(
     scene: &Scene,
-    own: usize,
+    func_index: usize,
     source: Source,
     mut columns: Vec<u32>,
     y: u32,
@@ -148,22 +149,22 @@ fn read_each(
     requires tables { AreTables scene.now }
     requires columns { length columns.items ≡ width }
     requires narrow { width < 2 ^ 32 }
-    ensures { IfOk result (IsRow width (λ at. reads_in scene.now own states.Earlier source
+    ensures { IfOk result (IsRow width (λ at. reads_in scene.now func_index states.Earlier source
         (slice_index columns.items at) y)) }
 {
-    let known = window(scene, own, source, y);
+    let known = window(scene, func_index, source, y);
     if known.covers(&columns) {
         known.fetch(&mut columns);
         return Ok(Row::Each(columns));
     }
-    let row = read_columns(scene, own, source, &Row::Each(columns), y, width)?;
+    let row = read_columns(scene, func_index, source, &Row::Each(columns), y, width)?;
     Ok(row)
 }
 
 /// The pixels of a source in one row and in columns one beside the other.
 fn read_stretch(
     scene: &Scene,
-    own: usize,
+    func_index: usize,
     source: Source,
     first: u32,
     y: u32,
@@ -171,20 +172,21 @@ fn read_stretch(
 ) -> Result<Row, AllocError>
     requires tables { AreTables scene.now }
     requires narrow { width < 2 ^ 32 }
-    ensures { IfOk result (IsRow width (λ at. reads_in scene.now own states.Earlier source (word.add first at) y)) }
+    ensures { IfOk result (IsRow width (λ at. reads_in scene.now func_index states.Earlier source (word.add first at)
+        y)) }
 {
-    if let Some(values) = window(scene, own, source, y).columns(first, width) {
+    if let Some(values) = window(scene, func_index, source, y).columns(first, width) {
         let values = Vec::from_slice(scene.alloc, values)?;
         return Ok(Row::Each(values));
     }
-    let row = read_columns(scene, own, source, &Row::Step(first), y, width)?;
+    let row = read_columns(scene, func_index, source, &Row::Step(first), y, width)?;
     Ok(row)
 }
 
 /// The pixels of a source in one row and in columns one beside the other that are clamped.
 fn read_clamped(
     scene: &Scene,
-    own: usize,
+    func_index: usize,
     source: Source,
     clamp: Clamp,
     y: u32,
@@ -192,21 +194,21 @@ fn read_clamped(
 ) -> Result<Row, AllocError>
     requires tables { AreTables scene.now }
     requires narrow { width < 2 ^ 32 }
-    ensures { IfOk result (IsRow width (λ at. reads_in scene.now own states.Earlier source (clamped clamp at) y)) }
+    ensures { IfOk result (IsRow width (λ at. reads_in scene.now func_index states.Earlier source (clamped clamp at) y)) }
 {
-    let known = window(scene, own, source, y);
+    let known = window(scene, func_index, source, y);
     if let Some(values) = known.clamped(scene.alloc, clamp, width)? {
         return Ok(Row::Each(values));
     }
-    let row = read_columns(scene, own, source, &Row::Clamped(clamp), y, width)?;
+    let row = read_columns(scene, func_index, source, &Row::Clamped(clamp), y, width)?;
     Ok(row)
 }
 
 /// The pixels of an input at points.
 fn read_inputs(
     scene: &Scene,
-    own: usize,
-    place: usize,
+    func_index: usize,
+    source_index: usize,
     x: &Row,
     y: &Row,
     width: usize,
@@ -214,14 +216,14 @@ fn read_inputs(
     requires columns { HasLength width x.now }
     requires rows { HasLength width y.now }
     requires narrow { width < 2 ^ 32 }
-    ensures { IfOk result (IsRow width (λ at. reads_in scene.now own states.Earlier (sources.Input place)
+    ensures { IfOk result (IsRow width (λ at. reads_in scene.now func_index states.Earlier (sources.Input source_index)
         (value_at x.now at) (value_at y.now at))) }
 {
     let mut values = vec![in scene.alloc; 0; width]?;
     for at in 0..width {
         let column = x.value_at(at, width);
         let row = y.value_at(at, width);
-        values[at] = input_pixel(scene.pictures, place, column, row);
+        values[at] = input_pixel(scene.pictures, source_index, column, row);
     }
     Ok(Row::Each(values))
 }
@@ -229,7 +231,7 @@ fn read_inputs(
 /// The pixels of a source at points.
 fn read_points(
     scene: &Scene,
-    own: usize,
+    func_index: usize,
     source: Source,
     x: &Row,
     y: &Row,
@@ -239,18 +241,18 @@ fn read_points(
     requires columns { HasLength width x.now }
     requires rows { HasLength width y.now }
     requires narrow { width < 2 ^ 32 }
-    ensures { IfOk result (IsRow width (λ at. reads_in scene.now own states.Earlier source (value_at x.now at)
+    ensures { IfOk result (IsRow width (λ at. reads_in scene.now func_index states.Earlier source (value_at x.now at)
         (value_at y.now at))) }
 {
     if let Source::Input(place) = source {
-        let row = read_inputs(scene, own, place, x, y, width)?;
+        let row = read_inputs(scene, func_index, place, x, y, width)?;
         return Ok(row);
     }
     let mut values = vec![in scene.alloc; 0; width]?;
     for at in 0..width {
         let column = x.value_at(at, width);
         let row = y.value_at(at, width);
-        values[at] = read(scene, own, FuncState::Earlier, source, column, row)?;
+        values[at] = read(scene, func_index, FuncState::Earlier, source, column, row)?;
     }
     Ok(Row::Each(values))
 }
@@ -258,7 +260,7 @@ fn read_points(
 /// What reads of a source answer at points one beside the other, in the pure definition of the Func at a place.
 pub(crate) fn read_row(
     scene: &Scene,
-    own: usize,
+    func_index: usize,
     source: Source,
     x: Row,
     y: Row,
@@ -268,28 +270,28 @@ pub(crate) fn read_row(
     requires columns { HasLength width x }
     requires rows { HasLength width y }
     requires narrow { width < 2 ^ 32 }
-    ensures { IfOk result (IsRow width (λ at. reads_in scene.now own states.Earlier source (value_at x at)
+    ensures { IfOk result (IsRow width (λ at. reads_in scene.now func_index states.Earlier source (value_at x at)
         (value_at y at))) }
 {
     match (x, y) {
         (Row::Same(x), Row::Same(y)) => {
-            let pixel = read(scene, own, FuncState::Earlier, source, x, y)?;
+            let pixel = read(scene, func_index, FuncState::Earlier, source, x, y)?;
             Ok(Row::Same(pixel))
         }
         (Row::Step(first), Row::Same(y)) => {
-            let row = read_stretch(scene, own, source, first, y, width)?;
+            let row = read_stretch(scene, func_index, source, first, y, width)?;
             Ok(row)
         }
         (Row::Clamped(clamp), Row::Same(y)) => {
-            let row = read_clamped(scene, own, source, clamp, y, width)?;
+            let row = read_clamped(scene, func_index, source, clamp, y, width)?;
             Ok(row)
         }
         (Row::Each(columns), Row::Same(y)) => {
-            let row = read_each(scene, own, source, columns, y, width)?;
+            let row = read_each(scene, func_index, source, columns, y, width)?;
             Ok(row)
         }
         (x, y) => {
-            let row = read_points(scene, own, source, &x, &y, width)?;
+            let row = read_points(scene, func_index, source, &x, &y, width)?;
             Ok(row)
         }
     }

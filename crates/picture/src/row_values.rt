@@ -16,43 +16,43 @@ use std::alloc::AllocError;
 /// A row of fewer pixels is computed pixel by pixel.
 const FEW: usize = 8;
 
-/// So many columns are computed at once.
+/// This many columns are computed at once.
 pub(crate) const STRETCH: usize = 4096;
 
-/// So many pixels of the Func at a place in a row from a column on, one by one.
+/// This many pixels of the Func at a place in a row from a column on, one by one.
 fn pixels_one_by_one(
     scene: &Scene,
-    place: usize,
+    func_index: usize,
     left: u32,
     y: u32,
     width: usize,
 ) -> Result<Vec<u32>, AllocError>
     requires tables { AreTables scene.now }
     requires narrow { width < 2 ^ 32 }
-    ensures { IfOk result (λ pixels. AreValues width (λ at. plane_of scene.now place (word.add left at) y)
+    ensures { IfOk result (λ pixels. AreValues width (λ at. plane_of scene.now func_index (word.add left at) y)
         pixels.items) }
 {
     let mut pixels = vec![in scene.alloc; 0; width]?;
     for at in 0..width {
-        pixels[at] = pixel(scene, place, words::add(left, at as u32), y)?;
+        pixels[at] = pixel(scene, func_index, words::add(left, at as u32), y)?;
     }
     Ok(pixels)
 }
 
-/// So many pixels of the Func at a place in a row from a column on, where its table has them.
+/// This many pixels of the Func at a place in a row from a column on, where its table has them.
 fn tabled_stretch(
     scene: &Scene,
-    place: usize,
+    func_index: usize,
     left: u32,
     y: u32,
     width: usize,
 ) -> Result<Option<Vec<u32>>, AllocError>
     requires tables { AreTables scene.now }
     requires narrow { width < 2 ^ 32 }
-    ensures { IfOk result (λ found. IfSome found (λ pixels. AreValues width (λ at. plane_of scene.now place
+    ensures { IfOk result (λ found. IfSome found (λ pixels. AreValues width (λ at. plane_of scene.now func_index
         (word.add left at) y) pixels.items)) }
 {
-    let Some(table) = table_at(scene.tables, place) else {
+    let Some(table) = table_at(scene.tables, func_index) else {
         return Ok(None);
     };
     let Some(pixels) = table_window(table, y).columns(left, width) else {
@@ -62,45 +62,50 @@ fn tabled_stretch(
     Ok(Some(pixels))
 }
 
-/// So many pixels of the Func at a place in a row from a column on, at once where that is less work, and not anew where
+/// This many pixels of the Func at a place in a row from a column on, at once where that is less work, and not anew where
 /// there is a table of them.
 fn pixel_stretch(
     scene: &Scene,
-    place: usize,
+    func_index: usize,
     left: u32,
     y: u32,
     width: usize,
 ) -> Result<Vec<u32>, AllocError>
     requires tables { AreTables scene.now }
     requires narrow { width < 2 ^ 32 }
-    ensures { IfOk result (λ pixels. AreValues width (λ at. plane_of scene.now place (word.add left at) y)
+    ensures { IfOk result (λ pixels. AreValues width (λ at. plane_of scene.now func_index (word.add left at) y)
         pixels.items) }
 {
-    if let Some(pixels) = tabled_stretch(scene, place, left, y, width)? {
+    if let Some(pixels) = tabled_stretch(scene, func_index, left, y, width)? {
         return Ok(pixels);
     }
     if width >= FEW
-        && let Some(func) = func_at(scene.funcs, place)
-        && let Some(pixels) = pixels_at_once(scene, place, func, PixelSpan { left, y, width })?
+        && let Some(func) = func_at(scene.funcs, func_index)
+        && let Some(pixels) = pixels_at_once(
+            scene,
+            func_index,
+            func,
+            PixelSpan { left, y, width },
+        )?
     {
         return Ok(pixels);
     }
-    let pixels = pixels_one_by_one(scene, place, left, y, width)?;
+    let pixels = pixels_one_by_one(scene, func_index, left, y, width)?;
     Ok(pixels)
 }
 
-/// So many pixels of the Func at a place in a row from a column on, a stretch after the other, so that rows of values
+/// This many pixels of the Func at a place in a row from a column on, a stretch after the other, so that rows of values
 /// take little memory.
 pub(crate) fn pixel_row(
     scene: &Scene,
-    place: usize,
+    func_index: usize,
     left: u32,
     y: u32,
     width: usize,
 ) -> Result<Vec<u32>, AllocError>
     requires tables { AreTables scene.now }
     requires narrow { width < 2 ^ 32 }
-    ensures { IfOk result (λ pixels. AreValues width (λ at. plane_of scene.now place (word.add left at) y)
+    ensures { IfOk result (λ pixels. AreValues width (λ at. plane_of scene.now func_index (word.add left at) y)
         pixels.items) }
 {
     let mut pixels = Vec::new(scene.alloc);
@@ -108,7 +113,7 @@ pub(crate) fn pixel_row(
         let from = number * STRETCH;
         let count = (width - from).min(STRETCH);
         let first = words::add(left, from as u32);
-        let stretch = pixel_stretch(scene, place, first, y, count)?;
+        let stretch = pixel_stretch(scene, func_index, first, y, count)?;
         pixels.extend_from_slice(&stretch)?;
     }
     Ok(pixels)

@@ -107,7 +107,6 @@ pub(crate) struct UpdatedPixels {
     pub boxes: Vec<Table>,
 }
 
-/// Written out, so that a check sees a call wherever one is dropped, and not the drops of its parts.
 impl Drop for UpdatedPixels {
     fn drop(self) {
         let UpdatedPixels {
@@ -134,7 +133,7 @@ pub(crate) struct Scene<'a> {
     pub costs: &'a [Cost],
 }
 
-/// An update of the Func at a place, after so many others.
+/// An update of the Func at a place, after this many others.
 #[derive(Clone, Copy)]
 pub(crate) struct Pass<'a> {
     pub own: usize,
@@ -143,7 +142,7 @@ pub(crate) struct Pass<'a> {
     pub update: &'a Update,
 }
 
-/// A slice on which the first so many points of an update have run.
+/// A slice on which the first this many points of an update have run.
 #[derive(Clone, Copy)]
 pub(crate) struct Progress<'a> {
     pub slice: &'a Slice,
@@ -155,7 +154,7 @@ pub(crate) struct Progress<'a> {
 pub(crate) enum FuncState<'a> {
     /// Nothing: there are none.
     Earlier,
-    /// The Func after so many whole updates and so many points of the next one.
+    /// The Func after this many whole updates and this many points of the next one.
     After(usize, u64),
     /// The same, and what was written of a slice.
     Forward(usize, u64, &'a Slice),

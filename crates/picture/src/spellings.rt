@@ -11,10 +11,10 @@ use crate::readings::separator;
 use itoa::Buffer;
 use std::alloc::AllocError;
 
-/// A heading has at most so many bytes.
+/// A heading has at most this many bytes.
 const MOST_HEADING: usize = 30;
 
-/// A pixel and what stands after it have at most so many bytes.
+/// A pixel and what is after it have at most this many bytes.
 const MOST_PIXEL: usize = 12;
 
 /// Appends bytes, where there is room for them.

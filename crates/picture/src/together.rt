@@ -13,7 +13,7 @@ ghost use Rattle.picture_rows.specs.Rows.{value_at, HasLength};
 use crate::boxes::TableBounds;
 use crate::in_place::{PixelSpan, is_first, is_second, stage_pixels};
 use crate::line_values::{index_row, shared_row};
-use crate::lines::{Along, Own, PointLine};
+use crate::lines::{Along, KnownPixels, PointLine};
 use crate::points::{at_reduction, is_forward, points};
 use crate::scenes::{Pass, Scene, Table};
 use halide_pipeline::{Expr, Update, words};
@@ -65,7 +65,7 @@ fn store_row(scene: &Scene, pass: Pass, line: PointLine) -> Result<Option<StoreR
 {
     let Pass { own, update, .. } = pass;
     let free = PointLine {
-        own: Own::Nothing,
+        own: KnownPixels::Nothing,
         ..line
     };
     let Some(x) = shared_row(scene, own, free, &update.left_x)? else {
@@ -179,7 +179,7 @@ fn run_point(
         start: at_reduction(pass.update, number, table.left, table.top),
         along,
         width: width as usize,
-        own: Own::Box(table),
+        own: KnownPixels::Box(table),
     };
     let Some(row) = store_row(scene, pass, line)? else {
         return Ok(false);

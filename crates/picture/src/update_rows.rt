@@ -10,7 +10,7 @@ ghost use Rattle.picture.specs.inner.UpdateRows.{AreIndices, IsRight, IsUpdateRo
 ghost use Rattle.picture_rows.specs.Rows.{HasLength, value_at};
 
 use crate::line_values::{index_row, shared_row};
-use crate::lines::{Along, Own, PointLine, is_own};
+use crate::lines::{Along, KnownPixels, PointLine, is_own};
 use crate::scenes::Scene;
 use halide_pipeline::{Environment, Expr, Operation, Update};
 use picture_rows::Row;
@@ -25,7 +25,6 @@ pub(crate) struct Indices {
     pub y: Row,
 }
 
-/// Written out, so that a check sees a call wherever one is dropped, and not the drops of its parts.
 impl Drop for Indices {
     fn drop(self) {
         let Indices { x, y } = self;
@@ -41,7 +40,6 @@ pub(crate) enum Right {
     Second(Operation, Row, Indices),
 }
 
-/// Written out, so that a check sees a call wherever one is dropped, and not the drops of its parts.
 impl Drop for Right {
     fn drop(self) {
         match self {
@@ -65,7 +63,6 @@ pub(crate) struct UpdateRow {
     pub right: Right,
 }
 
-/// Written out, so that a check sees a call wherever one is dropped, and not the drops of its parts.
 impl Drop for UpdateRow {
     fn drop(self) {
         let UpdateRow {
@@ -96,7 +93,7 @@ impl Indices {
 /// The values of an expression along a row of the reduction box; none where it reads the own Func.
 fn reduced_row(
     scene: &Scene,
-    own: usize,
+    func_index: usize,
     start: &Environment,
     width: usize,
     expr: &Expr,
@@ -104,15 +101,15 @@ fn reduced_row(
     requires tables { AreTables scene.now }
     requires narrow { width < 2 ^ 32 }
     ensures { IfOk result (λ found. IfSome found (IsShared (reduction_line width start.now)
-        (λ plane at. spec.value (reads_with scene.now own plane) (row_point start.now at) expr.now))) }
+        (λ plane at. spec.value (reads_with scene.now func_index plane) (row_point start.now at) expr.now))) }
 {
     let line = PointLine {
         start: *start,
         along: Along::Reduction,
         width,
-        own: Own::Nothing,
+        own: KnownPixels::Nothing,
     };
-    let row = shared_row(scene, own, line, expr)?;
+    let row = shared_row(scene, func_index, line, expr)?;
     Ok(row)
 }
 
@@ -120,7 +117,7 @@ fn reduced_row(
 #[tactic(auto, unfolding(halide_pipeline::specs::Pixel::value))]
 fn own_indices(
     scene: &Scene,
-    own: usize,
+    func_index: usize,
     start: &Environment,
     width: usize,
     expr: &Expr,
@@ -128,27 +125,27 @@ fn own_indices(
     requires tables { AreTables scene.now }
     requires narrow { width < 2 ^ 32 }
     ensures { IfOk result (λ found. IfSome found
-        (AreIndices width (λ plane at. spec.value (reads_with scene.now own plane) (row_point start.now at)
+        (AreIndices width (λ plane at. spec.value (reads_with scene.now func_index plane) (row_point start.now at)
         expr.now))) }
 {
     match expr {
         Expr::Call1(source, x) => {
-            if !is_own(own, *source) {
+            if !is_own(func_index, *source) {
                 return Ok(None);
             }
-            let Some(x) = reduced_row(scene, own, start, width, x.get())? else {
+            let Some(x) = reduced_row(scene, func_index, start, width, x.get())? else {
                 return Ok(None);
             };
             Ok(Some(Indices { x, y: Row::Same(0) }))
         }
         Expr::Call2(source, x, y) => {
-            if !is_own(own, *source) {
+            if !is_own(func_index, *source) {
                 return Ok(None);
             }
-            let Some(x) = reduced_row(scene, own, start, width, x.get())? else {
+            let Some(x) = reduced_row(scene, func_index, start, width, x.get())? else {
                 return Ok(None);
             };
-            let Some(y) = reduced_row(scene, own, start, width, y.get())? else {
+            let Some(y) = reduced_row(scene, func_index, start, width, y.get())? else {
                 return Ok(None);
             };
             Ok(Some(Indices { x, y }))
@@ -168,7 +165,7 @@ struct Sides<'a> {
 /// An operation of a read of the own Func and of what doesn't read it, along a row.
 fn first_of(
     scene: &Scene,
-    own: usize,
+    func_index: usize,
     start: &Environment,
     width: usize,
     sides: &Sides<'_>,
@@ -176,14 +173,15 @@ fn first_of(
     requires tables { AreTables scene.now }
     requires narrow { width < 2 ^ 32 }
     ensures { IfOk result (λ found. IfSome found
-        (IsRight width (λ plane at. word.applied sides.now.operation (spec.value (reads_with scene.now own plane)
-        (row_point start.now at) sides.now.a.now) (spec.value (reads_with scene.now own plane) (row_point start.now at)
+        (IsRight width (λ plane at. word.applied sides.now.operation (spec.value (reads_with scene.now func_index plane)
+        (row_point start.now at) sides.now.a.now) (spec.value (reads_with scene.now func_index plane)
+        (row_point start.now at)
         sides.now.b.now)))) }
 {
-    let Some(indices) = own_indices(scene, own, start, width, sides.a)? else {
+    let Some(indices) = own_indices(scene, func_index, start, width, sides.a)? else {
         return Ok(None);
     };
-    let Some(row) = reduced_row(scene, own, start, width, sides.b)? else {
+    let Some(row) = reduced_row(scene, func_index, start, width, sides.b)? else {
         return Ok(None);
     };
     Ok(Some(Right::First(sides.operation, indices, row)))
@@ -192,7 +190,7 @@ fn first_of(
 /// The same the other way round.
 fn second_of(
     scene: &Scene,
-    own: usize,
+    func_index: usize,
     start: &Environment,
     width: usize,
     sides: &Sides<'_>,
@@ -200,14 +198,15 @@ fn second_of(
     requires tables { AreTables scene.now }
     requires narrow { width < 2 ^ 32 }
     ensures { IfOk result (λ found. IfSome found
-        (IsRight width (λ plane at. word.applied sides.now.operation (spec.value (reads_with scene.now own plane)
-        (row_point start.now at) sides.now.a.now) (spec.value (reads_with scene.now own plane) (row_point start.now at)
+        (IsRight width (λ plane at. word.applied sides.now.operation (spec.value (reads_with scene.now func_index plane)
+        (row_point start.now at) sides.now.a.now) (spec.value (reads_with scene.now func_index plane)
+        (row_point start.now at)
         sides.now.b.now)))) }
 {
-    let Some(indices) = own_indices(scene, own, start, width, sides.b)? else {
+    let Some(indices) = own_indices(scene, func_index, start, width, sides.b)? else {
         return Ok(None);
     };
-    let Some(row) = reduced_row(scene, own, start, width, sides.a)? else {
+    let Some(row) = reduced_row(scene, func_index, start, width, sides.a)? else {
         return Ok(None);
     };
     Ok(Some(Right::Second(sides.operation, row, indices)))
@@ -216,7 +215,7 @@ fn second_of(
 /// An operation along a row, where at most one side reads the own Func, and that at once.
 fn two_of(
     scene: &Scene,
-    own: usize,
+    func_index: usize,
     start: &Environment,
     width: usize,
     sides: &Sides<'_>,
@@ -224,14 +223,15 @@ fn two_of(
     requires tables { AreTables scene.now }
     requires narrow { width < 2 ^ 32 }
     ensures { IfOk result (λ found. IfSome found
-        (IsRight width (λ plane at. word.applied sides.now.operation (spec.value (reads_with scene.now own plane)
-        (row_point start.now at) sides.now.a.now) (spec.value (reads_with scene.now own plane) (row_point start.now at)
+        (IsRight width (λ plane at. word.applied sides.now.operation (spec.value (reads_with scene.now func_index plane)
+        (row_point start.now at) sides.now.a.now) (spec.value (reads_with scene.now func_index plane)
+        (row_point start.now at)
         sides.now.b.now)))) }
 {
-    if let Some(right) = first_of(scene, own, start, width, sides)? {
+    if let Some(right) = first_of(scene, func_index, start, width, sides)? {
         return Ok(Some(right));
     }
-    let right = second_of(scene, own, start, width, sides)?;
+    let right = second_of(scene, func_index, start, width, sides)?;
     Ok(right)
 }
 
@@ -239,14 +239,15 @@ fn two_of(
 #[tactic(auto, unfolding(halide_pipeline::specs::Pixel::value))]
 fn operation_of(
     scene: &Scene,
-    own: usize,
+    func_index: usize,
     start: &Environment,
     width: usize,
     expr: &Expr,
 ) -> Result<Option<Right>, AllocError>
     requires tables { AreTables scene.now }
     requires narrow { width < 2 ^ 32 }
-    ensures { IfOk result (λ found. IfSome found (IsRight width (λ plane at. spec.value (reads_with scene.now own plane)
+    ensures { IfOk result (λ found. IfSome found (IsRight width
+        (λ plane at. spec.value (reads_with scene.now func_index plane)
         (row_point start.now at) expr.now))) }
 {
     match expr {
@@ -256,7 +257,7 @@ fn operation_of(
                 a: a.get(),
                 b: b.get(),
             };
-            let right = two_of(scene, own, start, width, &sides)?;
+            let right = two_of(scene, func_index, start, width, &sides)?;
             Ok(right)
         }
         _ => Ok(None),
@@ -266,20 +267,21 @@ fn operation_of(
 /// The right side of an update along a row, where it reads the own Func in such a way.
 fn right_of(
     scene: &Scene,
-    own: usize,
+    func_index: usize,
     start: &Environment,
     width: usize,
     expr: &Expr,
 ) -> Result<Option<Right>, AllocError>
     requires tables { AreTables scene.now }
     requires narrow { width < 2 ^ 32 }
-    ensures { IfOk result (λ found. IfSome found (IsRight width (λ plane at. spec.value (reads_with scene.now own plane)
+    ensures { IfOk result (λ found. IfSome found (IsRight width
+        (λ plane at. spec.value (reads_with scene.now func_index plane)
         (row_point start.now at) expr.now))) }
 {
-    if let Some(right) = operation_of(scene, own, start, width, expr)? {
+    if let Some(right) = operation_of(scene, func_index, start, width, expr)? {
         return Ok(Some(right));
     }
-    let Some(row) = reduced_row(scene, own, start, width, expr)? else {
+    let Some(row) = reduced_row(scene, func_index, start, width, expr)? else {
         return Ok(None);
     };
     Ok(Some(Right::Alone(row)))
@@ -288,31 +290,31 @@ fn right_of(
 /// An update along a row, where that is long and its right side one of [`right_of`].
 pub(crate) fn update_row(
     scene: &Scene,
-    own: usize,
+    func_index: usize,
     start: &Environment,
     width: usize,
     update: &Update,
 ) -> Result<Option<UpdateRow>, AllocError>
     requires tables { AreTables scene.now }
     requires narrow { width < 2 ^ 32 }
-    ensures { IfOk result (λ found. IfSome found (IsUpdateRow scene.now own width start.now update.now)) }
+    ensures { IfOk result (λ found. IfSome found (IsUpdateRow scene.now func_index width start.now update.now)) }
 {
     if width < FEW {
         return Ok(None);
     }
-    let Some(left_x) = reduced_row(scene, own, start, width, &update.left_x)? else {
+    let Some(left_x) = reduced_row(scene, func_index, start, width, &update.left_x)? else {
         return Ok(None);
     };
     let line = PointLine {
         start: *start,
         along: Along::Reduction,
         width,
-        own: Own::Nothing,
+        own: KnownPixels::Nothing,
     };
-    let Some(left_y) = index_row(scene, own, line, &update.left_y)? else {
+    let Some(left_y) = index_row(scene, func_index, line, &update.left_y)? else {
         return Ok(None);
     };
-    let Some(right) = right_of(scene, own, start, width, &update.right)? else {
+    let Some(right) = right_of(scene, func_index, start, width, &update.right)? else {
         return Ok(None);
     };
     Ok(Some(UpdateRow {

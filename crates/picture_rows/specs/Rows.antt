@@ -6,7 +6,7 @@ use Rattle.picture_rows.specs.declared.clamps.Clamp.{Clamp}
 use Rattle.picture_rows.specs.declared.windows.Window.{Window}
 use Rattle.picture_rows.specs.declared.rows.Row.TheVariants as rows
 
--- these are the values at so many places
+-- these are the values at this many places
 pub record AreValues (width : ℕ) (says : ℕ → ℕ) (values : List ℕ) : Type 0 where
   pub len : length values ≡ width
   pub each : (at : ℕ) → at < width → slice_index values at ≡ says at
@@ -22,14 +22,14 @@ value_at (rows.Step first) at = word.add first at
 value_at (rows.Clamped clamp) at = clamped clamp at
 value_at (rows.Each values) at = slice_index values.items at
 
--- where each value is written down, there are so many
+-- where each value is written down, there are this many
 abbrev pub HasLength : ℕ → Row → Type 0
 HasLength width (rows.Same value) = Unit {0}
 HasLength width (rows.Step first) = Unit {0}
 HasLength width (rows.Clamped clamp) = Unit {0}
 HasLength width (rows.Each values) = length values.items ≡ width
 
--- A row has these values at so many places.
+-- A row has these values at this many places.
 pub record IsRow (width : ℕ) (says : ℕ → ℕ) (row : Row) : Type 0 where
   pub len : HasLength width row
   pub each : (at : ℕ) → at < width → value_at row at ≡ says at

@@ -190,7 +190,7 @@ pub fn clamp_up(values: &mut [u32], clamp: Clamp)
     }
 }
 
-/// So many words: one before a place, these words from there on, and another one after them.
+/// This many words: one before a place, these words from there on, and another one after them.
 pub fn spread(
     alloc: Global,
     width: usize,

@@ -38,7 +38,7 @@ impl Row {
         }
     }
 
-    /// The words at so many places, each written down.
+    /// The words at this many places, each written down.
     ///
     /// # Errors
     ///

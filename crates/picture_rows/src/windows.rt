@@ -9,7 +9,7 @@ use crate::loops::spread;
 use halide_pipeline::words;
 use std::alloc::{AllocError, Global};
 
-/// So many words from a place on.
+/// This many words from a place on.
 pub fn stretch(values: &[u32], from: usize, count: usize) -> &[u32]
     requires { from + count ≤ length values.now }
     ensures { AreValues count (λ at. slice_index values.now (from + at)) result.now }
@@ -48,7 +48,7 @@ impl<'a> Window<'a> {
         Some(self.values[at])
     }
 
-    /// The words in so many columns from one on, if all are known; there may be no columns.
+    /// The words in this many columns from one on, if all are known; there may be no columns.
     fn part(&self, column: u32, count: usize) -> Option<&'a [u32]>
         requires { count < 2 ^ 32 }
         ensures len { IfSome result (λ values. length values.now ≡ count) }
@@ -65,7 +65,7 @@ impl<'a> Window<'a> {
         Some(stretch(self.values, at, count))
     }
 
-    /// The words in so many columns from one on, if all are known.
+    /// The words in this many columns from one on, if all are known.
     pub fn columns(&self, column: u32, count: usize) -> Option<&'a [u32]>
         requires { count < 2 ^ 32 }
         ensures { (says : ℕ → ℕ) → IsWindow says self.now

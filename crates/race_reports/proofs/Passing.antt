@@ -53,7 +53,7 @@ joined hart (suc m) n =
     let same : suc (m + n) ≡ suc m + n = omega arith in
     ap (λ ts. hart ∷ ts) (joined hart m n) ∙ ap (λ (k : ℕ). replicate k hart) same
 
--- so many more turns of the hart
+-- this many more turns of the hart
 pub run_then : (words : List ℕ) (start now : State) (spans : List Span) (hart made count : ℕ) → SoFar words start now spans hart made count
     → (n : ℕ) → run now (replicate n hart) ≡ run start (replicate (made + n) hart)
 run_then words start now spans hart made count so n =
@@ -107,7 +107,7 @@ run_on words start now spans turns place hart count k up stand few =
     ap (λ (s : State). run s (replicate k hart)) up.state ∙ sym (run-append start (take place turns) (replicate k hart))
     ∙ ap (run start) (sym (taken turns place hart count k stand few))
 
--- no race before so many turns of a stretch
+-- no race before this many turns of a stretch
 pub clear_on : (words : List ℕ) (start now : State) (spans : List Span) (turns : List ℕ) (place hart count made : ℕ)
     → UpTo words start now spans turns place → Stand turns place hart count → made ≤ count → AreClear words now hart made
     → (j : ℕ) → j < place + made → race_in words (run start (take j turns)) ≡ None

@@ -55,7 +55,7 @@ apart_from_all words state hart nothing other from below differ =
 
 -- ---- turn by turn
 
--- after so many turns nothing races, and a span that covers nothing is the hart's
+-- after this many turns nothing races, and a span that covers nothing is the hart's
 pub record IsQuiet (words : List ℕ) (state : State) (spans : List Span) (span : Span) (hart : ℕ) : Type 0 where
   pub clear : race_in words state ≡ None
   pub spans_are : AreSpans state (slice_set spans hart span)

@@ -78,7 +78,7 @@ finds_none words read written (first ∷ places) unshared =
     ap (λ b. if b then Some first else first_shared words read written places) (unshared first (in_first first places))
     ∙ finds_none words read written places (λ place among. unshared place (in_more place first places among))
 
--- one list behind the other
+-- one list after the other
 abbrev pub either_of : Option ℕ → Option ℕ → Option ℕ
 either_of None later = later
 either_of (Some place) later = Some place

@@ -128,7 +128,7 @@ clear_at words place state (hart ∷ turns) none (suc k) within =
     clear_at words (place + 1) (turn state hart) turns
     (later_none place (race_in words state) (first_race words (place + 1) (turn state hart) turns) none).1 k (omega (arith, within))
 
--- the first race stands so many turns on
+-- the first race is this many turns on
 pub record StandsAt (words : List ℕ) (place : ℕ) (state : State) (turns : List ℕ) (found : FirstRace) : Type 0 where
   pub k : ℕ
   pub place_is : found.place ≡ place + k

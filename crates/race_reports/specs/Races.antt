@@ -59,7 +59,7 @@ abbrev pub or_later : ℕ → Option RacingTurns → Option FirstRace → Option
 or_later place None later = later
 or_later place (Some turns) later = Some (record { place = place; turns = turns })
 
--- the first place at which there is a race, where so many turns came before the first of these
+-- the first place at which there is a race, where this many turns came before the first of these
 abbrev pub first_race : List ℕ → ℕ → State → List ℕ → Option FirstRace
 first_race words place state [] = or_later place (race_in words state) None
 first_race words place state (hart ∷ turns) = or_later place (race_in words state) (first_race words (place + 1) (turn state hart) turns)

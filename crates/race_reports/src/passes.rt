@@ -77,7 +77,7 @@ fn pass(
 
 /// Turns of one hart up to the first race.
 #[derive(Clone, Copy, Debug)]
-struct Stretch {
+struct PassedTurns {
     /// How many they are.
     made: u64,
     /// The race after the last of them.
@@ -93,7 +93,7 @@ fn pass_run(
     spans: &mut [Span],
     hart: usize,
     count: u64,
-) -> Stretch
+) -> PassedTurns
     requires there { hart < length machine.old.harts }
     requires meant { insns.now ≡ map access_in machine.old.text }
     requires few { length insns.now ≤ most_words }
@@ -112,13 +112,13 @@ fn pass_run(
         let some = pass_some(machine, insns, quiets, but, spans, hart, count - made);
         made += some.made;
         if let Some(turns) = some.race {
-            return Stretch {
+            return PassedTurns {
                 made,
                 race: Some(turns),
             };
         }
     }
-    Stretch { made, race: None }
+    PassedTurns { made, race: None }
 }
 
 /// Makes some turns of one hart: all that are left where it doesn't run, since they change nothing; all over words that
@@ -132,7 +132,7 @@ fn pass_some(
     spans: &mut [Span],
     hart: usize,
     most: u64,
-) -> Stretch
+) -> PassedTurns
     requires there { hart < length machine.old.harts }
     requires meant { insns.now ≡ map access_in machine.old.text }
     requires few { length insns.now ≤ most_words }
@@ -149,7 +149,7 @@ fn pass_some(
 {
     let Status::Running = machine.status(hart) else {
         let _ = machine.run_same(hart, most);
-        return Stretch {
+        return PassedTurns {
             made: most,
             race: None,
         };
@@ -159,10 +159,10 @@ fn pass_some(
         return pass_quiet(machine, insns, but, spans, hart, quiet, most);
     }
     let race = step(machine, insns, but, spans, hart);
-    Stretch { made: 1, race }
+    PassedTurns { made: 1, race }
 }
 
-/// Makes turns of one hart over so many words at most that touch no memory: no hart races between them that didn't
+/// Makes turns of one hart over this many words at most that touch no memory: no hart races between them that didn't
 /// before.
 #[inline(always)]
 fn pass_quiet(
@@ -173,7 +173,7 @@ fn pass_quiet(
     hart: usize,
     quiet: u64,
     most: u64,
-) -> Stretch
+) -> PassedTurns
     requires there { hart < length machine.old.harts }
     requires meant { insns.now ≡ map access_in machine.old.text }
     requires few { length insns.now ≤ most_words }
@@ -191,7 +191,7 @@ fn pass_quiet(
 {
     let made = machine.step_on(hart, quiet.min(most)).made;
     let race = look(machine, insns, but, spans, hart);
-    Stretch { made, race }
+    PassedTurns { made, race }
 }
 
 /// Makes a turn, and says which harts race after it.

@@ -136,7 +136,7 @@ endings_are_one (Trapped first) (Trapped second) same =
 
 -- ---- all lines
 
--- what is read behind each item
+-- what is read after each item
 abbrev after_ending : (version logic image log : List ℕ) (harts limit : ℕ) → Ending × List ℕ → Result Contents RecordError
 after_ending version logic image log harts limit ending = at_end (record {
   version = version;

@@ -140,7 +140,7 @@ abbrev pub behind_name : List ℕ → List ℕ × List ℕ → Option (List ℕ 
 behind_name name lines =
     if not (starts_with nat_eq lines.0 name) then None else Some (drop (length name) lines.0, lines.1)
 
--- what stands behind a name in the first line, and the lines behind it; a line that isn't there counts as an empty one
+-- what comes after a name in the first line, and the lines after it; a line that isn't there counts as an empty one
 abbrev pub value_of : List ℕ → List ℕ → Option (List ℕ × List ℕ)
 value_of name text = behind_name name (first_line text)
 
@@ -152,7 +152,7 @@ abbrev pub with_value : {A : Type 0} → RecordFault → (List ℕ → Option A)
 with_value fault means line (Some (value, rest)) = with_meaning fault line rest (means value)
 with_value fault means line None = Err (fault_at line faults.Line)
 
--- What the value of the first line means, which has this number and has to begin with this name; and the lines behind it.
+-- What the value of the first line means, which has this number and has to begin with this name; and the lines after it.
 abbrev pub item : {A : Type 0} → RecordFault → (List ℕ → Option A) → ℕ → List ℕ → List ℕ → Result (A × List ℕ) RecordError
 item fault means line name text = with_value fault means line (value_of name text)
 
@@ -171,11 +171,11 @@ ending_item = item faults.Ending ending_in
 abbrev pub headed : List ℕ × List ℕ → Result (List ℕ) RecordError
 headed lines = if not (bytes_eq lines.0 (codes "record 1")) then Err (fault_at 1 faults.Heading) else Ok lines.1
 
--- the lines behind the heading
+-- the lines after the heading
 abbrev pub behind_heading : List ℕ → Result (List ℕ) RecordError
 behind_heading text = headed (first_line text)
 
--- nothing stands behind the last line
+-- nothing comes after the last line
 abbrev pub at_end : Contents → List ℕ → Result Contents RecordError
 at_end c rest = if not (length rest == 0) then Err (fault_at 9 faults.Line) else Ok c
 

@@ -11,7 +11,7 @@ pub enum RecordFault {
     /// 1: the first line isn't `record 1`, or there is no line.
     #[error("the text does not begin as a record does")]
     Heading,
-    /// 2: a line isn't the one that stands in its place, or one stands behind the last.
+    /// 2: a line isn't the one that is in its place, or one comes after the last.
     #[error("the line is not the one of its place")]
     Line,
     /// 3: a version or a logic isn't a word of visible ASCII characters.

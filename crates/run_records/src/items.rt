@@ -8,7 +8,7 @@ use crate::records::Ending;
 use crate::values::{digest_in, ending_in, number_in, word_in};
 use line_text::lines::first_line;
 
-/// What stands behind a name in the first line, and the lines behind it.
+/// What comes after a name in the first line, and the lines after it.
 fn value_of<'a>(text: &'a [u8], name: &[u8]) -> Option<(&'a [u8], &'a [u8])>
     ensures { option_map (λ found. (found.0.now, found.1.now)) result ≡ spec.value_of name.now text.now }
 {
@@ -20,7 +20,7 @@ fn value_of<'a>(text: &'a [u8], name: &[u8]) -> Option<(&'a [u8], &'a [u8])>
     Some((value, rest))
 }
 
-/// The word of a line, and the lines behind it.
+/// The word of a line, and the lines after it.
 pub fn word_item<'a>(
     line: u64,
     name: &[u8],
@@ -37,7 +37,7 @@ pub fn word_item<'a>(
     }
 }
 
-/// The digest of a line, and the lines behind it.
+/// The digest of a line, and the lines after it.
 pub fn digest_item<'a>(
     line: u64,
     name: &[u8],
@@ -54,7 +54,7 @@ pub fn digest_item<'a>(
     }
 }
 
-/// The number of a line, from 1 to the greatest one, and the lines behind it.
+/// The number of a line, from 1 to the greatest one, and the lines after it.
 pub fn number_item<'a>(
     line: u64,
     name: &[u8],
@@ -73,7 +73,7 @@ pub fn number_item<'a>(
     }
 }
 
-/// The ending of a line, and the lines behind it.
+/// The ending of a line, and the lines after it.
 pub fn ending_item<'a>(
     line: u64,
     name: &[u8],
@@ -90,7 +90,7 @@ pub fn ending_item<'a>(
     }
 }
 
-/// The lines behind the heading.
+/// The lines after the heading.
 pub fn behind_heading(text: &[u8]) -> Result<&[u8], RecordError>
     ensures { spec.seen_by (λ rest. rest.now) result ≡ spec.behind_heading text.now }
 {

@@ -97,7 +97,7 @@ whole made count few = omega (arith, few)
 
 -- ---- room
 
--- where so many turns were added there is room for as many fewer
+-- where this many turns were added there is room for as many fewer
 pub room_left : (hart : ℕ) (start : State) (turns : List ℕ) (old new : HartProfile) (n m : ℕ) → IsAdded hart start turns old new → HasRoom old n
     → length turns + m ≤ n → HasRoom new m
 room_left hart start turns old new n m added room few = record {
@@ -110,7 +110,7 @@ room_left hart start turns old new n m added room few = record {
   idle = (let one = added.idle in let bound = where-few (is_idle hart) start turns in let before = room.idle in omega (arith, one, bound, before, few));
 }
 
--- the counts of turns have room for so many more
+-- the counts of turns have room for this many more
 pub room_behind : (words hart : ℕ) (begin : State) (turns : List ℕ) (profile : HartProfile) (n : ℕ) → IsHartProfile words hart begin turns profile
     → length turns + n < 2 ^ 64 → HasRoom profile n
 room_behind words hart begin turns profile n is few = record {

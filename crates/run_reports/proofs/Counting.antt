@@ -17,7 +17,7 @@ bit_few : (b : Bool) → bit b ≤ 1
 bit_few true = omega arith
 bit_few false = omega arith
 
--- ---- lists one behind the other
+-- ---- lists one after the other
 
 pub where-append : (test : State → ℕ → Bool) (state : State) (xs ys : List ℕ)
     → turns_where test state (xs ++ ys) ≡ turns_where test state xs + turns_where test (run state xs) ys

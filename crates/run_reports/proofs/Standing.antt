@@ -1,4 +1,4 @@
--- Where a hart stands while it makes turns of words that are executed one after the other, and what these add to its counts.
+-- Where a hart is while it makes turns of words that are executed one after the other, and what these add to its counts.
 use Rattle.std.proofs.Common.{◌≡◌, ◌≢◌, ◌∙◌, ◌+◌, ◌-◌, ◌*◌, ◌/◌, ◌%◌, ◌^◌, ◌<◌, ◌≤◌, ◌||◌, ℕ, zero, suc, true, false, refl, sym, ap, arith, List, length}
 use Rattle.std.proofs.Common.{replicate, None, inl, inr, nat_lt, if◌then◌else◌}
 use Rattle.std.specs.Prelude.{◌==◌, ◌&&◌, not, option_and_then, slice_get, slice_index}

@@ -1,4 +1,4 @@
--- Counts of words that are executed one after the other, and where a hart stands after a turn of such a word.
+-- Counts of words that are executed one after the other, and where a hart is after a turn of such a word.
 use Rattle.std.proofs.Common.{◌≡◌, ◌∙◌, ◌+◌, ◌%◌, ◌^◌, ◌<◌, ◌≤◌, ℕ, zero, suc, true, refl, sym, ap, subst, arith, List, length, length-set}
 use Rattle.std.proofs.Common.{replicate, Option, Some, None, inl, inr}
 use Rattle.std.specs.Prelude.{option_and_then, slice_get, slice_index, slice_set}
@@ -86,7 +86,7 @@ set_count words counts at_place count below some are straight = record {
   ];
 }
 
--- ---- where a hart stands after a turn
+-- ---- where a hart is after a turn
 
 scalar_pc : (hart : HartState) (scalar : Option (ℕ × ℕ)) → (with_scalar hart scalar).pc ≡ hart.pc
 scalar_pc hart None = refl

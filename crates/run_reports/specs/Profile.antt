@@ -45,7 +45,7 @@ idle_turns hart begin turns = turns_where (is_idle hart) begin turns
 abbrev pub TurnsAreMadeOrIdle : Type 0
 TurnsAreMadeOrIdle = (hart : ℕ) (begin : State) (turns : List ℕ) → turns_made hart begin turns + idle_turns hart begin turns ≡ count_of turns hart
 
--- what is counted of a hart's turns, at each of so many words of text
+-- what is counted of a hart's turns, at each of this many words of text
 pub record IsHartProfile (words hart : ℕ) (begin : State) (turns : List ℕ) (profile : HartProfile) : Type 0 where
   pub as_many : length profile.counts.items ≡ words
   pub each : (place : ℕ) → place < words → slice_index profile.counts.items place ≡ turns_at hart (text_start + 4 * place) begin turns

@@ -25,12 +25,12 @@ unfoldable pub hart_line : ℕ → ℕ → ℕ → List ℕ
 hart_line hart made idle =
     codes "hart " ++ decimal hart ++ codes " turns " ++ decimal made ++ codes " idle " ++ decimal idle ++ 10 ∷ []
 
--- the lines of the first so many harts
+-- the lines of the first this many harts
 unfoldable pub hart_lines : Counts → ℕ → List ℕ
 hart_lines counts zero = []
 hart_lines counts (suc hart) = hart_lines counts hart ++ hart_line hart (counts.made hart) (counts.idle hart)
 
--- the turns that the first so many harts made at a word, all together
+-- the turns that the first this many harts made at a word, all together
 unfoldable pub total : Counts → ℕ → ℕ → ℕ
 total counts place zero = 0
 total counts place (suc hart) = total counts place hart + counts.there hart place
@@ -49,7 +49,7 @@ place_text counts harts place =
 unfoldable pub word_line : Counts → ℕ → ℕ → ℕ → List ℕ
 word_line counts harts place word = place_text counts harts place ++ listed word
 
--- the lines of the first so many words
+-- the lines of the first this many words
 unfoldable pub word_lines : Counts → ℕ → List ℕ → ℕ → List ℕ
 word_lines counts harts words zero = []
 word_lines counts harts words (suc place) =

@@ -18,7 +18,7 @@ use turn_log::TurnLog;
 pub struct HartProfile {
     /// For each word of text how many turns the hart made there.
     pub counts: Vec<u64>,
-    /// How many turns it made while it ran, also where it stood at no word.
+    /// How many turns it made while it ran, also where it was at no word.
     pub made: u64,
     /// How many of the log's turns found it finished or trapped.
     pub idle: u64,
@@ -44,7 +44,7 @@ pub fn profile(
     Ok(profiles)
 }
 
-/// So many profiles over so many words, in which no turn is counted.
+/// This many profiles over this many words, in which no turn is counted.
 fn uncounted(alloc: Global, words: usize, harts: usize) -> Result<Vec<HartProfile>, AllocError>
     ensures count { IfOk result (λ profiles. length profiles.items ≡ harts) }
     ensures none { IfOk result (λ profiles. All (IsUncounted words) profiles.items) }
@@ -111,7 +111,7 @@ fn count_run(
 }
 
 /// Makes turns of a hart that runs, counts them, and says how many it made: all up to a word that may go on elsewhere,
-/// or one where the hart stands at no word.
+/// or one where the hart is at no word.
 #[inline(always)]
 fn count_some(
     machine: &mut Machine,
@@ -144,7 +144,7 @@ fn count_some(
     made
 }
 
-/// Counts a turn at each of so many words from a place on.
+/// Counts a turn at each of this many words from a place on.
 #[inline(always)]
 fn raise(counts: &mut [u64], place: usize, count: usize)
     requires within { place + count ≤ length counts.old }

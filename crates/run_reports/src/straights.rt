@@ -38,7 +38,7 @@ fn count_all(words: &[u32], counts: &mut [u32])
     }
 }
 
-/// How many there are from a word on, where so many are from the next one on.
+/// How many there are from a word on, where this many are from the next one on.
 fn count_from(word: u32, next: u32) -> u32
     ensures straight { (words : List ℕ) (place : ℕ) → slice_get words place ≡ Some word
         → AreStraight words (place + 1) next → AreStraight words place result }
@@ -73,7 +73,7 @@ fn goes_on(insn: &Insn) -> bool
     }
 }
 
-/// The place of the word at an address in a text of so many words.
+/// The place of the word at an address in a text of this many words.
 #[inline(always)]
 pub(crate) fn place_of(words: usize, pc: u32) -> Option<usize>
     ensures within { IfSome result (λ place. place < words) }

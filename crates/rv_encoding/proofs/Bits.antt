@@ -48,7 +48,7 @@ unfolding Holds
 Holds-parts word [] second h = (tt, h)
 Holds-parts word (pair ∷ first) second h = let rest = Holds-parts word first second h.1 in ((h.0, rest.0), rest.1)
 
--- fixed digits hold where their number stands, and only there
+-- fixed digits hold where their number is, and only there
 pub Holds-fixed : (word : ℕ) (places : List ℕ) (value : ℕ) → number_at word places ≡ value → Holds word (fixed places value)
 unfolding Holds fixed number_at
 Holds-fixed word [] value e = tt

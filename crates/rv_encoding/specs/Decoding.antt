@@ -14,7 +14,7 @@ use Rattle.operation_keys.specs.Operations.{arithmetic_vv_of, arithmetic_vx_of, 
 use Rattle.operation_keys.specs.Operations.{multiply_of, reduction_of, width_of, branch_of, load_of, store_of, alu_imm_of, shift_of, alu_of}
 use Rattle.rv_insn.specs.declared.operations.AluImmOp.{AluImmOp}
 
--- the number in so many bits of the word, from the bit `low` up
+-- the number in this many bits of the word, from the bit `low` up
 abbrev pub part : ℕ → ℕ → ℕ → ℕ
 part word low count = word / 2 ^ low % 2 ^ count
 

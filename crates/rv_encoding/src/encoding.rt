@@ -34,7 +34,7 @@ fn alu_word(op: AluOp, rd: Reg, rs1: Reg, rs2: Reg) -> u32
     )
 }
 
-// The amount of a shift stands where the R format has its second source.
+// The amount of a shift is where the R format has its second source.
 #[tactic(auto, using(crate::proofs::Formats::r_made), unfolding(crate::specs::Decoding::rd_of, crate::specs::Decoding::rs1_of, crate::specs::Decoding::rs2_of))]
 fn shift_word(op: ShiftOp, rd: Reg, rs1: Reg, amount: ShiftAmount) -> u32
     ensures { Stands result (r_type [] 0b0010011 (shift_key op) (shift_second_key op)) (pos rd ∷ pos rs1 ∷ pos amount

@@ -188,7 +188,7 @@ pub fn funct6(word: u32) -> u32
     word >> 26
 }
 
-/// So many bits, from the bit `low` up.
+/// This many bits, from the bit `low` up.
 pub fn bits(word: u32, low: u32, count: u32) -> u32
     requires low { low < 32 }
     requires count { count < 32 }

@@ -152,7 +152,7 @@ pub fn digits_5(value: i32) -> u32
     }
 }
 
-/// What stands in a word of the vector formats beside its opcode.
+/// What is in a word of the vector formats beside its opcode.
 #[derive(Clone, Copy)]
 pub struct VectorFields {
     pub vd: u32,

@@ -267,7 +267,7 @@ fn vsetvl_word(rd: Reg, rs1: Reg, rs2: Reg) -> u32
     )
 }
 
-/// What stands in the word of a load or store beside its width and how its elements lie.
+/// What is in the word of a load or store beside its width and how its elements lie.
 #[derive(Clone, Copy)]
 struct Access {
     v: VReg,
@@ -350,7 +350,7 @@ fn store_elements_word(width: ElementWidth, own: Access, addressing: Addressing)
     access_word(opcodes::STORE_VECTOR, width, own, addressing)
 }
 
-/// What stands in the word of an operation on elements beside its third operand.
+/// What is in the word of an operation on elements beside its third operand.
 #[derive(Clone, Copy)]
 struct Operands {
     vd: VReg,

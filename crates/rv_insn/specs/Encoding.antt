@@ -8,7 +8,7 @@ use Rattle.rv_insn.specs.declared.vector_instructions.Addressing.TheVariants as 
 use Rattle.rv_insn.specs.declared.vector_operations.AddressMode.{AddressMode}
 use Rattle.rv_insn.specs.declared.vector_operations.AddressMode.TheVariants as modes
 
--- Each pair is a position, 0 for the lowest bit of the word, and the bit that stands there.
+-- Each pair is a position, 0 for the lowest bit of the word, and the bit that is there.
 unfoldable pub Holds : ℕ → List (ℕ × ℕ) → Type 0
 Holds word [] = Unit {0}
 Holds word (pair ∷ pairs) = (bit_at word pair.0 ≡ pair.1) × Holds word pairs
@@ -18,7 +18,7 @@ unfoldable pub number_at : ℕ → List ℕ → ℕ
 number_at word [] = 0
 number_at word (place ∷ places) = bit_at word place + 2 * number_at word places
 
--- a number of so many binary digits, of which the highest counts negative
+-- a number of this many binary digits, of which the highest counts negative
 abbrev pub signed : ℕ → ℕ → ℤ
 signed digits n = cond (nat_lt n (2 ^ (digits - 1))) (pos n) (pos n -ℤ pos (2 ^ digits))
 
@@ -26,7 +26,7 @@ signed digits n = cond (nat_lt n (2 ^ (digits - 1))) (pos n) (pos n -ℤ pos (2 
 abbrev pub bit_of : Bool → ℕ
 bit_of b = cond b 1 0
 
--- so many positions from `low` upwards
+-- this many positions from `low` upwards
 unfoldable pub span : ℕ → ℕ → List ℕ
 span low zero = []
 span low (suc count) = low ∷ span (low + 1) count
@@ -46,7 +46,7 @@ pub data Field : Type 0 where
   Unsigned : (places : List ℕ) → Field
   Signed : (places : List ℕ) → Field
 
--- the number that stands in a field of a word
+-- the number that is in a field of a word
 abbrev pub field_of : ℕ → Field → ℤ
 field_of word (Unsigned places) = pos (number_at word places)
 field_of word (Signed places) = signed (length places) (number_at word places)

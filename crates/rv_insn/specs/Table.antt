@@ -31,7 +31,7 @@ rd = Unsigned (span 7 5)
 abbrev pub rs1 : Field
 rs1 = Unsigned (span 15 5)
 
--- the amount of a shift in the word stands here too: section 2.4
+-- the amount of a shift in the word is here too: section 2.4
 abbrev pub rs2 : Field
 rs2 = Unsigned (span 20 5)
 

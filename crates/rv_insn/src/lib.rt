@@ -4,7 +4,7 @@
 //! group has several rows of the instruction table, the operation that names the row. Every value
 //! has all the fields of its row and nothing else, so each one is spelled by exactly one word.
 //!
-//! The table itself stands in `specs/Table.antt` as literal data, and `specs/Encoding.antt` says
+//! The table itself is in `specs/Table.antt` as literal data, and `specs/Encoding.antt` says
 //! what it is for a word to mean an instruction. The crate `rv_encoding` computes both directions.
 #![tactic(auto)]
 

@@ -61,7 +61,7 @@ pub enum AluImmOp {
     Andi,
 }
 
-/// The shifts by an amount that stands in the word.
+/// The shifts by an amount that is in the word.
 #[derive(Clone, Copy, Debug, PartialEq, Eq)]
 pub enum ShiftOp {
     /// Shifts to the left, with zeros from below.

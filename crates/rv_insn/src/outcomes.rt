@@ -8,7 +8,7 @@ ghost use Rattle.rv_insn.specs.Trap.{trap_number};
 pub enum Trap {
     /// 1: the word means no instruction.
     IllegalInstruction,
-    /// 2: no text word stands at the program counter.
+    /// 2: no text word is at the program counter.
     FetchOutside,
     /// 3: a branch or jump goes to an address that is no multiple of 4.
     MisalignedTarget,

@@ -160,7 +160,7 @@ pub enum VectorInsn {
         length: Length5,
         vtype: Vtype10,
     },
-    /// `vsetvl rd,rs1,rs2`: a configuration whose vtype stands in `rs2`.
+    /// `vsetvl rd,rs1,rs2`: a configuration whose vtype is in `rs2`.
     Vsetvl {
         rd: Reg,
         rs1: Reg,
@@ -187,7 +187,7 @@ pub enum VectorInsn {
 /// Where the elements of a vector load or store lie from `rs1` on.
 #[derive(Clone, Copy)]
 pub enum Addressing {
-    /// One behind the other.
+    /// One after the other.
     UnitStride,
     /// `rs2` bytes apart.
     Strided { rs2: Reg },

@@ -192,7 +192,7 @@ pub enum ElementWidth {
 /// How a vector load or store is addressed.
 #[derive(Clone, Copy, Debug, PartialEq, Eq)]
 pub enum AddressMode {
-    /// The elements lie one behind the other.
+    /// The elements lie one after the other.
     UnitStride,
     /// They lie as many bytes apart as an integer register says.
     Strided,

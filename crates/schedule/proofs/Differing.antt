@@ -30,30 +30,32 @@ over name variable = record { id = ids.Whole variable; name = name; variable = v
 abbrev Absent : List ℕ → List Loop → Type 0
 Absent name loops = total (has_name name) loops ≡ 0
 
-more_by : (is : Bool) (loops : List Loop) (own : Loop) (name : List ℕ) → bytes_eq own.name name ≡ is → Absent own.name loops → total (has_name name) loops ≤ 1
-    → total (has_name name) (loops ++ own ∷ []) ≤ 1
-more_by true loops own name is absent few =
-    let none : total (has_name name) loops ≡ 0 = rw (same_bytes own.name name is) at absent in
-    let one : has_name name own ≡ 1 = rw is refl in
-    omega (arith, total-append (has_name name) loops (own ∷ []), none, one)
-more_by false loops own name is absent few =
-    let zero : has_name name own ≡ 0 = rw is refl in
-    omega (arith, total-append (has_name name) loops (own ∷ []), zero, few)
+more_by : (is : Bool) (loops : List Loop) (stage_loop : Loop) (name : List ℕ) → bytes_eq stage_loop.name name ≡ is → Absent stage_loop.name loops → total (has_name name) loops ≤ 1
+    → total (has_name name) (loops ++ stage_loop ∷ []) ≤ 1
+more_by true loops stage_loop name is absent few =
+    let none : total (has_name name) loops ≡ 0 = rw (same_bytes stage_loop.name name is) at absent in
+    let one : has_name name stage_loop ≡ 1 = rw is refl in
+    omega (arith, total-append (has_name name) loops (stage_loop ∷ []), none, one)
+more_by false loops stage_loop name is absent few =
+    let zero : has_name name stage_loop ≡ 0 = rw is refl in
+    omega (arith, total-append (has_name name) loops (stage_loop ∷ []), zero, few)
 
-more : (loops : List Loop) (own : Loop) → Absent own.name loops → Differ loops → Differ (loops ++ own ∷ [])
-more loops own absent differ = λ name. more_by (bytes_eq own.name name) loops own name refl absent (differ name)
+more : (loops : List Loop) (stage_loop : Loop) → Absent stage_loop.name loops → Differ loops
+    → Differ (loops ++ stage_loop ∷ [])
+more loops stage_loop absent differ = λ name. more_by (bytes_eq stage_loop.name name) loops stage_loop name refl absent
+    (differ name)
 
 -- a name that is none of the loops, nor of one more
-absent_more : (loops : List Loop) (own : Loop) (name : List ℕ) → bytes_eq own.name name ≡ false → Absent name loops → Absent name (loops ++ own ∷ [])
-absent_more loops own name apart absent =
-    let zero : has_name name own ≡ 0 = rw apart refl in
-    omega (arith, total-append (has_name name) loops (own ∷ []), absent, zero)
+absent_more : (loops : List Loop) (stage_loop : Loop) (name : List ℕ) → bytes_eq stage_loop.name name ≡ false → Absent name loops → Absent name (loops ++ stage_loop ∷ [])
+absent_more loops stage_loop name apart absent =
+    let zero : has_name name stage_loop ≡ 0 = rw apart refl in
+    omega (arith, total-append (has_name name) loops (stage_loop ∷ []), absent, zero)
 
-one_alone : (own : Loop) → Differ (own ∷ [])
-one_alone own = more [] own refl (λ name. omega arith)
+one_alone : (stage_loop : Loop) → Differ (stage_loop ∷ [])
+one_alone stage_loop = more [] stage_loop refl (λ name. omega arith)
 
-absent_one : (own : Loop) (name : List ℕ) → bytes_eq own.name name ≡ false → Absent name (own ∷ [])
-absent_one own name apart = absent_more [] own name apart refl
+absent_one : (stage_loop : Loop) (name : List ℕ) → bytes_eq stage_loop.name name ≡ false → Absent name (stage_loop ∷ [])
+absent_one stage_loop name apart = absent_more [] stage_loop name apart refl
 
 -- ---- a pure definition
 
@@ -96,14 +98,14 @@ reductions_differ (Some outer) inner apart =
     (absent_one (over inner variables.FirstReduction) outer.name (apart outer refl)) (one_alone (over inner variables.FirstReduction))
 
 -- with an argument in place, or without it
-placed_differs : (in_place : Bool) (loops : List Loop) (own : Loop) → Absent own.name loops → Differ loops → Differ (cond in_place (loops ++ own ∷ []) loops)
-placed_differs true loops own absent differ = more loops own absent differ
-placed_differs false loops own absent differ = differ
+placed_differs : (in_place : Bool) (loops : List Loop) (stage_loop : Loop) → Absent stage_loop.name loops → Differ loops → Differ (cond in_place (loops ++ stage_loop ∷ []) loops)
+placed_differs true loops stage_loop absent differ = more loops stage_loop absent differ
+placed_differs false loops stage_loop absent differ = differ
 
-placed_absent : (in_place : Bool) (loops : List Loop) (own : Loop) (name : List ℕ) → bytes_eq own.name name ≡ false → Absent name loops
-    → Absent name (cond in_place (loops ++ own ∷ []) loops)
-placed_absent true loops own name apart absent = absent_more loops own name apart absent
-placed_absent false loops own name apart absent = absent
+placed_absent : (in_place : Bool) (loops : List Loop) (stage_loop : Loop) (name : List ℕ) → bytes_eq stage_loop.name name ≡ false → Absent name loops
+    → Absent name (cond in_place (loops ++ stage_loop ∷ []) loops)
+placed_absent true loops stage_loop name apart absent = absent_more loops stage_loop name apart absent
+placed_absent false loops stage_loop name apart absent = absent
 
 second_placed : (in_place : Bool) (second : Option (List ℕ)) (loops : List Loop) → ((name : List ℕ) → second ≡ Some name → Absent name loops) → Differ loops
     → Differ (cond in_place (with_second loops second variables.SecondArgument) loops)

@@ -160,21 +160,21 @@ compute_kept : (func : Func) (plan : FuncPlan) (compute : ComputeLine) → IsPla
 compute_kept func plan compute is = record { pure = is.pure; undirected = is.undirected; updates = is.updates }
 
 -- a stage that is there, and the one that a line makes of it
-stage_kept : (update : Option ℕ) (func : Func) (plan : FuncPlan) (line : ℕ) (d : LoopDirective) (own new : Stage) → stage plan update ≡ Some own
-    → directed (is_some update) own line d ≡ Ok new
+stage_kept : (update : Option ℕ) (func : Func) (plan : FuncPlan) (line : ℕ) (d : LoopDirective) (own_stage new : Stage) → stage plan update ≡ Some own_stage
+    → directed (is_some update) own_stage line d ≡ Ok new
     → IsPlan func plan → IsPlan func (with_stage plan update new)
-stage_kept None func plan line d own new found e is =
-    let same : plan.pure ≡ own = cc in
+stage_kept None func plan line d own_stage new found e is =
+    let same : plan.pure ≡ own_stage = cc in
     record {
-      pure = directed_keeps false (pure_loops func) own line d new e (subst (λ (s : Stage). IsStage false (pure_loops func) s) same is.pure);
+      pure = directed_keeps false (pure_loops func) own_stage line d new e (subst (λ (s : Stage). IsStage false (pure_loops func) s) same is.pure);
       undirected = λ directed. absurd cc;
       updates = is.updates;
     }
-stage_kept (Some at) func plan line d own new found e is = record {
+stage_kept (Some at) func plan line d own_stage new found e is = record {
   pure = is.pure;
   undirected = λ directed. absurd cc;
-  updates = pairwise_set (IsUpdateStage func) func.updates plan.updates at own new found
-      (λ update kept. directed_keeps true (update_loops func update) own line d new e kept) is.updates;
+  updates = pairwise_set (IsUpdateStage func) func.updates plan.updates at own_stage new found
+      (λ update kept. directed_keeps true (update_loops func update) own_stage line d new e kept) is.updates;
 }
 
 -- ---- lines
@@ -193,24 +193,24 @@ computed_by None pipeline reader func computed plan found next e are =
     let next_is : record { lines = reader.lines; plans = slice_set reader.plans func (with_compute plan line) } ≡ next = cc in
     subst (ArePlans pipeline) next_is kept
 
-computed_found : (found : Option FuncPlan) (pipeline : Pipeline) (reader : ScheduleReader) (func : ℕ) (computed : Computed) → slice_get reader.plans func ≡ found
-    → KeepsPlans pipeline reader (computed_of pipeline reader func computed found)
-computed_found None pipeline reader func computed found next e are = cc
-computed_found (Some plan) pipeline reader func computed found next e are = computed_by (compute_fault pipeline func plan) pipeline reader func computed plan
-    found next e are
+computed_found : (func_plan : Option FuncPlan) (pipeline : Pipeline) (reader : ScheduleReader) (func : ℕ) (computed : Computed) → slice_get reader.plans func ≡ func_plan
+    → KeepsPlans pipeline reader (computed_of pipeline reader func computed func_plan)
+computed_found None pipeline reader func computed func_plan next e are = cc
+computed_found (Some plan) pipeline reader func computed func_plan next e are = computed_by (compute_fault pipeline func plan) pipeline reader func computed plan
+    func_plan next e are
 
-directed_by : (given : Result Stage ScheduleFault) (own : Stage) (pipeline : Pipeline) (reader : ScheduleReader) (name : StageName) (d : LoopDirective)
+directed_by : (given : Result Stage ScheduleFault) (own_stage : Stage) (pipeline : Pipeline) (reader : ScheduleReader) (name : StageName) (d : LoopDirective)
     (plan : FuncPlan) → slice_get reader.plans name.func ≡ Some plan
-    → stage plan name.update ≡ Some own → directed (is_some name.update) own reader.lines d ≡ given
+    → stage plan name.update ≡ Some own_stage → directed (is_some name.update) own_stage reader.lines d ≡ given
     → KeepsPlans pipeline reader (given >>= λ new. Ok (record {
       lines = reader.lines;
       plans = slice_set reader.plans name.func (with_stage plan name.update new);
     }))
-directed_by (Err wrong) own pipeline reader name d plan found at is next e are = cc
-directed_by (Ok new) own pipeline reader name d plan found at is next e are =
+directed_by (Err wrong) own_stage pipeline reader name d plan found at is next e are = cc
+directed_by (Ok new) own_stage pipeline reader name d plan found at is next e are =
     let kept : Pairwise IsPlan pipeline.funcs (slice_set reader.plans name.func (with_stage plan name.update new)) =
     pairwise_set IsPlan pipeline.funcs reader.plans name.func plan (with_stage plan name.update new) found (λ f kept. stage_kept name.update f plan reader.lines
-    d own new at is kept) are in
+    d own_stage new at is kept) are in
     let next_is : record { lines = reader.lines; plans = slice_set reader.plans name.func (with_stage plan name.update new) } ≡ next = cc in
     subst (ArePlans pipeline) next_is kept
 
@@ -225,11 +225,11 @@ directed_stage None pipeline reader name d plan found at next e are = cc
 directed_stage (Some own) pipeline reader name d plan found at next e are =
     directed_by (directed (is_some name.update) own reader.lines d) own pipeline reader name d plan found at refl next e are
 
-directed_found : (found : Option FuncPlan) (pipeline : Pipeline) (reader : ScheduleReader) (name : StageName) (d : LoopDirective)
-    → slice_get reader.plans name.func ≡ found
-    → KeepsPlans pipeline reader (directed_of reader name d found)
-directed_found None pipeline reader name d found next e are = cc
-directed_found (Some plan) pipeline reader name d found next e are = directed_stage (stage plan name.update) pipeline reader name d plan found refl next e are
+directed_found : (func_plan : Option FuncPlan) (pipeline : Pipeline) (reader : ScheduleReader) (name : StageName) (d : LoopDirective)
+    → slice_get reader.plans name.func ≡ func_plan
+    → KeepsPlans pipeline reader (directed_of reader name d func_plan)
+directed_found None pipeline reader name d func_plan next e are = cc
+directed_found (Some plan) pipeline reader name d func_plan next e are = directed_stage (stage plan name.update) pipeline reader name d plan func_plan refl next e are
 
 directive_keeps : (to : Option LineSubject) (pipeline : Pipeline) (reader : ScheduleReader) (d : Directive)
     → KeepsPlans pipeline reader (taken_directive pipeline reader to d)

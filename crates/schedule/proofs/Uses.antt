@@ -9,7 +9,7 @@ use Rattle.schedule_lines.specs.declared.lines.Computed.{Computed}
 use Rattle.schedule_lines.specs.declared.lines.Computed.TheVariants as computed
 use Rattle.schedule.specs.declared.plans.ComputeLine.{ComputeLine}
 use Rattle.schedule.specs.declared.plans.FuncPlan.{FuncPlan}
-use Rattle.schedule.specs.declared.placements.LoopPlace.{LoopPlace}
+use Rattle.schedule.specs.declared.placements.LoopPosition.{LoopPosition}
 use Rattle.schedule.specs.declared.placements.ComputeLevel.{ComputeLevel}
 use Rattle.schedule.specs.declared.placements.ComputeLevel.TheVariants as places
 use Rattle.schedule.specs.declared.placements.FuncPlacement.{FuncPlacement}
@@ -53,7 +53,7 @@ module _ (pipeline : Pipeline) (plans : List FuncPlan) (all : List FuncPlacement
       let next : at + 1 + k ≡ at + suc k = omega arith in
       ap (λ (n : ℕ). slice_get all n) next ∙ from (suc k)
 
-  abbrev Within : LoopPlace → ℕ → Type 0
+  abbrev Within : LoopPosition → ℕ → Type 0
   Within consumer at = StandsWithin pipeline plans all consumer at
 
   -- ---- Funcs that are flagged don't call
@@ -72,43 +72,43 @@ module _ (pipeline : Pipeline) (plans : List FuncPlan) (all : List FuncPlacement
       let next : at + 1 + k ≡ at + suc k = omega arith in
       subst (λ (n : ℕ). place_calls pipeline n func ≡ false) next (not_called func (at + 1) k rest parts.1 flag)
 
-  flagged : (consumer : LoopPlace) (at k : ℕ) (rest : List FuncPlacement) (own : FuncPlacement) → slice_get rest k ≡ Some own
+  flagged : (consumer : LoopPosition) (at k : ℕ) (rest : List FuncPlacement) (own : FuncPlacement) → slice_get rest k ≡ Some own
       → (flag : Bool) × (slice_get (outside pipeline plans consumer at rest) k ≡ Some flag)
-  flagged consumer at k [] own found = absurd cc
-  flagged consumer at zero (first ∷ others) own found = (is_outside pipeline plans consumer at first (outside pipeline plans consumer (at + 1) others), refl)
-  flagged consumer at (suc k) (first ∷ others) own found = flagged consumer (at + 1) k others own found
+  flagged consumer at k [] own position = absurd cc
+  flagged consumer at zero (first ∷ others) own position = (is_outside pipeline plans consumer at first (outside pipeline plans consumer (at + 1) others), refl)
+  flagged consumer at (suc k) (first ∷ others) own position = flagged consumer (at + 1) k others own position
 
   -- what a list of flags says of its Funcs
-  abbrev Flags : LoopPlace → ℕ → List FuncPlacement → Type 0
+  abbrev Flags : LoopPosition → ℕ → List FuncPlacement → Type 0
   Flags consumer at rest = (k : ℕ) (own : FuncPlacement) → slice_get rest k ≡ Some own → own.is_reached ≡ true
       → slice_get (outside pipeline plans consumer at rest) k ≡ Some false → Within consumer (at + k)
 
-  -- what calls a Func stands within
-  abbrev Callers : LoopPlace → ℕ → Type 0
+  -- what calls a Func is within
+  abbrev Callers : LoopPosition → ℕ → Type 0
   Callers consumer at = (reader : ℕ) (its : FuncPlacement) → at < reader → IsReached all reader its → place_calls pipeline reader at ≡ true → Within consumer reader
 
-  by_flag : (flag : Bool) (consumer : LoopPlace) (at k reader : ℕ) (rest : List FuncPlacement) (its : FuncPlacement) → at + 1 + k ≡ reader → slice_get rest k ≡ Some its
+  by_flag : (flag : Bool) (consumer : LoopPosition) (at k reader : ℕ) (rest : List FuncPlacement) (its : FuncPlacement) → at + 1 + k ≡ reader → slice_get rest k ≡ Some its
       → IsReached all reader its
       → slice_get (outside pipeline plans consumer (at + 1) rest) k ≡ Some flag → is_called pipeline at (at + 1) (outside pipeline plans consumer (at + 1) rest)
       ≡ false
       → place_calls pipeline reader at ≡ true → Flags consumer (at + 1) rest → Within consumer reader
-  by_flag true consumer at k reader rest its same found reached flag e calls each =
+  by_flag true consumer at k reader rest its same position reached flag e calls each =
       let none : place_calls pipeline reader at ≡ false =
       subst (λ (n : ℕ). place_calls pipeline n at ≡ false) same (not_called at (at + 1) k (outside pipeline plans consumer (at + 1) rest) e flag) in
       absurd cc
-  by_flag false consumer at k reader rest its same found reached flag e calls each = subst (λ (n : ℕ). Within consumer n) same (each k its found reached.reached
+  by_flag false consumer at k reader rest its same position reached flag e calls each = subst (λ (n : ℕ). Within consumer n) same (each k its position reached.reached
       flag)
 
-  called_by : (consumer : LoopPlace) (at : ℕ) (rest : List FuncPlacement) → From (at + 1) rest → Flags consumer (at + 1) rest
+  called_by : (consumer : LoopPosition) (at : ℕ) (rest : List FuncPlacement) → From (at + 1) rest → Flags consumer (at + 1) rest
       → is_called pipeline at (at + 1) (outside pipeline plans consumer (at + 1) rest) ≡ false → Callers consumer at
   called_by consumer at rest from each e reader its later reached calls =
       let same : at + 1 + (reader - (at + 1)) ≡ reader = omega arith in
-      let found : slice_get rest (reader - (at + 1)) ≡ Some its =
+      let position : slice_get rest (reader - (at + 1)) ≡ Some its =
       sym (from (reader - (at + 1))) ∙ ap (λ (n : ℕ). slice_get all n) same ∙ reached.standing in
-      let flag = flagged consumer (at + 1) (reader - (at + 1)) rest its found in
-      by_flag flag.0 consumer at (reader - (at + 1)) reader rest its same found reached flag.1 e calls each
+      let flag = flagged consumer (at + 1) (reader - (at + 1)) rest its position in
+      by_flag flag.0 consumer at (reader - (at + 1)) reader rest its same position reached flag.1 e calls each
 
-  here_within : (is_consumer : Bool) (where_it_is : ComputeLevel) (consumer : LoopPlace) (at : ℕ) (own : FuncPlacement) (flags : List Bool) → IsReached all at own
+  here_within : (is_consumer : Bool) (where_it_is : ComputeLevel) (consumer : LoopPosition) (at : ℕ) (own : FuncPlacement) (flags : List Bool) → IsReached all at own
       → (at == consumer.func) ≡ is_consumer → own.place ≡ where_it_is
       → (is_called pipeline at (at + 1) flags ≡ false → Callers consumer at)
       → (not is_consumer && is_away pipeline plans consumer at where_it_is flags) ≡ false → Within consumer at
@@ -121,13 +121,13 @@ module _ (pipeline : Pipeline) (plans : List FuncPlan) (all : List FuncPlacement
   here_within false places.Root consumer at own flags reached is_consumer place_is callers e = absurd cc
   here_within false places.Nowhere consumer at own flags reached is_consumer place_is callers e = absurd cc
 
-  within : (consumer : LoopPlace) (at : ℕ) (rest : List FuncPlacement) → From at rest → Flags consumer at rest
-  within consumer at [] from k own found reached flag = absurd cc
-  within consumer at (first ∷ others) from zero own found reached flag =
+  within : (consumer : LoopPosition) (at : ℕ) (rest : List FuncPlacement) → From at rest → Flags consumer at rest
+  within consumer at [] from k own position reached flag = absurd cc
+  within consumer at (first ∷ others) from zero own position reached flag =
       let flags = outside pipeline plans consumer (at + 1) others in
       let first_is : first ≡ own = cc in
       let here : at + 0 ≡ at = omega arith in
-      let there : IsReached all at own = record { standing = ap (λ (n : ℕ). slice_get all n) (sym here) ∙ from 0 ∙ found; reached = reached } in
+      let there : IsReached all at own = record { standing = ap (λ (n : ℕ). slice_get all n) (sym here) ∙ from 0 ∙ position; reached = reached } in
       let raised : first.is_reached ≡ true = ap (λ (s : FuncPlacement). s.is_reached) first_is ∙ reached in
       let lowered : is_outside pipeline plans consumer at first flags ≡ false = cc in
       let rest_is : (not (at == consumer.func) && is_away pipeline plans consumer at first.place flags) ≡ false =
@@ -135,9 +135,9 @@ module _ (pipeline : Pipeline) (plans : List FuncPlan) (all : List FuncPlacement
       subst (λ (n : ℕ). Within consumer n) (sym here)
       (here_within (at == consumer.func) first.place consumer at own flags there refl (ap (λ (s : FuncPlacement). s.place) (sym first_is))
       (called_by consumer at others (from_next at first others from) (within consumer (at + 1) others (from_next at first others from))) rest_is)
-  within consumer at (first ∷ others) from (suc k) own found reached flag =
+  within consumer at (first ∷ others) from (suc k) own position reached flag =
       let next : at + 1 + k ≡ at + suc k = omega arith in
-      subst (λ (n : ℕ). Within consumer n) next (within consumer (at + 1) others (from_next at first others from) k own found reached flag)
+      subst (λ (n : ℕ). Within consumer n) next (within consumer (at + 1) others (from_next at first others from) k own position reached flag)
 
   -- ---- the standing of a Func, over those after it
 
@@ -150,8 +150,8 @@ module _ (pipeline : Pipeline) (plans : List FuncPlan) (all : List FuncPlacement
 
   standing_at : (at : ℕ) (rest : List FuncPlan) → From at (standings_from pipeline plans at rest) → ((k : ℕ) → slice_get plans (at + k) ≡ slice_get rest k)
       → (k : ℕ) (own : FuncPlacement) → slice_get (standings_from pipeline plans at rest) k ≡ Some own → StandingAt (at + k) own
-  standing_at at [] from plans_are k own found = absurd cc
-  standing_at at (first ∷ others) from plans_are zero own found =
+  standing_at at [] from plans_are k own position = absurd cc
+  standing_at at (first ∷ others) from plans_are zero own position =
       let behind = standings_from pipeline plans (at + 1) others in
       let here : at ≡ at + 0 = omega arith in
       let own_is : own ≡ standing pipeline plans at first behind = cc in
@@ -162,33 +162,33 @@ module _ (pipeline : Pipeline) (plans : List FuncPlan) (all : List FuncPlacement
         own_is = own_is;
         from = from_next at (standing pipeline plans at first behind) behind from;
       })
-  standing_at at (first ∷ others) from plans_are (suc k) own found =
+  standing_at at (first ∷ others) from plans_are (suc k) own position =
       let behind = standings_from pipeline plans (at + 1) others in
       let next : (j : ℕ) → at + 1 + j ≡ at + suc j = λ j. omega arith in
       subst (λ (n : ℕ). StandingAt n own) (next k)
       (standing_at (at + 1) others (from_next at (standing pipeline plans at first behind) behind from)
-      (λ j. ap (λ (n : ℕ). slice_get plans n) (next j) ∙ plans_are (suc j)) k own found)
+      (λ j. ap (λ (n : ℕ). slice_get plans n) (next j) ∙ plans_are (suc j)) k own position)
 
   -- ---- uses
 
-  placed_by : (away : Bool) (own wanted : LoopPlace) → cond away places.Nowhere (places.At own) ≡ places.At wanted → (away ≡ false) × (own ≡ wanted)
+  placed_by : (away : Bool) (own wanted : LoopPosition) → cond away places.Nowhere (places.At own) ≡ places.At wanted → (away ≡ false) × (own ≡ wanted)
   placed_by true own wanted e = absurd cc
   placed_by false own wanted e = (refl, cc)
 
-  consumer_placed : (found : Option LoopPlace) (at : ℕ) (behind : List FuncPlacement) (wanted : LoopPlace) → place_at pipeline plans at behind found
+  consumer_placed : (position : Option LoopPosition) (at : ℕ) (behind : List FuncPlacement) (wanted : LoopPosition) → place_at pipeline plans at behind position
       ≡ places.At wanted
       → is_called pipeline at (at + 1) (outside pipeline plans wanted (at + 1) behind) ≡ false
   consumer_placed None at behind wanted e = absurd cc
   consumer_placed (Some own) at behind wanted e =
       let parts = placed_by (is_called pipeline at (at + 1) (outside pipeline plans own (at + 1) behind)) own wanted e in
-      subst (λ (h : LoopPlace). is_called pipeline at (at + 1) (outside pipeline plans h (at + 1) behind) ≡ false) parts.1 parts.0
+      subst (λ (h : LoopPosition). is_called pipeline at (at + 1) (outside pipeline plans h (at + 1) behind) ≡ false) parts.1 parts.0
 
-  said_placed : (said : Computed) (at : ℕ) (behind : List FuncPlacement) (wanted : LoopPlace) → place_computed pipeline plans at behind said ≡ places.At wanted
+  said_placed : (said : Computed) (at : ℕ) (behind : List FuncPlacement) (wanted : LoopPosition) → place_computed pipeline plans at behind said ≡ places.At wanted
       → is_called pipeline at (at + 1) (outside pipeline plans wanted (at + 1) behind) ≡ false
   said_placed computed.Root at behind wanted e = absurd cc
   said_placed (computed.At names) at behind wanted e = consumer_placed (consumer pipeline plans at names) at behind wanted e
 
-  line_placed : (is_output : Bool) (compute : Option ComputeLine) (at : ℕ) (behind : List FuncPlacement) (wanted : LoopPlace)
+  line_placed : (is_output : Bool) (compute : Option ComputeLine) (at : ℕ) (behind : List FuncPlacement) (wanted : LoopPosition)
       → cond is_output places.Root (place_of pipeline plans at behind compute) ≡ places.At wanted
       → is_called pipeline at (at + 1) (outside pipeline plans wanted (at + 1) behind) ≡ false
   line_placed true compute at behind wanted e = absurd cc
@@ -225,8 +225,8 @@ module _ (pipeline : Pipeline) (plans : List FuncPlan) (all : List FuncPlacement
         calls = parts.1;
       }
   read_further false func at first others from is e goes_on =
-      let found = goes_on e in
-      record { reader = found.reader; its = found.its; later = omega (arith, found.later); there = found.there; calls = found.calls }
+      let position = goes_on e in
+      record { reader = position.reader; its = position.its; later = omega (arith, position.later); there = position.there; calls = position.calls }
 
   read_by : (func at : ℕ) (rest : List FuncPlacement) → From at rest → is_read pipeline func at rest ≡ true → IsReadBy func at
   read_by func at [] from e = absurd cc
@@ -255,9 +255,9 @@ module _ (pipeline : Pipeline) (plans : List FuncPlan) (all : List FuncPlacement
     own : FuncPlacement
     there : IsReached all at own
 
-  consumer_within : (consumer : LoopPlace) (least reader : ℕ) → Standings → Within consumer reader → least < reader → (its : FuncPlacement)
+  consumer_within : (consumer : LoopPosition) (least reader : ℕ) → Standings → Within consumer reader → least < reader → (its : FuncPlacement)
       → IsReached all reader its
-      → ((at : ℕ) (own : FuncPlacement) (h : LoopPlace) → least < at → IsReached all at own → own.place ≡ places.At h → IsThere h.func) → IsThere consumer.func
+      → ((at : ℕ) (own : FuncPlacement) (h : LoopPosition) → least < at → IsReached all at own → own.place ≡ places.At h → IsThere h.func) → IsThere consumer.func
   consumer_within consumer least reader known Consumer lt its there later = record { own = its; there = there }
   consumer_within consumer least reader known (ComputedThere _ own at own_there place_is within) lt its there later =
       let same : at.func ≡ consumer.func = eqb-true at.func consumer.func (and_parts (at.func == consumer.func) _ within).0 in
@@ -267,11 +267,11 @@ module _ (pipeline : Pipeline) (plans : List FuncPlan) (all : List FuncPlacement
       let behind : reader < read.reader = omega (arith, read.later) in
       consumer_within consumer least read.reader known (callers read.reader read.its behind read.there read.calls) (omega arith) read.its read.there later
 
-  consumer_there : (fuel at : ℕ) → Standings → length all ≤ at + fuel → (own : FuncPlacement) (consumer : LoopPlace) → IsReached all at own
+  consumer_there : (fuel at : ℕ) → Standings → length all ≤ at + fuel → (own : FuncPlacement) (consumer : LoopPosition) → IsReached all at own
       → own.place ≡ places.At consumer → IsThere consumer.func
   consumer_there zero at known le own consumer there place_is =
       let past : slice_get all at ≡ None = slice_get_past all at (omega arith) in
-      let found = there.standing in
+      let position = there.standing in
       absurd cc
   consumer_there (suc fuel) at known le own consumer there place_is =
       let is = known at own there.standing in
@@ -291,11 +291,11 @@ module _ (pipeline : Pipeline) (plans : List FuncPlan) (all : List FuncPlacement
   root_placed false None at behind e = absurd cc
   root_placed false (Some line) at behind e = root_said line.computed at behind e
 
-  consumer_at_root : Standings → (at : ℕ) (own : FuncPlacement) → slice_get all at ≡ Some own → ((consumer : LoopPlace) → own.place ≡ places.At consumer
+  consumer_at_root : Standings → (at : ℕ) (own : FuncPlacement) → slice_get all at ≡ Some own → ((consumer : LoopPosition) → own.place ≡ places.At consumer
       → IsConsumer pipeline plans at consumer) → HasConsumerAtRoot all at own
-  consumer_at_root known at own found produced reached consumer place_is =
+  consumer_at_root known at own position produced reached consumer place_is =
       let is_consumer = produced consumer place_is in
-      let there = consumer_there (length all) at known (omega arith) own consumer (record { standing = found; reached = reached }) place_is in
+      let there = consumer_there (length all) at known (omega arith) own consumer (record { standing = position; reached = reached }) place_is in
       let is = known consumer.func there.own there.there.standing in
       let plan_is : is.plan ≡ is_consumer.plan = let a = is.plan_is in let b = is_consumer.plan_is in cc in
       let root : is_root pipeline consumer.func is.plan ≡ true = subst (λ (p : FuncPlan). is_root pipeline consumer.func p ≡ true) (sym plan_is)
@@ -374,11 +374,11 @@ called_is_reached pipeline plans reader its there func before called =
     }
 
 -- the output is reached, and computed at root
-pub output_standing : (pipeline : Pipeline) (plans : List FuncPlan) (own : FuncPlacement) → slice_get (standings_from pipeline plans 0 plans) pipeline.output.func
-    ≡ Some own
-    → (own.is_reached ≡ true) × (own.place ≡ places.Root)
-output_standing pipeline plans own found =
-    let is = known_all pipeline plans pipeline.output.func own found in
+pub output_standing : (pipeline : Pipeline) (plans : List FuncPlan) (placement : FuncPlacement) → slice_get (standings_from pipeline plans 0 plans) pipeline.output.func
+    ≡ Some placement
+    → (placement.is_reached ≡ true) × (placement.place ≡ places.Root)
+output_standing pipeline plans placement found =
+    let is = known_all pipeline plans pipeline.output.func placement found in
     let same : (pipeline.output.func == pipeline.output.func) ≡ true = eq-eqb pipeline.output.func pipeline.output.func refl in (
       ap (λ (s : FuncPlacement). s.is_reached) is.own_is ∙ rw same refl,
       ap (λ (s : FuncPlacement). s.place) is.own_is ∙ rw same refl,
@@ -404,11 +404,11 @@ uses_lie_within pipeline plans =
     (uses_at pipeline plans all k own (known_all pipeline plans k own found)))
 
 pub consumers_at_root : (pipeline : Pipeline) (plans : List FuncPlan)
-    → ((k : ℕ) (own : FuncPlacement) → slice_get (standings_from pipeline plans 0 plans) k ≡ Some own → (consumer : LoopPlace) → own.place ≡ places.At consumer
+    → ((k : ℕ) (placement : FuncPlacement) → slice_get (standings_from pipeline plans 0 plans) k ≡ Some placement → (consumer : LoopPosition) → placement.place ≡ places.At consumer
     → IsConsumer pipeline plans k consumer)
     → Numbered (HasConsumerAtRoot (standings_from pipeline plans 0 plans)) 0 (standings_from pipeline plans 0 plans)
 consumers_at_root pipeline plans produced =
     let all = standings_from pipeline plans 0 plans in
     let here : (k : ℕ) → k ≡ 0 + k = λ k. omega arith in
-    numbered_from (HasConsumerAtRoot all) 0 all (λ k own found. subst (λ (n : ℕ). HasConsumerAtRoot all n own) (here k) (consumer_at_root pipeline plans all
-    (known_all pipeline plans) k own found (produced k own found)))
+    numbered_from (HasConsumerAtRoot all) 0 all (λ k placement found. subst (λ (n : ℕ). HasConsumerAtRoot all n placement) (here k) (consumer_at_root pipeline plans all
+    (known_all pipeline plans) k placement found (produced k placement found)))

@@ -20,7 +20,7 @@ use Rattle.schedule.specs.declared.legality.LoopRule.{LoopRule}
 use Rattle.schedule.specs.declared.legality.LoopRule.TheVariants as rules_of
 use Rattle.schedule.specs.declared.plans.ComputeLine.{ComputeLine}
 use Rattle.schedule.specs.declared.plans.FuncPlan.{FuncPlan}
-use Rattle.schedule.specs.declared.placements.LoopPlace.{LoopPlace}
+use Rattle.schedule.specs.declared.placements.LoopPosition.{LoopPosition}
 use Rattle.schedule.specs.declared.placements.ComputeLevel.TheVariants as places
 use Rattle.schedule.specs.declared.placements.FuncPlacement.{FuncPlacement}
 use Rattle.schedule.specs.Accepted.{Pairwise, Numbered, keeps, Keeps, IsLegal, IsConsumer, IsProduced}
@@ -41,21 +41,22 @@ no_next None wrong next e = (refl, e)
 no_next (Some line) wrong next e = cc
 
 -- a loop without a mark breaks no rule
-unmarked : (rule : LoopRule) (root inner outer : Bool) (own : Loop) → own.marked ≡ None → breaks rule root inner outer own ≡ false
-unmarked rules_of.ParallelOutermost root inner outer own e = rw e refl
-unmarked rules_of.ParallelOverArgument root inner outer own e = rw e refl
-unmarked rules_of.ParallelUnshifted root inner outer own e = rw e refl
-unmarked rules_of.VectorizedInnermost root inner outer own e = rw e refl
+unmarked : (rule : LoopRule) (root inner outer : Bool) (stage_loop : Loop) → stage_loop.marked ≡ None → breaks rule root inner outer stage_loop ≡ false
+unmarked rules_of.ParallelOutermost root inner outer stage_loop e = rw e refl
+unmarked rules_of.ParallelOverArgument root inner outer stage_loop e = rw e refl
+unmarked rules_of.ParallelUnshifted root inner outer stage_loop e = rw e refl
+unmarked rules_of.VectorizedInnermost root inner outer stage_loop e = rw e refl
 
 no_line : (marked : Option Marked) → line_of marked ≡ None → marked ≡ None
 no_line None e = refl
 no_line (Some m) e = cc
 
-unbroken_by : (broken : Bool) (rule : LoopRule) (root inner outer : Bool) (own : Loop) → breaks rule root inner outer own ≡ broken
-    → cond broken (line_of own.marked) None ≡ None
-    → not (breaks rule root inner outer own) ≡ true
-unbroken_by true rule root inner outer own is e = rw (unmarked rule root inner outer own (no_line own.marked e)) refl
-unbroken_by false rule root inner outer own is e = rw is refl
+unbroken_by : (broken : Bool) (rule : LoopRule) (root inner outer : Bool) (stage_loop : Loop) → breaks rule root inner outer stage_loop ≡ broken
+    → cond broken (line_of stage_loop.marked) None ≡ None
+    → not (breaks rule root inner outer stage_loop) ≡ true
+unbroken_by true rule root inner outer stage_loop is e = rw (unmarked rule root inner outer stage_loop
+    (no_line stage_loop.marked e)) refl
+unbroken_by false rule root inner outer stage_loop is e = rw is refl
 
 loops_keep : (rule : LoopRule) (root inner : Bool) (loops : List Loop) → loops_line rule root inner loops ≡ None → keeps rule root inner loops ≡ true
 loops_keep rule root inner [] e = refl
@@ -75,7 +76,7 @@ stages_keep rule root (first ∷ others) e =
 
 -- a Func that is nowhere has a compute line
 abbrev HasLine : FuncPlan → FuncPlacement → Type 0
-HasLine plan own = is_nowhere own.place ≡ true → is_some plan.compute ≡ true
+HasLine plan placement = is_nowhere placement.place ≡ true → is_some plan.compute ≡ true
 
 -- no rule is broken
 pub record AreKept (plans : List FuncPlan) (found : List FuncPlacement) : Type 0 where
@@ -108,22 +109,23 @@ lost_by true true false count r i e = (eqb-true count 0 (not_false (count == 0) 
 lost_by false inlined directed count r i e = cc
 lost_by true false directed count r i e = cc
 
-func_keeps : (plan : FuncPlan) (own : FuncPlacement) → HasLine plan own
-    → ((rule : LoopRule) → cond own.is_reached (plan_line rule (at_root own.place) plan) None ≡ None)
-    → cond (own.is_reached && is_nowhere own.place) (compute_line plan.compute) None ≡ None
-    → (own.is_reached && is_inlined own.place && (plan.is_directed || not (length plan.updates == 0))) ≡ false
-    → IsLegal plan own
-func_keeps plan own has rules nowhere lost reached =
-    let each : (rule : LoopRule) → (stage_line rule (at_root own.place) plan.pure ≡ None) × (stages_line rule (at_root own.place) plan.updates ≡ None) =
-    λ rule. no_earlier (stage_line rule (at_root own.place) plan.pure) (stages_line rule (at_root own.place) plan.updates) (reached_line own.is_reached
-    (plan_line rule (at_root own.place) plan) reached (rules rule)) in
+func_keeps : (plan : FuncPlan) (placement : FuncPlacement) → HasLine plan placement
+    → ((rule : LoopRule) → cond placement.is_reached (plan_line rule (at_root placement.place) plan) None ≡ None)
+    → cond (placement.is_reached && is_nowhere placement.place) (compute_line plan.compute) None ≡ None
+    → (placement.is_reached && is_inlined placement.place && (plan.is_directed || not (length plan.updates == 0))) ≡
+    false
+    → IsLegal plan placement
+func_keeps plan placement has rules nowhere lost reached =
+    let each : (rule : LoopRule) → (stage_line rule (at_root placement.place) plan.pure ≡ None) × (stages_line rule (at_root placement.place) plan.updates ≡ None) =
+    λ rule. no_earlier (stage_line rule (at_root placement.place) plan.pure) (stages_line rule (at_root placement.place) plan.updates) (reached_line placement.is_reached
+    (plan_line rule (at_root placement.place) plan) reached (rules rule)) in
     record {
-      pure = λ rule. loops_keep rule (at_root own.place) true plan.pure.loops (each rule).0;
-      updates = λ rule. stages_keep rule (at_root own.place) plan.updates (each rule).1;
-      somewhere = nowhere_by (is_nowhere own.place) plan.compute has (reached_nowhere own.is_reached (is_nowhere own.place) (compute_line plan.compute) reached
+      pure = λ rule. loops_keep rule (at_root placement.place) true plan.pure.loops (each rule).0;
+      updates = λ rule. stages_keep rule (at_root placement.place) plan.updates (each rule).1;
+      somewhere = nowhere_by (is_nowhere placement.place) plan.compute has (reached_nowhere placement.is_reached (is_nowhere placement.place) (compute_line plan.compute) reached
           nowhere);
-      no_updates = λ inlined. (lost_by own.is_reached (is_inlined own.place) plan.is_directed (length plan.updates) reached inlined lost).0;
-      no_lines = λ inlined. (lost_by own.is_reached (is_inlined own.place) plan.is_directed (length plan.updates) reached inlined lost).1;
+      no_updates = λ inlined. (lost_by placement.is_reached (is_inlined placement.place) plan.is_directed (length plan.updates) reached inlined lost).0;
+      no_lines = λ inlined. (lost_by placement.is_reached (is_inlined placement.place) plan.is_directed (length plan.updates) reached inlined lost).1;
     }
 
 pub funcs_keep : (plans : List FuncPlan) (found : List FuncPlacement) → Pairwise HasLine plans found → AreKept plans found → Pairwise IsLegal plans found
@@ -190,82 +192,82 @@ have_lines pipeline plans at (first ∷ others) = (
 
 -- ---- the loop at which a Func is computed
 
-marked_consumer : (vectorized : Bool) (pipeline : Pipeline) (plans : List FuncPlan) (at func : ℕ) (plan : FuncPlan) (name : List ℕ) (own : Loop)
-    (wanted : LoopPlace)
-    → at < func → slice_get plans func ≡ Some plan → is_consumer pipeline func plan ≡ true → find name plan.pure.loops ≡ Some own
-    → is_marked marks.Vectorized own ≡ vectorized
-    → cond vectorized None (Some (record { func = func; inside = own.id })) ≡ Some wanted → IsConsumer pipeline plans at wanted
-marked_consumer true pipeline plans at func plan name own wanted later plan_is consumers found mark e = cc
-marked_consumer false pipeline plans at func plan name own wanted later plan_is consumers found mark e =
+marked_consumer : (vectorized : Bool) (pipeline : Pipeline) (plans : List FuncPlan) (at func : ℕ) (plan : FuncPlan) (name : List ℕ) (stage_loop : Loop)
+    (wanted : LoopPosition)
+    → at < func → slice_get plans func ≡ Some plan → is_consumer pipeline func plan ≡ true → find name plan.pure.loops ≡ Some stage_loop
+    → is_marked marks.Vectorized stage_loop ≡ vectorized
+    → cond vectorized None (Some (record { func = func; inside = stage_loop.id })) ≡ Some wanted → IsConsumer pipeline plans at wanted
+marked_consumer true pipeline plans at func plan name stage_loop wanted later plan_is consumers found mark e = cc
+marked_consumer false pipeline plans at func plan name stage_loop wanted later plan_is consumers found mark e =
     let parts = and_parts (is_root pipeline func plan) (length plan.updates == 0) consumers in
-    let here : LoopPlace = record { func = func; inside = own.id } in
+    let here : LoopPosition = record { func = func; inside = stage_loop.id } in
     let wanted_is : here ≡ wanted = cc in
-    subst (λ (h : LoopPlace). IsConsumer pipeline plans at h) wanted_is (record {
+    subst (λ (h : LoopPosition). IsConsumer pipeline plans at h) wanted_is (record {
       later = later;
       plan = plan;
       plan_is = plan_is;
       root = parts.0;
       no_updates = eqb-true (length plan.updates) 0 parts.1;
       name = name;
-      loop = own;
+      loop = stage_loop;
       loop_is = found;
       id_is = refl;
       unvectorized = mark;
     })
 
-found_consumer : (found : Option Loop) (pipeline : Pipeline) (plans : List FuncPlan) (at func : ℕ) (plan : FuncPlan) (name : List ℕ) (wanted : LoopPlace)
-    → at < func → slice_get plans func ≡ Some plan → is_consumer pipeline func plan ≡ true → find name plan.pure.loops ≡ found
-    → unvectorized func found ≡ Some wanted → IsConsumer pipeline plans at wanted
-found_consumer None pipeline plans at func plan name wanted later plan_is consumers found e = cc
-found_consumer (Some own) pipeline plans at func plan name wanted later plan_is consumers found e =
-    marked_consumer (is_marked marks.Vectorized own) pipeline plans at func plan name own wanted later plan_is consumers found refl e
+found_consumer : (stage_loop : Option Loop) (pipeline : Pipeline) (plans : List FuncPlan) (at func : ℕ) (plan : FuncPlan) (name : List ℕ) (wanted : LoopPosition)
+    → at < func → slice_get plans func ≡ Some plan → is_consumer pipeline func plan ≡ true → find name plan.pure.loops ≡ stage_loop
+    → unvectorized func stage_loop ≡ Some wanted → IsConsumer pipeline plans at wanted
+found_consumer None pipeline plans at func plan name wanted later plan_is consumers stage_loop e = cc
+found_consumer (Some own) pipeline plans at func plan name wanted later plan_is consumers stage_loop e =
+    marked_consumer (is_marked marks.Vectorized own) pipeline plans at func plan name own wanted later plan_is consumers stage_loop refl e
 
-tested_consumer : (consumers : Bool) (pipeline : Pipeline) (plans : List FuncPlan) (at func : ℕ) (plan : FuncPlan) (name : List ℕ) (wanted : LoopPlace)
+tested_consumer : (consumers : Bool) (pipeline : Pipeline) (plans : List FuncPlan) (at func : ℕ) (plan : FuncPlan) (name : List ℕ) (wanted : LoopPosition)
     → at < func → slice_get plans func ≡ Some plan → is_consumer pipeline func plan ≡ consumers
     → cond consumers (unvectorized func (find name plan.pure.loops)) None ≡ Some wanted → IsConsumer pipeline plans at wanted
 tested_consumer true pipeline plans at func plan name wanted later plan_is consumers e = found_consumer (find name plan.pure.loops) pipeline plans at func plan
     name wanted later plan_is consumers refl e
 tested_consumer false pipeline plans at func plan name wanted later plan_is consumers e = cc
 
-planned_consumer : (found : Option FuncPlan) (pipeline : Pipeline) (plans : List FuncPlan) (at func : ℕ) (name : List ℕ) (wanted : LoopPlace)
-    → at < func → slice_get plans func ≡ found → loop_of pipeline func name found ≡ Some wanted → IsConsumer pipeline plans at wanted
+planned_consumer : (func_plan : Option FuncPlan) (pipeline : Pipeline) (plans : List FuncPlan) (at func : ℕ) (name : List ℕ) (wanted : LoopPosition)
+    → at < func → slice_get plans func ≡ func_plan → loop_of pipeline func name func_plan ≡ Some wanted → IsConsumer pipeline plans at wanted
 planned_consumer None pipeline plans at func name wanted later plan_is e = cc
 planned_consumer (Some plan) pipeline plans at func name wanted later plan_is e = tested_consumer (is_consumer pipeline func plan) pipeline plans at func plan
     name wanted later plan_is refl e
 
-later_consumer : (later : Bool) (pipeline : Pipeline) (plans : List FuncPlan) (at func : ℕ) (name : List ℕ) (wanted : LoopPlace) → nat_lt at func ≡ later
+later_consumer : (later : Bool) (pipeline : Pipeline) (plans : List FuncPlan) (at func : ℕ) (name : List ℕ) (wanted : LoopPosition) → nat_lt at func ≡ later
     → cond later (loop_of pipeline func name (slice_get plans func)) None ≡ Some wanted → IsConsumer pipeline plans at wanted
 later_consumer true pipeline plans at func name wanted is e = planned_consumer (slice_get plans func) pipeline plans at func name wanted (ltb-true at func is)
     refl e
 later_consumer false pipeline plans at func name wanted is e = cc
 
-named_consumer : (named : Option Source) (pipeline : Pipeline) (plans : List FuncPlan) (at : ℕ) (name : List ℕ) (wanted : LoopPlace)
+named_consumer : (named : Option Source) (pipeline : Pipeline) (plans : List FuncPlan) (at : ℕ) (name : List ℕ) (wanted : LoopPosition)
     → consumer_of pipeline plans at name named ≡ Some wanted
     → IsConsumer pipeline plans at wanted
 named_consumer None pipeline plans at name wanted e = cc
 named_consumer (Some (sources.Input place)) pipeline plans at name wanted e = cc
 named_consumer (Some (sources.Func func)) pipeline plans at name wanted e = later_consumer (nat_lt at func) pipeline plans at func name wanted refl e
 
-used_by : (away : Bool) (own wanted : LoopPlace) → cond away places.Nowhere (places.At own) ≡ places.At wanted → own ≡ wanted
-used_by true own wanted e = cc
-used_by false own wanted e = cc
+used_by : (away : Bool) (position wanted : LoopPosition) → cond away places.Nowhere (places.At position) ≡ places.At wanted → position ≡ wanted
+used_by true position wanted e = cc
+used_by false position wanted e = cc
 
-consumer_by : (found : Option LoopPlace) (pipeline : Pipeline) (plans : List FuncPlan) (at : ℕ) (names : LoopNames) (behind : List FuncPlacement)
-    (wanted : LoopPlace) → consumer pipeline plans at names ≡ found
-    → place_at pipeline plans at behind found ≡ places.At wanted → IsConsumer pipeline plans at wanted
+consumer_by : (position : Option LoopPosition) (pipeline : Pipeline) (plans : List FuncPlan) (at : ℕ) (names : LoopNames) (behind : List FuncPlacement)
+    (wanted : LoopPosition) → consumer pipeline plans at names ≡ position
+    → place_at pipeline plans at behind position ≡ places.At wanted → IsConsumer pipeline plans at wanted
 consumer_by None pipeline plans at names behind wanted is e = cc
 consumer_by (Some own) pipeline plans at names behind wanted is e =
     let own_is : own ≡ wanted = used_by (is_called pipeline at (at + 1) (outside pipeline plans own (at + 1) behind)) own wanted e in
-    subst (λ (h : LoopPlace). IsConsumer pipeline plans at h) own_is (named_consumer (lookup names.func pipeline.names) pipeline plans at names.inside own is)
+    subst (λ (h : LoopPosition). IsConsumer pipeline plans at h) own_is (named_consumer (lookup names.func pipeline.names) pipeline plans at names.inside own is)
 
-computed_consumer : (said : Computed) (pipeline : Pipeline) (plans : List FuncPlan) (at : ℕ) (behind : List FuncPlacement) (wanted : LoopPlace)
+computed_consumer : (said : Computed) (pipeline : Pipeline) (plans : List FuncPlan) (at : ℕ) (behind : List FuncPlacement) (wanted : LoopPosition)
     → place_computed pipeline plans at behind said ≡ places.At wanted → IsConsumer pipeline plans at wanted
 computed_consumer computed.Root pipeline plans at behind wanted e = cc
 computed_consumer (computed.At names) pipeline plans at behind wanted e = consumer_by (consumer pipeline plans at names) pipeline plans at names behind wanted
     refl e
 
 consumer_of_line : (is_output : Bool) (compute : Option ComputeLine) (pipeline : Pipeline) (plans : List FuncPlan) (at : ℕ) (behind : List FuncPlacement)
-    (wanted : LoopPlace)
+    (wanted : LoopPosition)
     → cond is_output places.Root (place_of pipeline plans at behind compute) ≡ places.At wanted → IsConsumer pipeline plans at wanted
 consumer_of_line true compute pipeline plans at behind wanted e = cc
 consumer_of_line false None pipeline plans at behind wanted e = cc

@@ -13,7 +13,7 @@ use Rattle.schedule_lines.specs.Making.{IsStage}
 use Rattle.schedule.specs.declared.legality.LoopRule.{LoopRule}
 use Rattle.schedule.specs.declared.plans.FuncPlan.{FuncPlan}
 use Rattle.schedule.specs.declared.schedules.Schedule.{Schedule}
-use Rattle.schedule.specs.declared.placements.LoopPlace.{LoopPlace}
+use Rattle.schedule.specs.declared.placements.LoopPosition.{LoopPosition}
 use Rattle.schedule.specs.declared.placements.ComputeLevel.TheVariants as places
 use Rattle.schedule.specs.declared.placements.FuncPlacement.{FuncPlacement}
 use Rattle.schedule.specs.Legal.{breaks, is_empty, is_root, is_inlined, is_nowhere}
@@ -57,19 +57,19 @@ Keeps rule at_root stage = keeps rule at_root true stage.loops ≡ true
 
 -- It is computed somewhere; and where that is in the expressions that call it, it has no updates and no line is
 -- about its loops.
-pub record IsComputed (plan : FuncPlan) (own : FuncPlacement) : Type 0 where
-  pub pure : (rule : LoopRule) → Keeps rule (is_root own.place) plan.pure
-  pub updates : (rule : LoopRule) → AllByRecursion (Keeps rule (is_root own.place)) plan.updates
-  pub somewhere : is_nowhere own.place ≡ false
-  pub no_updates : is_inlined own.place ≡ true → length plan.updates ≡ 0
-  pub no_lines : is_inlined own.place ≡ true → plan.is_directed ≡ false
+pub record IsComputed (plan : FuncPlan) (placement : FuncPlacement) : Type 0 where
+  pub pure : (rule : LoopRule) → Keeps rule (is_root placement.place) plan.pure
+  pub updates : (rule : LoopRule) → AllByRecursion (Keeps rule (is_root placement.place)) plan.updates
+  pub somewhere : is_nowhere placement.place ≡ false
+  pub no_updates : is_inlined placement.place ≡ true → length plan.updates ≡ 0
+  pub no_lines : is_inlined placement.place ≡ true → plan.is_directed ≡ false
 
 abbrev pub IsLegal : FuncPlan → FuncPlacement → Type 0
-IsLegal plan own = own.is_reached ≡ true → IsComputed plan own
+IsLegal plan placement = placement.is_reached ≡ true → IsComputed plan placement
 
 -- ---- the loop at which a Func is computed is one of a later Func at root without updates, and not vectorized
 
-pub record IsConsumer (pipeline : Pipeline) (plans : List FuncPlan) (at : ℕ) (consumer : LoopPlace) : Type 0 where
+pub record IsConsumer (pipeline : Pipeline) (plans : List FuncPlan) (at : ℕ) (consumer : LoopPosition) : Type 0 where
   pub later : at < consumer.func
   pub plan : FuncPlan
   pub plan_is : slice_get plans consumer.func ≡ Some plan
@@ -82,7 +82,7 @@ pub record IsConsumer (pipeline : Pipeline) (plans : List FuncPlan) (at : ℕ) (
   pub unvectorized : is_marked marks.Vectorized loop ≡ false
 
 abbrev pub IsProduced : Pipeline → List FuncPlan → ℕ → FuncPlacement → Type 0
-IsProduced pipeline plans at own = (consumer : LoopPlace) → own.place ≡ places.At consumer → IsConsumer pipeline plans at consumer
+IsProduced pipeline plans at placement = (consumer : LoopPosition) → placement.place ≡ places.At consumer → IsConsumer pipeline plans at consumer
 
 -- ---- the whole
 
@@ -91,7 +91,7 @@ pub record IsAccepted (pipeline : Pipeline) (schedule : Schedule) : Type 0 where
   pub standings : schedule.standings ≡ standing.standings pipeline schedule.funcs
   pub legal : Pairwise IsLegal schedule.funcs schedule.standings
   pub consumers : Numbered (IsProduced pipeline schedule.funcs) 0 schedule.standings
-  -- the consumer of a Func that the output reaches is reached, and stands at root
+  -- the consumer of a Func that the output reaches is reached, and is at root
   pub consumers_at_root : Numbered (HasConsumerAtRoot schedule.standings) 0 schedule.standings
-  -- what reads a Func that is computed at a loop stands within the loop
+  -- what reads a Func that is computed at a loop is within the loop
   pub uses : Numbered (HasUsesWithin pipeline schedule.funcs schedule.standings) 0 schedule.standings

@@ -21,7 +21,7 @@ use Rattle.schedule_lines.specs.Directives.{is_marked, is_reduction}
 
 -- ---- the rules of marked loops
 
--- so many elements are worked on at once
+-- this many elements are worked on at once
 abbrev pub is_vector_length : Option ℕ → Bool
 is_vector_length None = false
 is_vector_length (Some factor) = factor == 4 || factor == 8 || factor == 16
@@ -29,15 +29,16 @@ is_vector_length (Some factor) = factor == 4 || factor == 8 || factor == 16
 -- A vectorized loop is the innermost, so a stage has no second one; it is the inner loop of a split by 4, 8 or 16,
 -- and not over a reduction variable.
 abbrev pub is_bad_vector : Bool → Loop → Bool
-is_bad_vector is_innermost own = not is_innermost || not (is_vector_length own.inner_of) || is_reduction own.variable
+is_bad_vector is_innermost stage_loop = not is_innermost || not (is_vector_length stage_loop.inner_of) || is_reduction
+    stage_loop.variable
 
 -- A loop breaks a rule. What is asked beside it: whether its Func is at root, and whether it is the innermost and
 -- the outermost of its stage.
 abbrev pub breaks : LoopRule → Bool → Bool → Bool → Loop → Bool
-breaks rules_of.ParallelOutermost is_root is_innermost is_outermost own = is_marked marks.Parallel own && (not is_outermost || not is_root)
-breaks rules_of.ParallelOverArgument is_root is_innermost is_outermost own = is_marked marks.Parallel own && is_reduction own.variable
-breaks rules_of.ParallelUnshifted is_root is_innermost is_outermost own = is_marked marks.Parallel own && own.is_from_shift
-breaks rules_of.VectorizedInnermost is_root is_innermost is_outermost own = is_marked marks.Vectorized own && is_bad_vector is_innermost own
+breaks rules_of.ParallelOutermost is_root is_innermost is_outermost stage_loop = is_marked marks.Parallel stage_loop && (not is_outermost || not is_root)
+breaks rules_of.ParallelOverArgument is_root is_innermost is_outermost stage_loop = is_marked marks.Parallel stage_loop && is_reduction stage_loop.variable
+breaks rules_of.ParallelUnshifted is_root is_innermost is_outermost stage_loop = is_marked marks.Parallel stage_loop && stage_loop.is_from_shift
+breaks rules_of.VectorizedInnermost is_root is_innermost is_outermost stage_loop = is_marked marks.Vectorized stage_loop && is_bad_vector is_innermost stage_loop
 
 -- ---- the first line that marks a loop which breaks a rule
 

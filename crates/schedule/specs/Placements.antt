@@ -17,7 +17,7 @@ use Rattle.schedule_lines.specs.declared.stages.Loop.{Loop}
 use Rattle.schedule_lines.specs.declared.stages.LoopId.{LoopId}
 use Rattle.schedule.specs.declared.plans.ComputeLine.{ComputeLine}
 use Rattle.schedule.specs.declared.plans.FuncPlan.{FuncPlan}
-use Rattle.schedule.specs.declared.placements.LoopPlace.{LoopPlace}
+use Rattle.schedule.specs.declared.placements.LoopPosition.{LoopPosition}
 use Rattle.schedule.specs.declared.placements.ComputeLevel.{ComputeLevel}
 use Rattle.schedule_lines.specs.declared.stages.Mark.TheVariants as marks
 use Rattle.schedule_lines.specs.Directives.{find, is_marked, same_id}
@@ -58,7 +58,7 @@ updates_call func (first ∷ others) = update_calls func first || updates_call f
 
 -- A Func calls another, in its pure definition or in its updates.
 unfoldable pub func_calls : ℕ → Func → Bool
-func_calls func own = calls func own.pure || updates_call func own.updates
+func_calls func own_func = calls func own_func.pure || updates_call func own_func.updates
 
 abbrev pub place_calls_of : ℕ → Option Func → Bool
 place_calls_of func None = false
@@ -97,60 +97,60 @@ is_root_line (Some own) = is_root_computed own.computed
 abbrev pub is_root : Pipeline → ℕ → FuncPlan → Bool
 is_root pipeline func plan = func == pipeline.output.func || is_root_line plan.compute
 
-abbrev pub unvectorized : ℕ → Option Loop → Option LoopPlace
+abbrev pub unvectorized : ℕ → Option Loop → Option LoopPosition
 unvectorized func None = None
 unvectorized func (Some own) = if is_marked marks.Vectorized own then None else Some (record { func = func; inside = own.id })
 
 abbrev pub is_consumer : Pipeline → ℕ → FuncPlan → Bool
 is_consumer pipeline func plan = is_root pipeline func plan && length plan.updates == 0
 
-abbrev pub loop_in : Pipeline → ℕ → List ℕ → FuncPlan → Option LoopPlace
+abbrev pub loop_in : Pipeline → ℕ → List ℕ → FuncPlan → Option LoopPosition
 loop_in pipeline func name plan = if is_consumer pipeline func plan then unvectorized func (find name plan.pure.loops) else None
 
-abbrev pub loop_of : Pipeline → ℕ → List ℕ → Option FuncPlan → Option LoopPlace
+abbrev pub loop_of : Pipeline → ℕ → List ℕ → Option FuncPlan → Option LoopPosition
 loop_of pipeline func name None = None
 loop_of pipeline func name (Some plan) = loop_in pipeline func name plan
 
-abbrev pub consumer_of : Pipeline → List FuncPlan → ℕ → List ℕ → Option Source → Option LoopPlace
+abbrev pub consumer_of : Pipeline → List FuncPlan → ℕ → List ℕ → Option Source → Option LoopPosition
 consumer_of pipeline plans at name None = None
 consumer_of pipeline plans at name (Some (sources.Input place)) = None
 consumer_of pipeline plans at name (Some (sources.Func func)) = if nat_lt at func then loop_of pipeline func name (slice_get plans func) else None
 
 -- the loop with these names, of a Func after the one at a place
-abbrev pub consumer : Pipeline → List FuncPlan → ℕ → LoopNames → Option LoopPlace
+abbrev pub consumer : Pipeline → List FuncPlan → ℕ → LoopNames → Option LoopPosition
 consumer pipeline plans at names = consumer_of pipeline plans at names.inside (lookup names.func pipeline.names)
 
 -- ---- uses outside of a loop
 
 -- The first loop is met no later than the second, going outward.
 abbrev pub comes_first : LoopId → LoopId → List Loop → Bool
-comes_first own other [] = false
-comes_first own other (first ∷ outside) =
-    if same_id first.id own then true
+comes_first loop_id other [] = false
+comes_first loop_id other (first ∷ outside) =
+    if same_id first.id loop_id then true
     else if same_id first.id other then false
-    else comes_first own other outside
+    else comes_first loop_id other outside
 
 abbrev pub pure_loops_of : Option FuncPlan → List Loop
 pure_loops_of None = []
 pure_loops_of (Some plan) = plan.pure.loops
 
--- A loop is the other or stands inside it.
-abbrev pub is_within : List FuncPlan → LoopPlace → LoopPlace → Bool
-is_within plans other own = own.func == other.func && comes_first own.inside other.inside (pure_loops_of (slice_get plans own.func))
+-- A loop is the other or is inside it.
+abbrev pub is_within : List FuncPlan → LoopPosition → LoopPosition → Bool
+is_within plans other position = position.func == other.func && comes_first position.inside other.inside (pure_loops_of (slice_get plans position.func))
 
 -- The uses that a Func makes stand outside of a loop. Those of an inlined Func stand where others call it, and those
 -- of a Func computed at a loop stand there.
-abbrev pub is_away : Pipeline → List FuncPlan → LoopPlace → ℕ → ComputeLevel → List Bool → Bool
+abbrev pub is_away : Pipeline → List FuncPlan → LoopPosition → ℕ → ComputeLevel → List Bool → Bool
 is_away pipeline plans consumer at places.Inlined behind = is_called pipeline at (at + 1) behind
 is_away pipeline plans consumer at (places.At own) behind = not (is_within plans consumer own)
 is_away pipeline plans consumer at places.Root behind = true
 is_away pipeline plans consumer at places.Nowhere behind = true
 
-abbrev pub is_outside : Pipeline → List FuncPlan → LoopPlace → ℕ → FuncPlacement → List Bool → Bool
-is_outside pipeline plans consumer at own behind = own.is_reached && (not (at == consumer.func) && is_away pipeline plans consumer at own.place behind)
+abbrev pub is_outside : Pipeline → List FuncPlan → LoopPosition → ℕ → FuncPlacement → List Bool → Bool
+is_outside pipeline plans consumer at placement behind = placement.is_reached && (not (at == consumer.func) && is_away pipeline plans consumer at placement.place behind)
 
 -- of the Funcs from a place on, whether the output reaches each and the uses that it makes stand outside of a loop
-abbrev pub outside : Pipeline → List FuncPlan → LoopPlace → ℕ → List FuncPlacement → List Bool
+abbrev pub outside : Pipeline → List FuncPlan → LoopPosition → ℕ → List FuncPlacement → List Bool
 outside pipeline plans consumer at [] = []
 outside pipeline plans consumer at (first ∷ others) =
     let behind = outside pipeline plans consumer (at + 1) others in
@@ -158,8 +158,8 @@ outside pipeline plans consumer at (first ∷ others) =
 
 -- ---- where a Func is computed
 
--- At the loop that its line names, if no use stands outside of it.
-abbrev pub place_at : Pipeline → List FuncPlan → ℕ → List FuncPlacement → Option LoopPlace → ComputeLevel
+-- At the loop that its line names, if no use is outside of it.
+abbrev pub place_at : Pipeline → List FuncPlan → ℕ → List FuncPlacement → Option LoopPosition → ComputeLevel
 place_at pipeline plans at behind None = places.Nowhere
 place_at pipeline plans at behind (Some own) =
     if is_called pipeline at (at + 1) (outside pipeline plans own (at + 1) behind) then places.Nowhere else places.At own

@@ -16,10 +16,10 @@ fn is_func(source: Source, func: usize) -> bool
 
 /// Whether an expression calls a Func.
 #[tactic(auto, unfolding(crate::specs::Placements::calls))]
-fn calls(own: &Expr, func: usize) -> bool
-    ensures { result ≡ spec.calls func own.now }
+fn calls(expression: &Expr, func: usize) -> bool
+    ensures { result ≡ spec.calls func expression.now }
 {
-    match own {
+    match expression {
         Expr::Number(_) | Expr::Variable(_) => false,
         Expr::Divide(a, _) | Expr::Remainder(a, _) => calls(a.get(), func),
         Expr::Binary(_, a, b) => calls(a.get(), func) || calls(b.get(), func),
@@ -33,12 +33,12 @@ fn calls(own: &Expr, func: usize) -> bool
     }
 }
 
-fn second_calls(own: &Option<Expr>, func: usize) -> bool
-    ensures { result ≡ spec.second_calls func own.now }
+fn second_calls(expression: &Option<Expr>, func: usize) -> bool
+    ensures { result ≡ spec.second_calls func expression.now }
 {
-    match own {
+    match expression {
         None => false,
-        Some(own) => calls(own, func),
+        Some(expression) => calls(expression, func),
     }
 }
 
@@ -59,10 +59,10 @@ fn updates_call(updates: &[Update], func: usize) -> bool
 
 /// Whether a Func calls another, in its pure definition or in its updates.
 #[tactic(auto, unfolding(crate::specs::Placements::func_calls))]
-fn func_calls(own: &Func, func: usize) -> bool
-    ensures { result ≡ spec.func_calls func own.now }
+fn func_calls(own_func: &Func, func: usize) -> bool
+    ensures { result ≡ spec.func_calls func own_func.now }
 {
-    calls(&own.pure, func) || updates_call(own.updates.as_slice(), func)
+    calls(&own_func.pure, func) || updates_call(own_func.updates.as_slice(), func)
 }
 
 /// Whether the Func at a place calls the Func at another.

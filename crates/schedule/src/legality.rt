@@ -33,19 +33,28 @@ fn is_vector_length(factor: Option<u32>) -> bool
 
 /// Whether a loop breaks a rule. It is asked beside it whether its Func is at root, and whether it is the
 /// innermost and the outermost of its stage.
-fn breaks(rule: LoopRule, is_root: bool, is_innermost: bool, is_outermost: bool, own: &Loop) -> bool
-    ensures { result ≡ spec.breaks rule is_root is_innermost is_outermost own.now }
+fn breaks(
+    rule: LoopRule,
+    is_root: bool,
+    is_innermost: bool,
+    is_outermost: bool,
+    stage_loop: &Loop,
+) -> bool
+    ensures { result ≡ spec.breaks rule is_root is_innermost is_outermost stage_loop.now }
 {
     match rule {
-        LoopRule::ParallelOutermost => is_marked(own, Mark::Parallel)
+        LoopRule::ParallelOutermost => is_marked(stage_loop, Mark::Parallel)
             && (!is_outermost || !is_root),
         LoopRule::ParallelOverArgument => {
-            is_marked(own, Mark::Parallel) && is_reduction(own.variable)
+            is_marked(stage_loop, Mark::Parallel) && is_reduction(stage_loop.variable)
         }
-        LoopRule::ParallelUnshifted => is_marked(own, Mark::Parallel) && own.is_from_shift,
+        LoopRule::ParallelUnshifted => is_marked(stage_loop, Mark::Parallel)
+            && stage_loop.is_from_shift,
         LoopRule::VectorizedInnermost => {
-            is_marked(own, Mark::Vectorized)
-                && (!is_innermost || !is_vector_length(own.inner_of) || is_reduction(own.variable))
+            is_marked(stage_loop, Mark::Vectorized)
+                && (!is_innermost
+                    || !is_vector_length(stage_loop.inner_of)
+                    || is_reduction(stage_loop.variable))
         }
     }
 }
@@ -107,22 +116,22 @@ fn plan_line(rule: LoopRule, is_root: bool, plan: &FuncPlan) -> Option<u64>
     earlier(line, stages_line(rule, is_root, plan.updates.as_slice()))
 }
 
-fn is_root(place: ComputeLevel) -> bool
-    ensures { result ≡ spec.is_root place }
+fn is_root(level: ComputeLevel) -> bool
+    ensures { result ≡ spec.is_root level }
 {
-    matches!(place, ComputeLevel::Root)
+    matches!(level, ComputeLevel::Root)
 }
 
-fn is_nowhere(place: ComputeLevel) -> bool
-    ensures { result ≡ spec.is_nowhere place }
+fn is_nowhere(level: ComputeLevel) -> bool
+    ensures { result ≡ spec.is_nowhere level }
 {
-    matches!(place, ComputeLevel::Nowhere)
+    matches!(level, ComputeLevel::Nowhere)
 }
 
-fn is_inlined(place: ComputeLevel) -> bool
-    ensures { result ≡ spec.is_inlined place }
+fn is_inlined(level: ComputeLevel) -> bool
+    ensures { result ≡ spec.is_inlined level }
 {
-    matches!(place, ComputeLevel::Inlined)
+    matches!(level, ComputeLevel::Inlined)
 }
 
 /// The first line that marks a loop which breaks a rule.

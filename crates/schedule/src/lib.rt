@@ -1,5 +1,5 @@
 //! Reads schedules: [`read`] gives the loops of each stage, how they are run, and where each Func is computed; or
-//! the first faulty line and that line's least fault. What one line says and does stands in `schedule_lines`.
+//! the first faulty line and that line's least fault. What one line says and does is in `schedule_lines`.
 //!
 //! - [`plans`]: what is said of each Func (`specs/Plans.antt`).
 //! - [`readers`]: one line after the other (`specs/Reading.antt`).
@@ -16,6 +16,6 @@ pub mod plans;
 mod readers;
 pub mod schedules;
 
-pub use crate::placements::{ComputeLevel, FuncPlacement, LoopPlace};
+pub use crate::placements::{ComputeLevel, FuncPlacement, LoopPosition};
 pub use crate::plans::{FuncPlan, Plans};
 pub use crate::schedules::{Schedule, read};

@@ -13,7 +13,7 @@ use std::alloc::{AllocError, Global};
 
 /// A loop of the pure definition of a Func.
 #[derive(Clone, Copy, Debug, PartialEq, Eq)]
-pub struct LoopPlace {
+pub struct LoopPosition {
     /// The Func's place in the pipeline, from 0.
     pub func: usize,
     pub inside: LoopId,
@@ -28,7 +28,7 @@ pub enum ComputeLevel {
     Root,
     /// At the start of each iteration of a loop, as far as the iteration needs it. The loop is one of a later
     /// Func at root without updates, and is not vectorized.
-    At(LoopPlace),
+    At(LoopPosition),
     /// Its compute line names no such loop, or it is used outside of the loop. In an accepted schedule only a Func
     /// that the output does not reach is computed nowhere.
     Nowhere,
@@ -43,11 +43,11 @@ pub struct FuncPlacement {
 }
 
 /// Whether one of the Funcs from a place on that are reached calls this Func.
-fn is_read(pipeline: &Pipeline, func: usize, at: usize, behind: &[FuncPlacement]) -> bool
-    requires { at + length behind.now < 2 ^ 64 }
-    ensures { result ≡ spec.is_read pipeline.now func at behind.now }
+fn is_read(pipeline: &Pipeline, func: usize, at: usize, placements: &[FuncPlacement]) -> bool
+    requires { at + length placements.now < 2 ^ 64 }
+    ensures { result ≡ spec.is_read pipeline.now func at placements.now }
 {
-    match behind {
+    match placements {
         [] => false,
         [first, others @ ..] => {
             (first.is_reached && place_calls(pipeline, at, func))
@@ -57,11 +57,11 @@ fn is_read(pipeline: &Pipeline, func: usize, at: usize, behind: &[FuncPlacement]
 }
 
 /// Whether one of the Funcs from a place on that are flagged calls this Func.
-fn is_called(pipeline: &Pipeline, func: usize, at: usize, behind: &[bool]) -> bool
-    requires { at + length behind.now < 2 ^ 64 }
-    ensures { result ≡ spec.is_called pipeline.now func at behind.now }
+fn is_called(pipeline: &Pipeline, func: usize, at: usize, flags: &[bool]) -> bool
+    requires { at + length flags.now < 2 ^ 64 }
+    ensures { result ≡ spec.is_called pipeline.now func at flags.now }
 {
-    match behind {
+    match flags {
         [] => false,
         [first, others @ ..] => {
             (*first && place_calls(pipeline, at, func)) || is_called(pipeline, func, at + 1, others)
@@ -89,14 +89,14 @@ fn is_consumer(pipeline: &Pipeline, func: usize, plan: &FuncPlan) -> bool
 }
 
 /// The loop with a name of such a Func.
-fn loop_in(pipeline: &Pipeline, func: usize, name: &[u8], plan: &FuncPlan) -> Option<LoopPlace>
+fn loop_in(pipeline: &Pipeline, func: usize, name: &[u8], plan: &FuncPlan) -> Option<LoopPosition>
     ensures { result ≡ spec.loop_in pipeline.now func name.now plan.now }
 {
     if !is_consumer(pipeline, func, plan) {
         return None;
     }
     match find(plan.pure.loops.as_slice(), name) {
-        Some(own) if !is_marked(own, Mark::Vectorized) => Some(LoopPlace {
+        Some(own) if !is_marked(own, Mark::Vectorized) => Some(LoopPosition {
             func,
             inside: own.id,
         }),
@@ -108,13 +108,13 @@ fn loop_in(pipeline: &Pipeline, func: usize, name: &[u8], plan: &FuncPlan) -> Op
 fn consumer(
     pipeline: &Pipeline,
     plans: &[FuncPlan],
-    own: usize,
+    func_index: usize,
     names: &LoopNames,
-) -> Option<LoopPlace>
-    ensures { result ≡ spec.consumer pipeline.now plans.now own names.now }
+) -> Option<LoopPosition>
+    ensures { result ≡ spec.consumer pipeline.now plans.now func_index names.now }
 {
     match pipeline.source(names.func.as_slice()) {
-        Some(Source::Func(func)) if own < func => match at(plans, func) {
+        Some(Source::Func(func)) if func_index < func => match at(plans, func) {
             None => None,
             Some(plan) => loop_in(pipeline, func, names.inside.as_slice(), plan),
         },
@@ -123,32 +123,32 @@ fn consumer(
 }
 
 /// Whether the first loop is met no later than the second, going outward.
-fn comes_first(own: LoopId, other: LoopId, loops: &[Loop]) -> bool
-    ensures { result ≡ spec.comes_first own other loops.now }
+fn comes_first(loop_id: LoopId, other: LoopId, loops: &[Loop]) -> bool
+    ensures { result ≡ spec.comes_first loop_id other loops.now }
 {
     match loops {
         [] => false,
         [first, outside @ ..] => {
-            if same_id(first.id, own) {
+            if same_id(first.id, loop_id) {
                 true
             } else if same_id(first.id, other) {
                 false
             } else {
-                comes_first(own, other, outside)
+                comes_first(loop_id, other, outside)
             }
         }
     }
 }
 
-/// Whether a loop is the other or stands inside it.
-fn is_within(plans: &[FuncPlan], other: LoopPlace, own: LoopPlace) -> bool
-    ensures { result ≡ spec.is_within plans.now other own }
+/// Whether a loop is the other or is inside it.
+fn is_within(plans: &[FuncPlan], other: LoopPosition, position: LoopPosition) -> bool
+    ensures { result ≡ spec.is_within plans.now other position }
 {
-    match at(plans, own.func) {
+    match at(plans, position.func) {
         None => false,
         Some(plan) => {
-            own.func == other.func
-                && comes_first(own.inside, other.inside, plan.pure.loops.as_slice())
+            position.func == other.func
+                && comes_first(position.inside, other.inside, plan.pure.loops.as_slice())
         }
     }
 }
@@ -157,16 +157,16 @@ fn is_within(plans: &[FuncPlan], other: LoopPlace, own: LoopPlace) -> bool
 fn is_away(
     pipeline: &Pipeline,
     plans: &[FuncPlan],
-    consumer: LoopPlace,
+    consumer: LoopPosition,
     func: usize,
-    place: ComputeLevel,
-    behind: &[bool],
+    level: ComputeLevel,
+    flags: &[bool],
 ) -> bool
-    requires { func + 1 + length behind.now < 2 ^ 64 }
-    ensures { result ≡ spec.is_away pipeline.now plans.now consumer func place behind.now }
+    requires { func + 1 + length flags.now < 2 ^ 64 }
+    ensures { result ≡ spec.is_away pipeline.now plans.now consumer func level flags.now }
 {
-    match place {
-        ComputeLevel::Inlined => is_called(pipeline, func, func + 1, behind),
+    match level {
+        ComputeLevel::Inlined => is_called(pipeline, func, func + 1, flags),
         ComputeLevel::At(own) => !is_within(plans, consumer, own),
         ComputeLevel::Root | ComputeLevel::Nowhere => true,
     }
@@ -178,15 +178,16 @@ fn outside(
     alloc: Global,
     pipeline: &Pipeline,
     plans: &[FuncPlan],
-    consumer: LoopPlace,
+    consumer: LoopPosition,
     func: usize,
-    behind: &[FuncPlacement],
+    placements: &[FuncPlacement],
 ) -> Result<Vec<bool>, AllocError>
-    requires { func + length behind.now < 2 ^ 64 }
-    ensures flags { IfOk result (λ flags. flags.items ≡ spec.outside pipeline.now plans.now consumer func behind.now) }
-    ensures count { IfOk result (λ flags. length flags.items ≡ length behind.now) }
+    requires { func + length placements.now < 2 ^ 64 }
+    ensures flags { IfOk result (λ flags. flags.items ≡ spec.outside pipeline.now plans.now consumer func
+        placements.now) }
+    ensures count { IfOk result (λ flags. length flags.items ≡ length placements.now) }
 {
-    match behind {
+    match placements {
         [] => Ok(Vec::new(alloc)),
         [first, others @ ..] => {
             let mut flags = outside(alloc, pipeline, plans, consumer, func + 1, others)?;
@@ -213,16 +214,16 @@ fn place_at(
     plans: &[FuncPlan],
     func: usize,
     names: &LoopNames,
-    behind: &[FuncPlacement],
+    placements: &[FuncPlacement],
 ) -> Result<ComputeLevel, AllocError>
-    requires { func + 1 + length behind.now < 2 ^ 64 }
-    ensures { IfOk result (λ place. place ≡ spec.place_at pipeline.now plans.now func behind.now
+    requires { func + 1 + length placements.now < 2 ^ 64 }
+    ensures { IfOk result (λ place. place ≡ spec.place_at pipeline.now plans.now func placements.now
         (spec.consumer pipeline.now plans.now func names.now)) }
 {
     match consumer(pipeline, plans, func, names) {
         None => Ok(ComputeLevel::Nowhere),
         Some(own) => {
-            let flags = outside(alloc, pipeline, plans, own, func + 1, behind)?;
+            let flags = outside(alloc, pipeline, plans, own, func + 1, placements)?;
             if is_called(pipeline, func, func + 1, flags.as_slice()) {
                 Ok(ComputeLevel::Nowhere)
             } else {
@@ -239,10 +240,10 @@ fn place_of(
     plans: &[FuncPlan],
     func: usize,
     plan: &FuncPlan,
-    behind: &[FuncPlacement],
+    placements: &[FuncPlacement],
 ) -> Result<ComputeLevel, AllocError>
-    requires { func + 1 + length behind.now < 2 ^ 64 }
-    ensures { IfOk result (λ place. place ≡ spec.place pipeline.now plans.now func plan.now behind.now) }
+    requires { func + 1 + length placements.now < 2 ^ 64 }
+    ensures { IfOk result (λ place. place ≡ spec.place pipeline.now plans.now func plan.now placements.now) }
 {
     if func == pipeline.output().func {
         return Ok(ComputeLevel::Root);
@@ -251,7 +252,7 @@ fn place_of(
         None => Ok(ComputeLevel::Inlined),
         Some(line) => match &line.computed {
             Computed::Root => Ok(ComputeLevel::Root),
-            Computed::At(names) => Ok(place_at(alloc, pipeline, plans, func, names, behind)?),
+            Computed::At(names) => Ok(place_at(alloc, pipeline, plans, func, names, placements)?),
         },
     }
 }
@@ -265,19 +266,20 @@ fn standings_from(
     rest: &[FuncPlan],
 ) -> Result<Vec<FuncPlacement>, AllocError>
     requires { func + length rest.now < 2 ^ 64 }
-    ensures standings { IfOk result (λ found. found.items ≡ spec.standings_from pipeline.now plans.now func rest.now) }
-    ensures count { IfOk result (λ found. length found.items ≡ length rest.now) }
+    ensures standings { IfOk result (λ placements. placements.items ≡ spec.standings_from pipeline.now plans.now func
+        rest.now) }
+    ensures count { IfOk result (λ placements. length placements.items ≡ length rest.now) }
 {
     match rest {
         [] => Ok(Vec::new(alloc)),
         [first, others @ ..] => {
-            let mut found = standings_from(alloc, pipeline, plans, func + 1, others)?;
-            let behind = found.as_slice();
+            let mut placements = standings_from(alloc, pipeline, plans, func + 1, others)?;
+            let behind = placements.as_slice();
             let is_reached = func == pipeline.output().func
                 || is_read(pipeline, func, func + 1, behind);
             let place = place_of(alloc, pipeline, plans, func, first, behind)?;
-            found.insert(0, FuncPlacement { is_reached, place })?;
-            Ok(found)
+            placements.insert(0, FuncPlacement { is_reached, place })?;
+            Ok(placements)
         }
     }
 }
@@ -289,8 +291,8 @@ pub fn standings(
     pipeline: &Pipeline,
     plans: &[FuncPlan],
 ) -> Result<Vec<FuncPlacement>, AllocError>
-    ensures { IfOk result (λ found. found.items ≡ spec.standings pipeline.now plans.now) }
+    ensures { IfOk result (λ placements. placements.items ≡ spec.standings pipeline.now plans.now) }
 {
-    let found = standings_from(alloc, pipeline, plans, 0, plans)?;
-    Ok(found)
+    let placements = standings_from(alloc, pipeline, plans, 0, plans)?;
+    Ok(placements)
 }

@@ -33,7 +33,6 @@ pub struct FuncPlan {
     pub updates: Items<Stage>,
 }
 
-/// Written out, so that a check sees a call wherever one is dropped, and not the drops of its parts.
 impl Drop for FuncPlan {
     fn drop(self) {
         let FuncPlan {

@@ -45,7 +45,7 @@ fn digit(suffix: &[u8]) -> Option<usize>
     }
 }
 
-/// The update of a Func that stands after the dot of its name.
+/// The update of a Func that is after the dot of its name.
 fn numbered(func: usize, plan: &FuncPlan, suffix: &[u8]) -> Option<LineSubject>
     ensures { result ≡ spec.numbered func plan.now (spec.digit suffix.now) }
 {

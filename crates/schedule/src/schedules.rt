@@ -29,7 +29,6 @@ pub struct Schedule {
     pub standings: Items<FuncPlacement>,
 }
 
-/// Written out, so that a check sees a call wherever one is dropped, and not the drops of its parts.
 impl Drop for Schedule {
     fn drop(self) {
         let Schedule { funcs, standings } = self;
@@ -110,8 +109,8 @@ fn finished(
 
 /// The schedule that a text means for a pipeline. It keeps what later passes need (`specs/Accepted.antt`): each
 /// stage's loops are those that its splits leave, the loops of each Func that the output reaches keep the rules, each
-/// such Func is computed somewhere, at a loop of a Func that is reached and stands at root, and what reads a Func
-/// that is computed at a loop stands within that loop (`specs/Uses.antt`).
+/// such Func is computed somewhere, at a loop of a Func that is reached and is at root, and what reads a Func
+/// that is computed at a loop is within that loop (`specs/Uses.antt`).
 ///
 /// # Errors
 ///

@@ -21,8 +21,8 @@ value_of value None = 0
 value_of value (Some l) = value l
 
 abbrev chosen : List Loop → (Loop → ℕ) → List (List ℕ) → ℕ
-chosen own value [] = 0
-chosen own value (name ∷ names) = value_of value (find name own) + chosen own value names
+chosen loops value [] = 0
+chosen loops value (name ∷ names) = value_of value (find name loops) + chosen loops value names
 
 parted_at : (test : Bool) (n a b c : ℕ) → c ≡ a + b → n + c ≡ cond test 0 n + a + (cond test n 0 + b)
 parted_at true n a b c e = omega arith
@@ -35,7 +35,7 @@ parted names value (first ∷ others) = parted_at (is_among first.name names) (v
     others) (total value others) (parted names value others)
 
 -- the value of a loop that is found
-found_value : (value : Loop → ℕ) (found : Option Loop) (other : Loop) → is_some found ≡ true → value (or_else other found) ≡ value_of value found
+found_value : (value : Loop → ℕ) (stage_loop : Option Loop) (other : Loop) → is_some stage_loop ≡ true → value (or_else other stage_loop) ≡ value_of value stage_loop
 found_value value None other e = cc
 found_value value (Some l) other e = refl
 
@@ -44,43 +44,44 @@ one l = 1
 
 -- Where as many loops are named as names are left, these stand in the places of the named ones.
 abbrev Placed : List Loop → List (List ℕ) → (Loop → ℕ) → List (List ℕ) → List Loop → Type 0
-Placed own names value left loops =
-    are_known own left ≡ true → total (named names one) loops ≡ length left
-    → total value (reordered_from own names left loops) ≡ total (others_of names value) loops + chosen own value left
+Placed stage_loops names value left loops =
+    are_known stage_loops left ≡ true → total (named names one) loops ≡ length left
+    → total value (reordered_from stage_loops names left loops) ≡ total (others_of names value) loops + chosen
+    stage_loops value left
 
 -- no name is left
-placed_none : (test : Bool) (own : List Loop) (names : List (List ℕ)) (value : Loop → ℕ) (first : Loop) (others : List Loop) → is_among first.name names ≡ test
-    → Placed own names value [] others → Placed own names value [] (first ∷ others)
-placed_none true own names value first others is later known count = let e : 1 + total (named names one) others ≡ 0 = rw is at count in absurd (omega arith)
-placed_none false own names value first others is later known count =
+placed_none : (test : Bool) (loops : List Loop) (names : List (List ℕ)) (value : Loop → ℕ) (first : Loop) (others : List Loop) → is_among first.name names ≡ test
+    → Placed loops names value [] others → Placed loops names value [] (first ∷ others)
+placed_none true loops names value first others is later known count = let e : 1 + total (named names one) others ≡ 0 = rw is at count in absurd (omega arith)
+placed_none false loops names value first others is later known count =
     let e : 0 + total (named names one) others ≡ 0 = rw is at count in
-    let rest : total value (reordered_from own names [] others) ≡ total (others_of names value) others + 0 = later refl (omega arith) in
+    let rest : total value (reordered_from loops names [] others) ≡ total (others_of names value) others + 0 = later refl (omega arith) in
     rw is (omega arith)
 
 -- a name is left
-placed_one : (test : Bool) (own : List Loop) (names : List (List ℕ)) (value : Loop → ℕ) (name : List ℕ) (behind : List (List ℕ)) (first : Loop)
+placed_one : (test : Bool) (loops : List Loop) (names : List (List ℕ)) (value : Loop → ℕ) (name : List ℕ) (behind : List (List ℕ)) (first : Loop)
     (others : List Loop) → is_among first.name names ≡ test
-    → Placed own names value behind others → Placed own names value (name ∷ behind) others → Placed own names value (name ∷ behind) (first ∷ others)
-placed_one true own names value name behind first others is taken later known count =
-    let parts = and_parts (is_known name own) (are_known own behind) known in
+    → Placed loops names value behind others → Placed loops names value (name ∷ behind) others → Placed loops names value (name ∷ behind) (first ∷ others)
+placed_one true loops names value name behind first others is taken later known count =
+    let parts = and_parts (is_known name loops) (are_known loops behind) known in
     let e : 1 + total (named names one) others ≡ suc (length behind) = rw is at count in
-    let rest : total value (reordered_from own names behind others) ≡ total (others_of names value) others + chosen own value behind =
+    let rest : total value (reordered_from loops names behind others) ≡ total (others_of names value) others + chosen loops value behind =
     taken parts.1 (omega arith) in
-    let f : value (find_or name own first) ≡ value_of value (find name own) = found_value value (find name own) first parts.0 in
+    let f : value (find_or name loops first) ≡ value_of value (find name loops) = found_value value (find name loops) first parts.0 in
     rw is (omega arith)
-placed_one false own names value name behind first others is taken later known count =
+placed_one false loops names value name behind first others is taken later known count =
     let e : 0 + total (named names one) others ≡ length (name ∷ behind) = rw is at count in
-    let rest : total value (reordered_from own names (name ∷ behind) others) ≡ total (others_of names value) others + chosen own value (name ∷ behind) =
+    let rest : total value (reordered_from loops names (name ∷ behind) others) ≡ total (others_of names value) others + chosen loops value (name ∷ behind) =
     later known (omega arith) in
     rw is (omega arith)
 
-placed : (own : List Loop) (names : List (List ℕ)) (value : Loop → ℕ) (left : List (List ℕ)) (loops : List Loop) → Placed own names value left loops
-placed own names value [] [] known count = refl
-placed own names value (name ∷ behind) [] known count = let e : 0 ≡ length (name ∷ behind) = count in absurd (omega arith)
-placed own names value [] (first ∷ others) known count = placed_none (is_among first.name names) own names value first others refl (placed own names value []
+placed : (stage_loops : List Loop) (names : List (List ℕ)) (value : Loop → ℕ) (left : List (List ℕ)) (loops : List Loop) → Placed stage_loops names value left loops
+placed stage_loops names value [] [] known count = refl
+placed stage_loops names value (name ∷ behind) [] known count = let e : 0 ≡ length (name ∷ behind) = count in absurd (omega arith)
+placed stage_loops names value [] (first ∷ others) known count = placed_none (is_among first.name names) stage_loops names value first others refl (placed stage_loops names value []
     others) known count
-placed own names value (name ∷ behind) (first ∷ others) known count =
-    placed_one (is_among first.name names) own names value name behind first others refl (placed own names value behind others) (placed own names value (name
+placed stage_loops names value (name ∷ behind) (first ∷ others) known count =
+    placed_one (is_among first.name names) stage_loops names value name behind first others refl (placed stage_loops names value behind others) (placed stage_loops names value (name
     ∷ behind) others) known count
 
 -- ---- the loops that are named are those with the names
@@ -106,19 +107,21 @@ unused name names value [] none = refl
 unused name names value (first ∷ others) none = unused_at (bytes_eq first.name name) name names value first others refl none (unused name names value others)
 
 -- no loop that is found is named twice
-twice_at : (test : Bool) (name : List ℕ) (names : List (List ℕ)) (first : Loop) (others : List Loop) (own : Loop) → cond test (Some first) (find name others)
-    ≡ Some own
-    → is_twice_among first.name names ≡ false → (find name others ≡ Some own → is_twice_among own.name names ≡ false)
-    → is_twice_among own.name names ≡ false
-twice_at true name names first others own e once later = let same : first ≡ own = cc in rw (← same) once
-twice_at false name names first others own e once later = later e
+twice_at : (test : Bool) (name : List ℕ) (names : List (List ℕ)) (first : Loop) (others : List Loop) (stage_loop : Loop) → cond test (Some first) (find name others)
+    ≡ Some stage_loop
+    → is_twice_among first.name names ≡ false → (find name others ≡ Some stage_loop
+    → is_twice_among stage_loop.name names ≡ false)
+    → is_twice_among stage_loop.name names ≡ false
+twice_at true name names first others stage_loop e once later = let same : first ≡ stage_loop = cc in rw (← same) once
+twice_at false name names first others stage_loop e once later = later e
 
-twice : (name : List ℕ) (names : List (List ℕ)) (loops : List Loop) (own : Loop) → has_twice loops names ≡ false → find name loops ≡ Some own
-    → is_twice_among own.name names ≡ false
-twice name names [] own none e = cc
-twice name names (first ∷ others) own none e =
+twice : (name : List ℕ) (names : List (List ℕ)) (loops : List Loop) (stage_loop : Loop) → has_twice loops names ≡ false → find name loops ≡ Some stage_loop
+    → is_twice_among stage_loop.name names ≡ false
+twice name names [] stage_loop none e = cc
+twice name names (first ∷ others) stage_loop none e =
     let parts = or_parts (is_twice_among first.name names) (has_twice others names) none in
-    twice_at (bytes_eq first.name name) name names first others own e parts.0 (twice name names others own parts.1)
+    twice_at (bytes_eq first.name name) name names first others stage_loop e parts.0
+    (twice name names others stage_loop parts.1)
 
 not_twice_at : (test : Bool) (name : List ℕ) (names : List (List ℕ)) → (test || is_among name names) ≡ false → (is_among name names ≡ false
     → is_twice_among name names ≡ false)
@@ -142,17 +145,17 @@ fewer name names (first ∷ others) none =
     rw (fewer_at (bytes_eq name first.name) first.name names parts.0) (fewer name names others parts.1)
 
 -- A loop that is found, between others that haven't its name.
-pub record IsAlone (name : List ℕ) (loops : List Loop) (own : Loop) : Type 0 where
-  pub place : IsBetween name loops own
+pub record IsAlone (name : List ℕ) (loops : List Loop) (stage_loop : Loop) : Type 0 where
+  pub place : IsBetween name loops stage_loop
   pub none_before : total (has_name name) place.before ≡ 0
   pub none_after : total (has_name name) place.after ≡ 0
 
-pub alone : (name : List ℕ) (loops : List Loop) (own : Loop) → Differ loops → find name loops ≡ Some own → IsAlone name loops own
-alone name loops own differ e =
-    let place = between name loops own e in
-    let split : total (has_name name) loops ≡ total (has_name name) place.before + total (has_name name) (own ∷ place.after) =
-    ap (total (has_name name)) place.loops_are ∙ total-append (has_name name) place.before (own ∷ place.after) in
-    let itself_counts : has_name name own ≡ 1 = rw place.named refl in
+pub alone : (name : List ℕ) (loops : List Loop) (stage_loop : Loop) → Differ loops → find name loops ≡ Some stage_loop → IsAlone name loops stage_loop
+alone name loops stage_loop differ e =
+    let place = between name loops stage_loop e in
+    let split : total (has_name name) loops ≡ total (has_name name) place.before + total (has_name name) (stage_loop ∷ place.after) =
+    ap (total (has_name name)) place.loops_are ∙ total-append (has_name name) place.before (stage_loop ∷ place.after) in
+    let itself_counts : has_name name stage_loop ≡ 1 = rw place.named refl in
     record {
       place = place;
       none_before = omega (arith, differ name);
@@ -160,20 +163,20 @@ alone name loops own differ e =
     }
 
 -- the loops with these names, by whether a loop has the first of them
-chosen_by : (found : Option Loop) (own : List Loop) (name : List ℕ) (names : List (List ℕ)) (value : Loop → ℕ) → find name own ≡ found → is_some found ≡ true
-    → Differ own → has_twice own (name ∷ names) ≡ false → total (named names value) own ≡ chosen own value names
-    → total (named (name ∷ names) value) own ≡ value_of value found + chosen own value names
-chosen_by None own name names value e known differ once later = cc
-chosen_by (Some l) own name names value e known differ once later =
-    let here = alone name own l differ e in
+chosen_by : (stage_loop : Option Loop) (loops : List Loop) (name : List ℕ) (names : List (List ℕ)) (value : Loop → ℕ) → find name loops ≡ stage_loop → is_some stage_loop ≡ true
+    → Differ loops → has_twice loops (name ∷ names) ≡ false → total (named names value) loops ≡ chosen loops value names
+    → total (named (name ∷ names) value) loops ≡ value_of value stage_loop + chosen loops value names
+chosen_by None loops name names value e known differ once later = cc
+chosen_by (Some l) loops name names value e known differ once later =
+    let here = alone name loops l differ e in
     let before = here.place.before in
     let after = here.place.after in
     let back : bytes_eq name l.name ≡ true = swapped name l.name ∙ here.place.named in
-    let single : is_twice_among l.name (name ∷ names) ≡ false = twice name (name ∷ names) own l once e in
+    let single : is_twice_among l.name (name ∷ names) ≡ false = twice name (name ∷ names) loops l once e in
     let rest : is_among l.name names ≡ false = rw back at single in
-    let whole : total (named (name ∷ names) value) own ≡ total (named (name ∷ names) value) before + total (named (name ∷ names) value) (l ∷ after) =
+    let whole : total (named (name ∷ names) value) loops ≡ total (named (name ∷ names) value) before + total (named (name ∷ names) value) (l ∷ after) =
     ap (total (named (name ∷ names) value)) here.place.loops_are ∙ total-append (named (name ∷ names) value) before (l ∷ after) in
-    let less : total (named names value) own ≡ total (named names value) before + total (named names value) (l ∷ after) =
+    let less : total (named names value) loops ≡ total (named names value) before + total (named names value) (l ∷ after) =
     ap (total (named names value)) here.place.loops_are ∙ total-append (named names value) before (l ∷ after) in
     let at_own : named (name ∷ names) value l ≡ value l = rw back refl in
     let at_none : named names value l ≡ 0 = rw rest refl in
@@ -181,32 +184,33 @@ chosen_by (Some l) own name names value e known differ once later =
     let a = unused name names value after here.none_after in
     omega (arith, whole, less, b, a, later)
 
-chosen_are : (own : List Loop) (names : List (List ℕ)) (value : Loop → ℕ) → Differ own → are_known own names ≡ true → has_twice own names ≡ false
-    → total (named names value) own ≡ chosen own value names
-chosen_are own [] value differ known once = none_named value own
-chosen_are own (name ∷ names) value differ known once =
-    let parts = and_parts (is_known name own) (are_known own names) known in
-    chosen_by (find name own) own name names value refl parts.0 differ once (chosen_are own names value differ parts.1 (fewer name names own once))
+chosen_are : (loops : List Loop) (names : List (List ℕ)) (value : Loop → ℕ) → Differ loops → are_known loops names ≡ true → has_twice loops names ≡ false
+    → total (named names value) loops ≡ chosen loops value names
+chosen_are loops [] value differ known once = none_named value loops
+chosen_are loops (name ∷ names) value differ known once =
+    let parts = and_parts (is_known name loops) (are_known loops names) known in
+    chosen_by (find name loops) loops name names value refl parts.0 differ once (chosen_are loops names value differ parts.1 (fewer name names loops once))
 
--- ---- so many as there are names
+-- ---- this many as there are names
 
-one_of : (found : Option Loop) → is_some found ≡ true → value_of one found ≡ 1
+one_of : (stage_loop : Option Loop) → is_some stage_loop ≡ true → value_of one stage_loop ≡ 1
 one_of None e = cc
 one_of (Some l) e = refl
 
-ones : (own : List Loop) (names : List (List ℕ)) → are_known own names ≡ true → chosen own one names ≡ length names
-ones own [] known = refl
-ones own (name ∷ names) known =
-    let parts = and_parts (is_known name own) (are_known own names) known in
-    omega (arith, one_of (find name own) parts.0, ones own names parts.1)
+ones : (loops : List Loop) (names : List (List ℕ)) → are_known loops names ≡ true
+    → chosen loops one names ≡ length names
+ones loops [] known = refl
+ones loops (name ∷ names) known =
+    let parts = and_parts (is_known name loops) (are_known loops names) known in
+    omega (arith, one_of (find name loops) parts.0, ones loops names parts.1)
 
 pub total-ones : (loops : List Loop) → total one loops ≡ length loops
 total-ones [] = refl
 total-ones (first ∷ others) = omega (arith, total-ones others)
 
 -- Loops that are named once and take their places anew are the same loops.
-pub same_loops : (own : List Loop) (names : List (List ℕ)) → Differ own → are_known own names ≡ true → has_twice own names ≡ false
-    → SameLoops (reordered own names) own
-same_loops own names differ known once value =
-    let count : total (named names one) own ≡ length names = chosen_are own names one differ known once ∙ ones own names known in
-    omega (arith, placed own names value names own known count, chosen_are own names value differ known once, parted names value own)
+pub same_loops : (loops : List Loop) (names : List (List ℕ)) → Differ loops → are_known loops names ≡ true → has_twice loops names ≡ false
+    → SameLoops (reordered loops names) loops
+same_loops loops names differ known once value =
+    let count : total (named names one) loops ≡ length names = chosen_are loops names one differ known once ∙ ones loops names known in
+    omega (arith, placed loops names value names loops known count, chosen_are loops names value differ known once, parted names value loops)

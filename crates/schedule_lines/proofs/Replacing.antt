@@ -4,20 +4,20 @@ use Rattle.std.specs.Str.{bytes_eq}
 use Rattle.schedule_lines.specs.declared.stages.Loop.{Loop}
 use Rattle.schedule_lines.specs.Directives.{find, replaced}
 
--- The loop with a name stands between others.
-pub record IsBetween (name : List ℕ) (loops : List Loop) (own : Loop) : Type 0 where
+-- The loop with a name is between others.
+pub record IsBetween (name : List ℕ) (loops : List Loop) (stage_loop : Loop) : Type 0 where
   pub before : List Loop
   pub after : List Loop
-  pub loops_are : loops ≡ before ++ own ∷ after
-  pub named : bytes_eq own.name name ≡ true
+  pub loops_are : loops ≡ before ++ stage_loop ∷ after
+  pub named : bytes_eq stage_loop.name name ≡ true
   pub replaced_are : (new : List Loop) → replaced name new loops ≡ before ++ (new ++ after)
 
-found_at : (test : Bool) (name : List ℕ) (first : Loop) (others : List Loop) (own : Loop) → bytes_eq first.name name ≡ test
-    → cond test (Some first) (find name others) ≡ Some own
-    → (find name others ≡ Some own → IsBetween name others own)
-    → IsBetween name (first ∷ others) own
-found_at true name first others own is e later =
-    let same : first ≡ own = cc in
+found_at : (test : Bool) (name : List ℕ) (first : Loop) (others : List Loop) (stage_loop : Loop) → bytes_eq first.name name ≡ test
+    → cond test (Some first) (find name others) ≡ Some stage_loop
+    → (find name others ≡ Some stage_loop → IsBetween name others stage_loop)
+    → IsBetween name (first ∷ others) stage_loop
+found_at true name first others stage_loop is e later =
+    let same : first ≡ stage_loop = cc in
     record {
       before = [];
       after = others;
@@ -25,7 +25,7 @@ found_at true name first others own is e later =
       named = rw (← same) is;
       replaced_are = λ new. rw is refl;
     }
-found_at false name first others own is e later =
+found_at false name first others stage_loop is e later =
     let rest = later e in
     record {
       before = first ∷ rest.before;
@@ -35,6 +35,7 @@ found_at false name first others own is e later =
       replaced_are = λ new. rw is (ap (λ (ls : List Loop). first ∷ ls) (rest.replaced_are new));
     }
 
-pub between : (name : List ℕ) (loops : List Loop) (own : Loop) → find name loops ≡ Some own → IsBetween name loops own
-between name [] own e = cc
-between name (first ∷ others) own e = found_at (bytes_eq first.name name) name first others own refl e (between name others own)
+pub between : (name : List ℕ) (loops : List Loop) (stage_loop : Loop) → find name loops ≡ Some stage_loop
+    → IsBetween name loops stage_loop
+between name [] stage_loop e = cc
+between name (first ∷ others) stage_loop e = found_at (bytes_eq first.name name) name first others stage_loop refl e (between name others stage_loop)

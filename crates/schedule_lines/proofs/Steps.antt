@@ -40,43 +40,45 @@ not_not false e = cc
 
 -- ---- one loop for another
 
-replaced_map : (before : List Loop) (own other : Loop) (after : List Loop) → bare own ≡ bare other
-    → map bare (before ++ own ∷ after) ≡ map bare (before ++ other ∷ after)
-replaced_map [] own other after e = ap (λ (l : Loop). l ∷ map bare after) e
-replaced_map (first ∷ before) own other after e = ap (λ (ls : List Loop). bare first ∷ ls) (replaced_map before own other after e)
+replaced_map : (before : List Loop) (stage_loop other : Loop) (after : List Loop) → bare stage_loop ≡ bare other
+    → map bare (before ++ stage_loop ∷ after) ≡ map bare (before ++ other ∷ after)
+replaced_map [] stage_loop other after e = ap (λ (l : Loop). l ∷ map bare after) e
+replaced_map (first ∷ before) stage_loop other after e = ap (λ (ls : List Loop). bare first ∷ ls) (replaced_map before stage_loop other after e)
 
-replaced_total : (value : Loop → ℕ) (before : List Loop) (own other : Loop) (after : List Loop) → value own ≡ value other
-    → total value (before ++ own ∷ after) ≡ total value (before ++ other ∷ after)
-replaced_total value [] own other after e = omega arith
-replaced_total value (first ∷ before) own other after e = omega (arith, replaced_total value before own other after e)
+replaced_total : (value : Loop → ℕ) (before : List Loop) (stage_loop other : Loop) (after : List Loop) → value stage_loop ≡ value other
+    → total value (before ++ stage_loop ∷ after) ≡ total value (before ++ other ∷ after)
+replaced_total value [] stage_loop other after e = omega arith
+replaced_total value (first ∷ before) stage_loop other after e = omega
+    (arith, replaced_total value before stage_loop other after e)
 
 -- ---- a loop is marked
 
-stray_mark : (bad : Bool) (own : Loop) (marked : Marked) → is_bad_unroll marked.mark own ≡ bad → bad ≡ false → is_stray (with_mark own marked) ≡ 0
-stray_mark true own marked e right = cc
-stray_mark false own marked e right = rw e refl
+stray_mark : (bad : Bool) (stage_loop : Loop) (marked : Marked) → is_bad_unroll marked.mark stage_loop ≡ bad → bad ≡ false → is_stray (with_mark stage_loop marked) ≡ 0
+stray_mark true stage_loop marked e right = cc
+stray_mark false stage_loop marked e right = rw e refl
 
-marked_keeps : (is_update : Bool) (start : List Loop) (stage : Stage) (own : Loop) (name : List ℕ) (marked : Marked) → find name stage.loops ≡ Some own
-    → is_bad_unroll marked.mark own ≡ false
-    → IsStage is_update start stage → IsStage is_update start (mark_loop stage own name marked)
-marked_keeps is_update start stage own name marked e right is =
-    let place = between name stage.loops own e in
-    let new = with_mark own marked in
-    let loops_are : (mark_loop stage own name marked).loops ≡ place.before ++ new ∷ place.after = place.replaced_are (new ∷ []) in
-    let same : (value : Loop → ℕ) → value new ≡ value own → total value (mark_loop stage own name marked).loops ≡ total value stage.loops =
-    λ value equal. ap (total value) loops_are ∙ replaced_total value place.before new own place.after equal ∙ sym (ap (total value) place.loops_are) in
+marked_keeps : (is_update : Bool) (start : List Loop) (stage : Stage) (stage_loop : Loop) (name : List ℕ) (marked : Marked) → find name stage.loops ≡ Some stage_loop
+    → is_bad_unroll marked.mark stage_loop ≡ false
+    → IsStage is_update start stage → IsStage is_update start (mark_loop stage stage_loop name marked)
+marked_keeps is_update start stage stage_loop name marked e right is =
+    let place = between name stage.loops stage_loop e in
+    let new = with_mark stage_loop marked in
+    let loops_are : (mark_loop stage stage_loop name marked).loops ≡ place.before ++ new ∷ place.after = place.replaced_are (new ∷ []) in
+    let same : (value : Loop → ℕ) → value new ≡ value stage_loop → total value (mark_loop stage stage_loop name marked).loops ≡ total value stage.loops =
+    λ value equal. ap (total value) loops_are ∙ replaced_total value place.before new stage_loop place.after equal ∙ sym (ap (total value) place.loops_are) in
     record {
-      made = Remarked stage.loops (mark_loop stage own name marked).loops stage.splits is.made (ap (map bare) loops_are
-          ∙ replaced_map place.before new own place.after refl ∙ sym (ap (map bare) place.loops_are));
+      made = Remarked stage.loops (mark_loop stage stage_loop name marked).loops stage.splits is.made
+          (ap (map bare) loops_are
+          ∙ replaced_map place.before new stage_loop place.after refl ∙ sym (ap (map bare) place.loops_are));
       names = λ n. omega (arith, same (has_name n) refl, is.names n);
-      few = omega (arith, same one refl, total-ones (mark_loop stage own name marked).loops, total-ones stage.loops, is.few);
+      few = omega (arith, same one refl, total-ones (mark_loop stage stage_loop name marked).loops, total-ones stage.loops, is.few);
       unrolled = omega (
         arith,
         ap (total is_stray) loops_are,
         ap (total is_stray) place.loops_are,
         total-append is_stray place.before (new ∷ place.after),
-        total-append is_stray place.before (own ∷ place.after),
-        stray_mark (is_bad_unroll marked.mark own) own marked refl right,
+        total-append is_stray place.before (stage_loop ∷ place.after),
+        stray_mark (is_bad_unroll marked.mark stage_loop) stage_loop marked refl right,
         is.unrolled,
       );
     }
@@ -84,28 +86,31 @@ marked_keeps is_update start stage own name marked e right is =
 -- ---- a loop is split
 
 -- the two parts have names that differ and that no other loop has
-part_names : (in_inner in_outer : Bool) (name : List ℕ) (before : List Loop) (own : Loop) (after : List Loop) (inner outer : Loop)
+part_names : (in_inner in_outer : Bool) (name : List ℕ) (before : List Loop) (stage_loop : Loop) (after : List Loop) (inner outer : Loop)
     → bytes_eq inner.name name ≡ in_inner → bytes_eq outer.name name ≡ in_outer → bytes_eq outer.name inner.name ≡ false
-    → total (has_name inner.name) (before ++ own ∷ after) ≡ 0 → total (has_name outer.name) (before ++ own ∷ after) ≡ 0
-    → total (has_name name) (before ++ own ∷ after) ≤ 1
+    → total (has_name inner.name) (before ++ stage_loop ∷ after) ≡ 0
+    → total (has_name outer.name) (before ++ stage_loop ∷ after) ≡ 0
+    → total (has_name name) (before ++ stage_loop ∷ after) ≤ 1
     → total (has_name name) (before ++ (inner ∷ outer ∷ after)) ≤ 1
-part_names true true name before own after inner outer i o apart no_inner no_outer one_at_most =
+part_names true true name before stage_loop after inner outer i o apart no_inner no_outer one_at_most =
     let e : bytes_eq outer.name inner.name ≡ true = rw (same_bytes inner.name name i) o in
     cc
-part_names true false name before own after inner outer i o apart no_inner no_outer one_at_most =
-    let none : total (has_name name) (before ++ own ∷ after) ≡ 0 = rw (same_bytes inner.name name i) at no_inner in
+part_names true false name before stage_loop after inner outer i o apart no_inner no_outer one_at_most =
+    let none : total (has_name name) (before ++ stage_loop ∷ after) ≡ 0 = rw (same_bytes inner.name name i) at no_inner
+    in
     let hi : has_name name inner ≡ 1 = rw i refl in
     let ho : has_name name outer ≡ 0 = rw o refl in
-    omega (arith, none, total-append (has_name name) before (own ∷ after), total-append (has_name name) before (inner ∷ outer ∷ after), hi, ho)
-part_names false true name before own after inner outer i o apart no_inner no_outer one_at_most =
-    let none : total (has_name name) (before ++ own ∷ after) ≡ 0 = rw (same_bytes outer.name name o) at no_outer in
+    omega (arith, none, total-append (has_name name) before (stage_loop ∷ after), total-append (has_name name) before (inner ∷ outer ∷ after), hi, ho)
+part_names false true name before stage_loop after inner outer i o apart no_inner no_outer one_at_most =
+    let none : total (has_name name) (before ++ stage_loop ∷ after) ≡ 0 = rw (same_bytes outer.name name o) at no_outer
+    in
     let hi : has_name name inner ≡ 0 = rw i refl in
     let ho : has_name name outer ≡ 1 = rw o refl in
-    omega (arith, none, total-append (has_name name) before (own ∷ after), total-append (has_name name) before (inner ∷ outer ∷ after), hi, ho)
-part_names false false name before own after inner outer i o apart no_inner no_outer one_at_most =
+    omega (arith, none, total-append (has_name name) before (stage_loop ∷ after), total-append (has_name name) before (inner ∷ outer ∷ after), hi, ho)
+part_names false false name before stage_loop after inner outer i o apart no_inner no_outer one_at_most =
     let hi : has_name name inner ≡ 0 = rw i refl in
     let ho : has_name name outer ≡ 0 = rw o refl in
-    omega (arith, one_at_most, total-append (has_name name) before (own ∷ after), total-append (has_name name) before (inner ∷ outer ∷ after), hi, ho)
+    omega (arith, one_at_most, total-append (has_name name) before (stage_loop ∷ after), total-append (has_name name) before (inner ∷ outer ∷ after), hi, ho)
 
 abbrev limit_test : Stage → SplitLine → Bool
 limit_test stage line = nat_lt line.factor 1 || nat_lt 64 line.factor || nat_le 5 (length stage.loops)
@@ -122,12 +127,12 @@ at_shift is_update line = cond (shift_test is_update line) (Some fault.ShiftOnUp
 abbrev at_limit : Bool → Stage → SplitLine → Option ScheduleFault
 at_limit is_update stage line = cond (limit_test stage line) (Some fault.Limit) (at_shift is_update line)
 
-split_keeps : (is_update : Bool) (start : List Loop) (stage : Stage) (own : Loop) (line : SplitLine) → find line.of stage.loops ≡ Some own
+split_keeps : (is_update : Bool) (start : List Loop) (stage : Stage) (stage_loop : Loop) (line : SplitLine) → find line.of stage.loops ≡ Some stage_loop
     → split_fault is_update stage line ≡ None
-    → IsStage is_update start stage → IsStage is_update start (split_loop stage own line)
-split_keeps is_update start stage own line e right is =
-    let place = between line.of stage.loops own e in
-    let new_loops = parts own (length stage.splits) line in
+    → IsStage is_update start stage → IsStage is_update start (split_loop stage stage_loop line)
+split_keeps is_update start stage stage_loop line e right is =
+    let place = between line.of stage.loops stage_loop e in
+    let new_loops = parts stage_loop (length stage.splits) line in
     let names_free = faultless (name_test stage line) fault.NameInUse (at_limit is_update stage line) right in
     let limits = faultless (limit_test stage line) fault.Limit (at_shift is_update line) names_free.1 in
     let shifts = faultless (shift_test is_update line) fault.ShiftOnUpdate None limits.1 in
@@ -135,33 +140,34 @@ split_keeps is_update start stage own line e right is =
     let each_known = or_parts (is_known line.outer stage.loops) (is_known line.inner stage.loops) known.0 in
     let counts = or_parts (nat_lt line.factor 1 || nat_lt 64 line.factor) (nat_le 5 (length stage.loops)) limits.0 in
     let factors = or_parts (nat_lt line.factor 1) (nat_lt 64 line.factor) counts.0 in
-    let loops_are : (split_loop stage own line).loops ≡ place.before ++ (new_loops ++ place.after) = place.replaced_are new_loops in
-    let old_total : (value : Loop → ℕ) → total value stage.loops ≡ total value (place.before ++ own ∷ place.after) = λ value. ap (total value) place.loops_are
+    let loops_are : (split_loop stage stage_loop line).loops ≡ place.before ++ (new_loops ++ place.after) = place.replaced_are new_loops in
+    let old_total : (value : Loop → ℕ) → total value stage.loops ≡ total value (place.before ++ stage_loop ∷ place.after) = λ value. ap (total value) place.loops_are
     in
-    let new_total : (value : Loop → ℕ) → total value (split_loop stage own line).loops ≡ total value (place.before ++ (new_loops ++ place.after)) =
+    let new_total : (value : Loop → ℕ) → total value (split_loop stage stage_loop line).loops ≡ total value (place.before ++ (new_loops ++ place.after)) =
     λ value. ap (total value) loops_are in
-    let no_inner : total (has_name line.inner) (place.before ++ own ∷ place.after) ≡ 0 = sym (old_total (has_name line.inner))
+    let no_inner : total (has_name line.inner) (place.before ++ stage_loop ∷ place.after) ≡ 0 = sym (old_total (has_name line.inner))
     ∙ unknown line.inner stage.loops each_known.1 in
-    let no_outer : total (has_name line.outer) (place.before ++ own ∷ place.after) ≡ 0 = sym (old_total (has_name line.outer))
+    let no_outer : total (has_name line.outer) (place.before ++ stage_loop ∷ place.after) ≡ 0 = sym (old_total (has_name line.outer))
     ∙ unknown line.outer stage.loops each_known.0 in
-    let counted : total one (place.before ++ (new_loops ++ place.after)) ≡ suc (total one (place.before ++ own ∷ place.after)) =
-    omega (arith, total-append one place.before (new_loops ++ place.after), total-append one place.before (own ∷ place.after)) in
+    let counted : total one (place.before ++ (new_loops ++ place.after)) ≡ suc (total one (place.before ++ stage_loop ∷ place.after)) =
+    omega (arith, total-append one place.before (new_loops ++ place.after), total-append one place.before (stage_loop ∷ place.after)) in
     let below : length stage.loops < 5 = leb-false 5 (length stage.loops) counts.1 in
     record {
-      made = subst (λ (ls : List Loop). IsMade is_update start ls (split_loop stage own line).splits) (sym loops_are)
-          (Parted place.before own place.after stage.splits line (subst (λ (ls : List Loop). IsMade is_update start ls stage.splits) place.loops_are is.made)
+      made = subst (λ (ls : List Loop). IsMade is_update start ls (split_loop stage stage_loop line).splits)
+          (sym loops_are)
+          (Parted place.before stage_loop place.after stage.splits line (subst (λ (ls : List Loop). IsMade is_update start ls stage.splits) place.loops_are is.made)
           (record { some = ltb-false line.factor 1 factors.0; few = ltb-false 64 line.factor factors.1; unshifted = shifts.0 }));
       names = λ n.
-          let old : total (has_name n) (place.before ++ own ∷ place.after) ≤ 1 = subst (λ (k : ℕ). k ≤ 1) (old_total (has_name n)) (is.names n) in
+          let old : total (has_name n) (place.before ++ stage_loop ∷ place.after) ≤ 1 = subst (λ (k : ℕ). k ≤ 1) (old_total (has_name n)) (is.names n) in
           subst (λ (k : ℕ). k ≤ 1) (sym (new_total (has_name n)))
-          (part_names (bytes_eq line.inner n) (bytes_eq line.outer n) n place.before own place.after _ _ refl refl known.1 no_inner no_outer old);
-      few = omega (arith, new_total one, old_total one, counted, total-ones (split_loop stage own line).loops, total-ones stage.loops, below);
+          (part_names (bytes_eq line.inner n) (bytes_eq line.outer n) n place.before stage_loop place.after _ _ refl refl known.1 no_inner no_outer old);
+      few = omega (arith, new_total one, old_total one, counted, total-ones (split_loop stage stage_loop line).loops, total-ones stage.loops, below);
       unrolled = omega (
         arith,
         new_total is_stray,
         old_total is_stray,
         total-append is_stray place.before (new_loops ++ place.after),
-        total-append is_stray place.before (own ∷ place.after),
+        total-append is_stray place.before (stage_loop ∷ place.after),
         is.unrolled,
       );
     }
@@ -181,7 +187,7 @@ same_id-true (ids.Outer a) (ids.Outer b) e = ap (λ (k : ℕ). ids.Outer k) (eqb
 same_id-true (ids.Inner a) (ids.Inner b) e = ap (λ (k : ℕ). ids.Inner k) (eqb-true a b e)
 same_id-true _ _ e = cc
 
-same_ids-true : (own others : List LoopId) → same_ids own others ≡ true → own ≡ others
+same_ids-true : (ids others : List LoopId) → same_ids ids others ≡ true → ids ≡ others
 same_ids-true [] [] e = refl
 same_ids-true [] (second ∷ rest) e = cc
 same_ids-true (first ∷ behind) [] e = cc
@@ -226,43 +232,44 @@ reorder_keeps is_update start stage names new e is =
 abbrev Keeps : Bool → List Loop → Stage → Result Stage ScheduleFault → Type 0
 Keeps is_update start stage given = (new : Stage) → given ≡ Ok new → IsStage is_update start stage → IsStage is_update start new
 
-split_by : (faulty : Option ScheduleFault) (is_update : Bool) (start : List Loop) (stage : Stage) (own : Loop) (line : SplitLine)
-    → find line.of stage.loops ≡ Some own → split_fault is_update stage line ≡ faulty
-    → Keeps is_update start stage (settled_split stage own line faulty)
-split_by (Some wrong) is_update start stage own line found faulty new e is = cc
-split_by None is_update start stage own line found faulty new e is =
-    let new_is : split_loop stage own line ≡ new = cc in
-    subst (λ (s : Stage). IsStage is_update start s) new_is (split_keeps is_update start stage own line found faulty is)
+split_by : (faulty : Option ScheduleFault) (is_update : Bool) (start : List Loop) (stage : Stage) (stage_loop : Loop) (line : SplitLine)
+    → find line.of stage.loops ≡ Some stage_loop → split_fault is_update stage line ≡ faulty
+    → Keeps is_update start stage (settled_split stage stage_loop line faulty)
+split_by (Some wrong) is_update start stage stage_loop line found faulty new e is = cc
+split_by None is_update start stage stage_loop line found faulty new e is =
+    let new_is : split_loop stage stage_loop line ≡ new = cc in
+    subst (λ (s : Stage). IsStage is_update start s) new_is (split_keeps is_update start stage stage_loop line found
+    faulty is)
 
-split_open : (has_mark : Bool) (is_update : Bool) (start : List Loop) (stage : Stage) (own : Loop) (line : SplitLine) → find line.of stage.loops ≡ Some own
-    → Keeps is_update start stage (split_of is_update stage line (cond has_mark None (Some own)))
-split_open true is_update start stage own line found new e is = cc
-split_open false is_update start stage own line found new e is = split_by (split_fault is_update stage line) is_update start stage own line found refl new e is
+split_open : (has_mark : Bool) (is_update : Bool) (start : List Loop) (stage : Stage) (stage_loop : Loop) (line : SplitLine) → find line.of stage.loops ≡ Some stage_loop
+    → Keeps is_update start stage (split_of is_update stage line (cond has_mark None (Some stage_loop)))
+split_open true is_update start stage stage_loop line found new e is = cc
+split_open false is_update start stage stage_loop line found new e is = split_by (split_fault is_update stage line) is_update start stage stage_loop line found refl new e is
 
-split_found : (found : Option Loop) (is_update : Bool) (start : List Loop) (stage : Stage) (line : SplitLine) → find line.of stage.loops ≡ found
-    → Keeps is_update start stage (split_of is_update stage line (open_of found))
-split_found None is_update start stage line found new e is = cc
-split_found (Some own) is_update start stage line found new e is = split_open (is_some own.marked) is_update start stage own line found new e is
+split_found : (stage_loop : Option Loop) (is_update : Bool) (start : List Loop) (stage : Stage) (line : SplitLine) → find line.of stage.loops ≡ stage_loop
+    → Keeps is_update start stage (split_of is_update stage line (open_of stage_loop))
+split_found None is_update start stage line stage_loop new e is = cc
+split_found (Some own) is_update start stage line stage_loop new e is = split_open (is_some own.marked) is_update start stage own line stage_loop new e is
 
-mark_by : (bad : Bool) (is_update : Bool) (start : List Loop) (stage : Stage) (own : Loop) (name : List ℕ) (marked : Marked) → find name stage.loops ≡ Some own
-    → is_bad_unroll marked.mark own ≡ bad
-    → Keeps is_update start stage (cond bad (Err fault.UnrolledLoop) (Ok (mark_loop stage own name marked)))
-mark_by true is_update start stage own name marked found bad new e is = cc
-mark_by false is_update start stage own name marked found right new e is =
-    let new_is : mark_loop stage own name marked ≡ new = cc in
-    subst (λ (s : Stage). IsStage is_update start s) new_is (marked_keeps is_update start stage own name marked found right is)
+mark_by : (bad : Bool) (is_update : Bool) (start : List Loop) (stage : Stage) (stage_loop : Loop) (name : List ℕ) (marked : Marked) → find name stage.loops ≡ Some stage_loop
+    → is_bad_unroll marked.mark stage_loop ≡ bad
+    → Keeps is_update start stage (cond bad (Err fault.UnrolledLoop) (Ok (mark_loop stage stage_loop name marked)))
+mark_by true is_update start stage stage_loop name marked found bad new e is = cc
+mark_by false is_update start stage stage_loop name marked found right new e is =
+    let new_is : mark_loop stage stage_loop name marked ≡ new = cc in
+    subst (λ (s : Stage). IsStage is_update start s) new_is (marked_keeps is_update start stage stage_loop name marked found right is)
 
-mark_open : (has_mark : Bool) (is_update : Bool) (start : List Loop) (stage : Stage) (own : Loop) (name : List ℕ) (marked : Marked)
-    → find name stage.loops ≡ Some own
-    → Keeps is_update start stage (mark_of stage name marked (cond has_mark None (Some own)))
-mark_open true is_update start stage own name marked found new e is = cc
-mark_open false is_update start stage own name marked found new e is = mark_by (is_bad_unroll marked.mark own) is_update start stage own name marked found refl
+mark_open : (has_mark : Bool) (is_update : Bool) (start : List Loop) (stage : Stage) (stage_loop : Loop) (name : List ℕ) (marked : Marked)
+    → find name stage.loops ≡ Some stage_loop
+    → Keeps is_update start stage (mark_of stage name marked (cond has_mark None (Some stage_loop)))
+mark_open true is_update start stage stage_loop name marked found new e is = cc
+mark_open false is_update start stage stage_loop name marked found new e is = mark_by (is_bad_unroll marked.mark stage_loop) is_update start stage stage_loop name marked found refl
     new e is
 
-mark_found : (found : Option Loop) (is_update : Bool) (start : List Loop) (stage : Stage) (name : List ℕ) (marked : Marked) → find name stage.loops ≡ found
-    → Keeps is_update start stage (mark_of stage name marked (open_of found))
-mark_found None is_update start stage name marked found new e is = cc
-mark_found (Some own) is_update start stage name marked found new e is = mark_open (is_some own.marked) is_update start stage own name marked found new e is
+mark_found : (stage_loop : Option Loop) (is_update : Bool) (start : List Loop) (stage : Stage) (name : List ℕ) (marked : Marked) → find name stage.loops ≡ stage_loop
+    → Keeps is_update start stage (mark_of stage name marked (open_of stage_loop))
+mark_found None is_update start stage name marked stage_loop new e is = cc
+mark_found (Some own) is_update start stage name marked stage_loop new e is = mark_open (is_some own.marked) is_update start stage own name marked stage_loop new e is
 
 pub directed_keeps : (is_update : Bool) (start : List Loop) (stage : Stage) (line : ℕ) (directive : LoopDirective)
     → Keeps is_update start stage (directed is_update stage line directive)

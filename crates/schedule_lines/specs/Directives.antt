@@ -34,7 +34,7 @@ has_mark mark None = false
 has_mark mark (Some own) = same_mark own.mark mark
 
 abbrev pub is_marked : Mark → Loop → Bool
-is_marked mark own = has_mark mark own.marked
+is_marked mark stage_loop = has_mark mark stage_loop.marked
 
 abbrev pub same_id : LoopId → LoopId → Bool
 same_id (ids.Whole a) (ids.Whole b) = same_variable a b
@@ -74,7 +74,7 @@ open_of (Some own) = if is_some own.marked then None else Some own
 
 -- A marked loop is unknown to a split and to a second mark.
 abbrev pub find_open : List ℕ → List Loop → Option Loop
-find_open name own = open_of (find name own)
+find_open name stage_loops = open_of (find name stage_loops)
 
 -- ---- a loop is split
 
@@ -93,21 +93,21 @@ split_fault is_update stage line =
 
 -- the inner loop and, just outside it, the outer one, of the split at this place of its stage
 abbrev pub parts : Loop → ℕ → SplitLine → List Loop
-parts own place line =
-    let shifted = own.is_from_shift || is_shift line.tail in
-    record { id = ids.Inner place; name = line.inner; variable = own.variable; inner_of = Some line.factor; is_from_shift = shifted; marked = None }
-    ∷ record { id = ids.Outer place; name = line.outer; variable = own.variable; inner_of = None; is_from_shift = shifted; marked = None }
+parts stage_loop place line =
+    let shifted = stage_loop.is_from_shift || is_shift line.tail in
+    record { id = ids.Inner place; name = line.inner; variable = stage_loop.variable; inner_of = Some line.factor; is_from_shift = shifted; marked = None }
+    ∷ record { id = ids.Outer place; name = line.outer; variable = stage_loop.variable; inner_of = None; is_from_shift = shifted; marked = None }
     ∷ []
 
 abbrev pub split_loop : Stage → Loop → SplitLine → Stage
-split_loop stage own line = record {
-  loops = replaced line.of (parts own (length stage.splits) line) stage.loops;
-  splits = stage.splits ++ record { of = own.id; factor = line.factor; tail = line.tail } ∷ [];
+split_loop stage stage_loop line = record {
+  loops = replaced line.of (parts stage_loop (length stage.splits) line) stage.loops;
+  splits = stage.splits ++ record { of = stage_loop.id; factor = line.factor; tail = line.tail } ∷ [];
 }
 
 abbrev pub settled_split : Stage → Loop → SplitLine → Option ScheduleFault → Result Stage ScheduleFault
-settled_split stage own line None = Ok (split_loop stage own line)
-settled_split stage own line (Some wrong) = Err wrong
+settled_split stage stage_loop line None = Ok (split_loop stage stage_loop line)
+settled_split stage stage_loop line (Some wrong) = Err wrong
 
 abbrev pub split_of : Bool → Stage → SplitLine → Option Loop → Result Stage ScheduleFault
 split_of is_update stage line None = Err fault.UnknownLoop
@@ -119,8 +119,8 @@ split is_update stage line = split_of is_update stage line (find_open line.of st
 -- ---- loops change places
 
 abbrev pub are_known : List Loop → List (List ℕ) → Bool
-are_known own [] = true
-are_known own (first ∷ others) = is_known first own && are_known own others
+are_known stage_loops [] = true
+are_known stage_loops (first ∷ others) = is_known first stage_loops && are_known stage_loops others
 
 abbrev pub is_among : List ℕ → List (List ℕ) → Bool
 is_among name [] = false
@@ -140,20 +140,20 @@ or_else other None = other
 or_else other (Some own) = own
 
 abbrev pub find_or : List ℕ → List Loop → Loop → Loop
-find_or name own other = or_else other (find name own)
+find_or name stage_loops other = or_else other (find name stage_loops)
 
 -- In the places of the loops that are named stand those with the names that are left, in the order of the names.
 -- The others keep their places.
 abbrev pub reordered_from : List Loop → List (List ℕ) → List (List ℕ) → List Loop → List Loop
-reordered_from own names left [] = []
-reordered_from own names [] (first ∷ others) = first ∷ reordered_from own names [] others
-reordered_from own names (name ∷ behind) (first ∷ others) =
+reordered_from stage_loops names left [] = []
+reordered_from stage_loops names [] (first ∷ others) = first ∷ reordered_from stage_loops names [] others
+reordered_from stage_loops names (name ∷ behind) (first ∷ others) =
     if is_among first.name names
-    then find_or name own first ∷ reordered_from own names behind others
-    else first ∷ reordered_from own names (name ∷ behind) others
+    then find_or name stage_loops first ∷ reordered_from stage_loops names behind others
+    else first ∷ reordered_from stage_loops names (name ∷ behind) others
 
 abbrev pub reordered : List Loop → List (List ℕ) → List Loop
-reordered own names = reordered_from own names names own
+reordered stage_loops names = reordered_from stage_loops names names stage_loops
 
 -- which loops are over reduction variables, innermost first
 abbrev pub reductions : List Loop → List LoopId
@@ -176,22 +176,22 @@ reorder stage names =
 -- ---- a loop is marked
 
 abbrev pub with_mark : Loop → Marked → Loop
-with_mark own marked = record {
-  id = own.id;
-  name = own.name;
-  variable = own.variable;
-  inner_of = own.inner_of;
-  is_from_shift = own.is_from_shift;
+with_mark stage_loop marked = record {
+  id = stage_loop.id;
+  name = stage_loop.name;
+  variable = stage_loop.variable;
+  inner_of = stage_loop.inner_of;
+  is_from_shift = stage_loop.is_from_shift;
   marked =
       Some marked;
 }
 
 abbrev pub mark_loop : Stage → Loop → List ℕ → Marked → Stage
-mark_loop stage own name marked = record { loops = replaced name (with_mark own marked ∷ []) stage.loops; splits = stage.splits }
+mark_loop stage stage_loop name marked = record { loops = replaced name (with_mark stage_loop marked ∷ []) stage.loops; splits = stage.splits }
 
 -- What is unrolled is the inner loop of a split.
 abbrev pub is_bad_unroll : Mark → Loop → Bool
-is_bad_unroll mark own = same_mark mark marks.Unrolled && not (is_some own.inner_of)
+is_bad_unroll mark stage_loop = same_mark mark marks.Unrolled && not (is_some stage_loop.inner_of)
 
 abbrev pub mark_of : Stage → List ℕ → Marked → Option Loop → Result Stage ScheduleFault
 mark_of stage name marked None = Err fault.UnknownLoop

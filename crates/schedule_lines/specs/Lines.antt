@@ -45,7 +45,7 @@ abbrev pub is_suffix : List ℕ → Bool
 is_suffix [] = false
 is_suffix (first ∷ rest) = prefix_len continues_name (first ∷ rest) == length (first ∷ rest)
 
--- what stands after a stage's name: nothing, or a dot and a suffix
+-- what is after a stage's name: nothing, or a dot and a suffix
 abbrev pub update_of : List ℕ → Result (Option (List ℕ)) ScheduleFault
 update_of [] = Ok None
 update_of (byte ∷ suffix) = if byte == 46 && is_suffix suffix then Ok (Some suffix) else Err Syntax
@@ -110,12 +110,13 @@ directive verb words =
 
 -- A Func is computed as a whole, so its compute line has no dot.
 abbrev pub joined_as : Subject → Directive → Option (List ℕ) → Result ScheduleLine ScheduleFault
-joined_as own (directives.OfPlace computed) (Some suffix) = Err Syntax
-joined_as own (directives.OfPlace computed) None = Ok (lines.Directive own (directives.OfPlace computed))
-joined_as own (directives.OfLoops d) update = Ok (lines.Directive own (directives.OfLoops d))
+joined_as own_subject (directives.OfPlace computed) (Some suffix) = Err Syntax
+joined_as own_subject (directives.OfPlace computed) None = Ok
+    (lines.Directive own_subject (directives.OfPlace computed))
+joined_as own_subject (directives.OfLoops d) update = Ok (lines.Directive own_subject (directives.OfLoops d))
 
 abbrev pub joined : Subject → Directive → Result ScheduleLine ScheduleFault
-joined own d = joined_as own d own.update
+joined own_subject d = joined_as own_subject d own_subject.update
 
 -- what the words of a line say
 unfoldable pub line_of : List (List ℕ) → Result ScheduleLine ScheduleFault
@@ -123,7 +124,7 @@ line_of [] = Ok lines.Blank
 line_of (front ∷ []) = Err Syntax
 line_of (front ∷ verb ∷ others) = subject front >>= λ s. directive verb others >>= λ d. joined s d
 
--- ---- The words of a line: what stands between spaces, up to a comment.
+-- ---- The words of a line: what is between spaces, up to a comment.
 
 -- a byte in front of a comment, which `#` opens
 abbrev pub is_in_text : ℕ → Bool

@@ -17,11 +17,11 @@ total value (first ∷ others) = value first + total value others
 
 -- 1 for a loop with this name
 abbrev pub has_name : List ℕ → Loop → ℕ
-has_name name own = if bytes_eq own.name name then 1 else 0
+has_name name stage_loop = if bytes_eq stage_loop.name name then 1 else 0
 
 -- 1 for an unrolled loop that is the inner one of no split
 abbrev pub is_stray : Loop → ℕ
-is_stray own = if is_marked marks.Unrolled own && not (is_some own.inner_of) then 1 else 0
+is_stray stage_loop = if is_marked marks.Unrolled stage_loop && not (is_some stage_loop.inner_of) then 1 else 0
 
 -- No two loops have one name.
 abbrev pub Differ : List Loop → Type 0
@@ -29,7 +29,7 @@ Differ loops = (name : List ℕ) → total (has_name name) loops ≤ 1
 
 -- a loop without its name and its mark
 abbrev pub bare : Loop → Loop
-bare own = record { id = own.id; name = []; variable = own.variable; inner_of = own.inner_of; is_from_shift = own.is_from_shift; marked = None }
+bare stage_loop = record { id = stage_loop.id; name = []; variable = stage_loop.variable; inner_of = stage_loop.inner_of; is_from_shift = stage_loop.is_from_shift; marked = None }
 
 -- A factor is 1 to 64, and loops of an update aren't shifted.
 pub record IsSplit (is_update : Bool) (line : SplitLine) : Type 0 where
@@ -39,17 +39,17 @@ pub record IsSplit (is_update : Bool) (line : SplitLine) : Type 0 where
 
 -- Both have the same loops, in any order: whatever is added up over them is the same.
 abbrev pub SameLoops : List Loop → List Loop → Type 0
-SameLoops own others = (value : Loop → ℕ) → total value own ≡ total value others
+SameLoops stage_loops others = (value : Loop → ℕ) → total value stage_loops ≡ total value others
 
 -- Loops and splits that lines make of the first loops.
 pub data IsMade (is_update : Bool) (start : List Loop) : List Loop → List Split → Type 0 where
   -- no line yet
   Begun : IsMade is_update start start []
-  -- a loop is split: the inner loop stands in its place, the outer one just outside it
-  Parted : (before : List Loop) (own : Loop) (after : List Loop) (splits : List Split) (line : SplitLine)
-      → IsMade is_update start (before ++ own ∷ after) splits
+  -- a loop is split: the inner loop is in its place, the outer one just outside it
+  Parted : (before : List Loop) (stage_loop : Loop) (after : List Loop) (splits : List Split) (line : SplitLine)
+      → IsMade is_update start (before ++ stage_loop ∷ after) splits
       → IsSplit is_update line
-      → IsMade is_update start (before ++ (parts own (length splits) line ++ after)) (splits ++ record { of = own.id; factor = line.factor; tail = line.tail }
+      → IsMade is_update start (before ++ (parts stage_loop (length splits) line ++ after)) (splits ++ record { of = stage_loop.id; factor = line.factor; tail = line.tail }
       ∷ [])
   -- names and marks change
   Marked : (loops new : List Loop) (splits : List Split)

@@ -20,28 +20,32 @@ fn copied_name(alloc: Global, name: &Items<u8>) -> Result<Items<u8>, AllocError>
     Items::from_slice(alloc, name.as_slice())
 }
 
-fn copied(alloc: Global, own: &Loop) -> Result<Loop, AllocError>
-    ensures { IfOk result (λ copy. copy ≡ own.now) }
+fn copied(alloc: Global, stage_loop: &Loop) -> Result<Loop, AllocError>
+    ensures { IfOk result (λ copy. copy ≡ stage_loop.now) }
 {
     Ok(Loop {
-        id: own.id,
-        name: copied_name(alloc, &own.name)?,
-        variable: own.variable,
-        inner_of: own.inner_of,
-        is_from_shift: own.is_from_shift,
-        marked: own.marked,
+        id: stage_loop.id,
+        name: copied_name(alloc, &stage_loop.name)?,
+        variable: stage_loop.variable,
+        inner_of: stage_loop.inner_of,
+        is_from_shift: stage_loop.is_from_shift,
+        marked: stage_loop.marked,
     })
 }
 
 /// Appends copies.
-fn add_copies(alloc: Global, found: &mut Items<Loop>, loops: &[Loop]) -> Result<(), AllocError>
-    ensures { OnOk result (found.new ≡ found.old ++ loops.now) }
+fn add_copies(
+    alloc: Global,
+    stage_loops: &mut Items<Loop>,
+    loops: &[Loop],
+) -> Result<(), AllocError>
+    ensures { OnOk result (stage_loops.new ≡ stage_loops.old ++ loops.now) }
 {
     match loops {
         [] => Ok(()),
         [first, others @ ..] => {
-            found.push(copied(alloc, first)?)?;
-            add_copies(alloc, found, others)?;
+            stage_loops.push(copied(alloc, first)?)?;
+            add_copies(alloc, stage_loops, others)?;
             Ok(())
         }
     }
@@ -50,12 +54,12 @@ fn add_copies(alloc: Global, found: &mut Items<Loop>, loops: &[Loop]) -> Result<
 /// Appends copies, and others in the place of the loop with a name.
 fn add_replaced(
     alloc: Global,
-    found: &mut Items<Loop>,
+    stage_loops: &mut Items<Loop>,
     name: &[u8],
     new: Items<Loop>,
     loops: &[Loop],
 ) -> Result<(), AllocError>
-    ensures { OnOk result (found.new ≡ found.old ++ spec.replaced name.now new loops.now) }
+    ensures { OnOk result (stage_loops.new ≡ stage_loops.old ++ spec.replaced name.now new loops.now) }
 {
     match loops {
         [] => {
@@ -64,12 +68,12 @@ fn add_replaced(
         }
         [first, others @ ..] => {
             if first.name.as_slice() == name {
-                found.append(new)?;
-                add_copies(alloc, found, others)?;
+                stage_loops.append(new)?;
+                add_copies(alloc, stage_loops, others)?;
                 Ok(())
             } else {
-                found.push(copied(alloc, first)?)?;
-                add_replaced(alloc, found, name, new, others)?;
+                stage_loops.push(copied(alloc, first)?)?;
+                add_replaced(alloc, stage_loops, name, new, others)?;
                 Ok(())
             }
         }
@@ -83,11 +87,11 @@ fn replaced(
     new: Items<Loop>,
     loops: &[Loop],
 ) -> Result<Items<Loop>, AllocError>
-    ensures { IfOk result (λ found. found ≡ spec.replaced name.now new loops.now) }
+    ensures { IfOk result (λ stage_loops. stage_loops ≡ spec.replaced name.now new loops.now) }
 {
-    let mut found = Items::new(alloc);
-    add_replaced(alloc, &mut found, name, new, loops)?;
-    Ok(found)
+    let mut stage_loops = Items::new(alloc);
+    add_replaced(alloc, &mut stage_loops, name, new, loops)?;
+    Ok(stage_loops)
 }
 
 /// The loop with a name, where it has no mark.
@@ -134,18 +138,18 @@ fn split_fault(is_update: bool, stage: &Stage, line: &SplitLine) -> Option<Sched
 /// The two loops that a split gives, the inner one first. The split has this place in its stage.
 fn parts(
     alloc: Global,
-    own: &Loop,
+    stage_loop: &Loop,
     place: usize,
     line: &SplitLine,
 ) -> Result<Items<Loop>, AllocError>
-    ensures { IfOk result (λ loops. loops ≡ spec.parts own.now place line.now) }
+    ensures { IfOk result (λ loops. loops ≡ spec.parts stage_loop.now place line.now) }
 {
-    let is_from_shift = own.is_from_shift || is_shift(line.tail);
+    let is_from_shift = stage_loop.is_from_shift || is_shift(line.tail);
     let mut loops = Items::new(alloc);
     loops.push(Loop {
         id: LoopId::Inner(place),
         name: copied_name(alloc, &line.inner)?,
-        variable: own.variable,
+        variable: stage_loop.variable,
         inner_of: Some(line.factor),
         is_from_shift,
         marked: None,
@@ -153,7 +157,7 @@ fn parts(
     loops.push(Loop {
         id: LoopId::Outer(place),
         name: copied_name(alloc, &line.outer)?,
-        variable: own.variable,
+        variable: stage_loop.variable,
         inner_of: None,
         is_from_shift,
         marked: None,
@@ -165,15 +169,15 @@ fn parts(
 fn split_loop(
     alloc: Global,
     stage: &Stage,
-    own: &Loop,
+    stage_loop: &Loop,
     line: &SplitLine,
 ) -> Result<Stage, AllocError>
-    ensures { IfOk result (λ new. new ≡ spec.split_loop stage.now own.now line.now) }
+    ensures { IfOk result (λ new. new ≡ spec.split_loop stage.now stage_loop.now line.now) }
 {
-    let parts = parts(alloc, own, stage.splits.len(), line)?;
+    let parts = parts(alloc, stage_loop, stage.splits.len(), line)?;
     let mut splits = Items::from_slice(alloc, stage.splits.as_slice())?;
     splits.push(Split {
-        of: own.id,
+        of: stage_loop.id,
         factor: line.factor,
         tail: line.tail,
     })?;
@@ -269,25 +273,26 @@ fn find_or<'a>(loops: &'a [Loop], name: &[u8], other: &'a Loop) -> &'a Loop
 /// of the names that are left.
 fn add_reordered(
     alloc: Global,
-    found: &mut Items<Loop>,
+    stage_loops: &mut Items<Loop>,
     stage: &Stage,
     names: &[Items<u8>],
     left: &[Items<u8>],
     loops: &[Loop],
 ) -> Result<(), AllocError>
-    ensures { OnOk result (found.new ≡ found.old ++ spec.reordered_from stage.now.loops names.now left.now loops.now) }
+    ensures { OnOk result (stage_loops.new ≡ stage_loops.old ++ spec.reordered_from stage.now.loops names.now left.now
+        loops.now) }
 {
     match (loops, left) {
         ([], _) => Ok(()),
         ([first, others @ ..], [name, behind @ ..]) if is_among(first.name.as_slice(), names) => {
             let own = find_or(stage.loops.as_slice(), name.as_slice(), first);
-            found.push(copied(alloc, own)?)?;
-            add_reordered(alloc, found, stage, names, behind, others)?;
+            stage_loops.push(copied(alloc, own)?)?;
+            add_reordered(alloc, stage_loops, stage, names, behind, others)?;
             Ok(())
         }
         ([first, others @ ..], _) => {
-            found.push(copied(alloc, first)?)?;
-            add_reordered(alloc, found, stage, names, left, others)?;
+            stage_loops.push(copied(alloc, first)?)?;
+            add_reordered(alloc, stage_loops, stage, names, left, others)?;
             Ok(())
         }
     }
@@ -297,16 +302,16 @@ fn add_reordered(
 fn reordered(alloc: Global, stage: &Stage, names: &[Items<u8>]) -> Result<Items<Loop>, AllocError>
     ensures { IfOk result (λ loops. loops ≡ spec.reordered stage.now.loops names.now) }
 {
-    let mut found = Items::new(alloc);
+    let mut stage_loops = Items::new(alloc);
     add_reordered(
         alloc,
-        &mut found,
+        &mut stage_loops,
         stage,
         names,
         names,
         stage.loops.as_slice(),
     )?;
-    Ok(found)
+    Ok(stage_loops)
 }
 
 /// Appends which loops are over reduction variables.
@@ -335,10 +340,10 @@ fn reductions(alloc: Global, loops: &[Loop]) -> Result<Items<LoopId>, AllocError
 }
 
 /// Whether two lists of identities are the same.
-fn same_ids(own: &[LoopId], other: &[LoopId]) -> bool
-    ensures { result ≡ spec.same_ids own.now other.now }
+fn same_ids(ids: &[LoopId], other: &[LoopId]) -> bool
+    ensures { result ≡ spec.same_ids ids.now other.now }
 {
-    match own {
+    match ids {
         [] => other.is_empty(),
         [first, behind @ ..] => match other {
             [] => false,
@@ -378,16 +383,16 @@ fn reorder(
 fn mark_loop(
     alloc: Global,
     stage: &Stage,
-    own: &Loop,
+    stage_loop: &Loop,
     name: &[u8],
     marked: Marked,
 ) -> Result<Stage, AllocError>
-    ensures { IfOk result (λ new. new ≡ spec.mark_loop stage.now own.now name.now marked) }
+    ensures { IfOk result (λ new. new ≡ spec.mark_loop stage.now stage_loop.now name.now marked) }
 {
     let mut new = Items::new(alloc);
     new.push(Loop {
         marked: Some(marked),
-        ..copied(alloc, own)?
+        ..copied(alloc, stage_loop)?
     })?;
     Ok(Stage {
         loops: replaced(alloc, name, new, stage.loops.as_slice())?,
@@ -396,10 +401,10 @@ fn mark_loop(
 }
 
 /// Whether a mark unrolls what is no inner loop of a split.
-fn is_bad_unroll(mark: Mark, own: &Loop) -> bool
-    ensures { result ≡ spec.is_bad_unroll mark own.now }
+fn is_bad_unroll(mark: Mark, stage_loop: &Loop) -> bool
+    ensures { result ≡ spec.is_bad_unroll mark stage_loop.now }
 {
-    same_mark(mark, Mark::Unrolled) && own.inner_of.is_none()
+    same_mark(mark, Mark::Unrolled) && stage_loop.inner_of.is_none()
 }
 
 /// The stage after a line that marks a loop.

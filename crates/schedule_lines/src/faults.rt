@@ -12,7 +12,7 @@ pub enum ScheduleFault {
     UnknownStage,
     /// A loop is not one of the stage's, or is marked where it is split or marked again.
     UnknownLoop,
-    /// A new loop's name is one of the stage's loops or stands twice in the line; or a Func has a second
+    /// A new loop's name is one of the stage's loops or occurs twice in the line; or a Func has a second
     /// compute line.
     NameInUse,
     /// A factor is not 1 to 64, or the stage would have a sixth loop.

@@ -12,7 +12,7 @@ use line_text::spans::{begins_name, digits_len, name_len};
 use sqlite_items::Items;
 use std::alloc::{AllocError, Global};
 
-/// The first word of a line: a name, and what stands after a dot.
+/// The first word of a line: a name, and what is after a dot.
 #[derive(Drop)]
 pub struct Subject {
     pub name: Items<u8>,
@@ -109,7 +109,7 @@ fn name_of(alloc: Global, word: &[u8]) -> Result<Items<u8>, ReadError<ScheduleFa
     }
 }
 
-/// What stands after a dot, after a name.
+/// What is after a dot, after a name.
 fn update_of(alloc: Global, rest: &[u8]) -> Result<Option<Items<u8>>, ReadError<ScheduleFault>>
     ensures { Gives (λ x. x) result (spec.update_of rest.now) }
 {
@@ -157,7 +157,7 @@ fn tail_of(word: &[u8]) -> Result<Tail, ReadError<ScheduleFault>>
     }
 }
 
-/// What stands after `split`.
+/// What is after `split`.
 #[tactic(auto, unfolding(crate::specs::Lines::split))]
 fn split_of(alloc: Global, words: &[Items<u8>]) -> Result<LoopDirective, ReadError<ScheduleFault>>
     ensures { Gives (λ x. x) result (spec.split words.now) }
@@ -205,7 +205,7 @@ fn copied(alloc: Global, words: &[Items<u8>]) -> Result<Items<Items<u8>>, AllocE
     Ok(copies)
 }
 
-/// What stands after `reorder`.
+/// What is after `reorder`.
 #[tactic(auto, unfolding(crate::specs::Lines::reorder))]
 fn reorder_of(alloc: Global, words: &[Items<u8>]) -> Result<LoopDirective, ReadError<ScheduleFault>>
     ensures { Gives (λ x. x) result (spec.reorder words.now) }
@@ -222,7 +222,7 @@ fn reorder_of(alloc: Global, words: &[Items<u8>]) -> Result<LoopDirective, ReadE
     }
 }
 
-/// What stands after the word of a mark.
+/// What is after the word of a mark.
 #[tactic(auto, unfolding(crate::specs::Lines::mark))]
 fn mark_of(
     alloc: Global,
@@ -237,7 +237,7 @@ fn mark_of(
     }
 }
 
-/// What stands after `compute_root`.
+/// What is after `compute_root`.
 fn compute_root(words: &[Items<u8>]) -> Result<Computed, ReadError<ScheduleFault>>
     ensures { Gives (λ x. x) result (spec.compute_root words.now) }
 {
@@ -247,7 +247,7 @@ fn compute_root(words: &[Items<u8>]) -> Result<Computed, ReadError<ScheduleFault
     }
 }
 
-/// What stands after `compute_at`.
+/// What is after `compute_at`.
 #[tactic(auto, unfolding(crate::specs::Lines::compute_at))]
 fn compute_at(alloc: Global, words: &[Items<u8>]) -> Result<Computed, ReadError<ScheduleFault>>
     ensures { Gives (λ x. x) result (spec.compute_at words.now) }

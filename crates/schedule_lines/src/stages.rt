@@ -68,7 +68,7 @@ pub enum Tail {
 
 /// A split of a loop of extent E: its value is `outer * factor + inner`, where the inner loop has `factor`
 /// iterations and the outer one E / factor, rounded up. Under `Tail::Shift` the least of `outer * factor` and
-/// E - factor stands in place of the product.
+/// E - factor takes the place of the product.
 #[derive(Clone, Copy, Debug, PartialEq, Eq)]
 pub struct Split {
     /// The loop that is split. Its own loops are `Outer` and `Inner` of the split's place.
@@ -86,7 +86,6 @@ pub struct Stage {
     pub splits: Items<Split>,
 }
 
-/// Written out, so that a check sees a call wherever one is dropped, and not the drops of its parts.
 impl Drop for Stage {
     fn drop(self) {
         let Stage { loops, splits } = self;
@@ -103,10 +102,10 @@ pub fn same_mark(a: Mark, b: Mark) -> bool
 }
 
 /// Whether a loop has this mark.
-pub fn is_marked(own: &Loop, mark: Mark) -> bool
-    ensures { result ≡ spec.is_marked mark own.now }
+pub fn is_marked(stage_loop: &Loop, mark: Mark) -> bool
+    ensures { result ≡ spec.is_marked mark stage_loop.now }
 {
-    match own.marked {
+    match stage_loop.marked {
         Some(marked) => same_mark(marked.mark, mark),
         None => false,
     }

@@ -42,7 +42,7 @@ fn behind_first(bytes: &[u8]) -> &[u8]
     }
 }
 
-/// What stands before the first space, perhaps nothing, and what follows it.
+/// What is before the first space, perhaps nothing, and what follows it.
 fn front_word(bytes: &[u8]) -> (&[u8], &[u8])
     ensures shorter { bytes.now ≢ [] → length result.1.now < length bytes.now }
     ensures words { spec.words_of bytes.now ≡ spec.word_of result.0.now ++ spec.words_of result.1.now }

@@ -28,15 +28,15 @@ each_at P [] (suc at) x all e = cc
 each_at P (a ∷ xs) zero x all e = subst P (some_is a x e) all.0
 each_at P (a ∷ xs) (suc at) x all e = each_at P xs at x all.1 e
 
-pub accepted : (func : Func) (plan : FuncPlan) (own : FuncPlacement) → IsPlan func plan → IsLegal plan own → own.is_reached ≡ true
+pub accepted : (func : Func) (plan : FuncPlan) (placement : FuncPlacement) → IsPlan func plan → IsLegal plan placement → placement.is_reached ≡ true
     → (IsStageOf func None plan.pure × KeepsRules plan.pure)
     × ((at : ℕ) (update : Update) (stage : Stage) → slice_get func.updates at ≡ Some update → slice_get plan.updates at ≡ Some stage
     → IsStageOf func (Some update) stage × KeepsRules stage)
-accepted func plan own planned legal reached =
-    let computed : IsComputed plan own = legal reached in (
-      (planned.pure, (is_root own.place, computed.pure)),
+accepted func plan placement planned legal reached =
+    let computed : IsComputed plan placement = legal reached in (
+      (planned.pure, (is_root placement.place, computed.pure)),
       λ at update stage eu es. (
         pair_at (IsUpdateStage func) func.updates plan.updates at update stage planned.updates eu es,
-        (is_root own.place, λ rule. each_at (Keeps rule (is_root own.place)) plan.updates at stage (computed.updates rule) es),
+        (is_root placement.place, λ rule. each_at (Keeps rule (is_root placement.place)) plan.updates at stage (computed.updates rule) es),
       ),
     )

@@ -49,31 +49,31 @@ contains_upto {A} x (suc n) k f l there = elim (cases_eq k n) [
 
 -- values that differ from others for loops of the nest alone
 abbrev pub OnlyIn : List Loop → Values → Values → Type 0
-OnlyIn loops found start = (id : LoopId) → total (has_id id) loops ≡ 0 → found id ≡ start id
+OnlyIn loops found_values start = (id : LoopId) → total (has_id id) loops ≡ 0 → found_values id ≡ start id
 
 -- A nest lists what its body lists under values that are iterations of its loops.
 pub nest_contains : {A : Type 0} (x : A) (counts : Values) (loops : List Loop) (body : Values → List A) → OnValues body → Unique loops
-    → (found start : Values) → InRange counts loops found → OnlyIn loops found start → Contains (body found) x → Contains (nest counts loops body start) x
-nest_contains x counts [] body on unique found start in_range only there = subst (λ xs. Contains xs x) (on found start (λ id. only id refl)) there
-nest_contains {A} x counts (own ∷ loops) body on unique found start in_range only there =
+    → (values start : Values) → InRange counts loops values → OnlyIn loops values start → Contains (body values) x → Contains (nest counts loops body start) x
+nest_contains x counts [] body on unique values start in_range only there = subst (λ xs. Contains xs x) (on values start (λ id. only id refl)) there
+nest_contains {A} x counts (own ∷ loops) body on unique values start in_range only there =
     let none : total (has_id own.id) loops ≡ 0 = omega (arith, unique own.id, has_same own) in
     nest_contains x counts loops (λ outer. upto (counts own.id) (λ iteration. body (with own.id iteration outer))) (on_values_more counts own.id body on)
     (λ id. omega (arith, unique id))
-    (with own.id (start own.id) found) start
+    (with own.id (start own.id) values) start
     (λ id l. elim (cases_id id own.id) [
       | inl e ↦ absurd (omega (arith, ap (λ (i : LoopId). total (has_id i) loops) e))
-      | inr d ↦ omega (arith, with_other own.id (start own.id) found id d, in_range id (omega (arith, l)))
+      | inr d ↦ omega (arith, with_other own.id (start own.id) values id d, in_range id (omega (arith, l)))
     ])
     (λ id z. elim (cases_id id own.id) [
-      | inl e ↦ subst (λ (i : LoopId). with own.id (start own.id) found i ≡ start i) (sym e) (with_same own.id (start own.id) found)
-      | inr d ↦ with_other own.id (start own.id) found id d ∙ only id (omega (arith, has_other id own (swapped_id id own.id d)))
+      | inl e ↦ subst (λ (i : LoopId). with own.id (start own.id) values i ≡ start i) (sym e) (with_same own.id (start own.id) values)
+      | inr d ↦ with_other own.id (start own.id) values id d ∙ only id (omega (arith, has_other id own (swapped_id id own.id d)))
     ])
-    (contains_upto x (counts own.id) (found own.id) (λ iteration. body (with own.id iteration (with own.id (start own.id) found)))
+    (contains_upto x (counts own.id) (values own.id) (λ iteration. body (with own.id iteration (with own.id (start own.id) values)))
     (in_range own.id (omega (arith, has_same own)))
-    (subst (λ (xs : List A). Contains xs x) (on found (with own.id (found own.id) (with own.id (start own.id) found)) (λ id. elim (cases_id id own.id) [
-      | inl e ↦ subst (λ (i : LoopId). found i ≡ with own.id (found own.id) (with own.id (start own.id) found) i) (sym e)
-          (sym (with_same own.id (found own.id) (with own.id (start own.id) found)))
-      | inr d ↦ sym (with_other own.id (found own.id) (with own.id (start own.id) found) id d ∙ with_other own.id (start own.id) found id d)
+    (subst (λ (xs : List A). Contains xs x) (on values (with own.id (values own.id) (with own.id (start own.id) values)) (λ id. elim (cases_id id own.id) [
+      | inl e ↦ subst (λ (i : LoopId). values i ≡ with own.id (values own.id) (with own.id (start own.id) values) i) (sym e)
+          (sym (with_same own.id (values own.id) (with own.id (start own.id) values)))
+      | inr d ↦ sym (with_other own.id (values own.id) (with own.id (start own.id) values) id d ∙ with_other own.id (start own.id) values id d)
     ])) there))
 
 -- ---- a value of the loop that is split is one of its parts
@@ -97,136 +97,142 @@ unfolding inner_iteration
 inner_sum tails.Guard factor extent value some l long = omega (arith, div-add-mod' value factor, mod-lt value some)
 inner_sum tails.Shift factor extent value some l long = omega (arith, div-add-mod' value factor, mod-lt value some)
 
-module _ {A : Type 0} (counts : Values) (body : Values → List A) (start : Values) (wanted : List A) (before : List Loop) (own : Loop) (after : List Loop)
+module _ {A : Type 0} (counts : Values) (body : Values → List A) (start : Values) (wanted : List A) (before : List Loop) (stage_loop : Loop) (after : List Loop)
     (splits : List Split) (line : SplitLine)
-    (is_update : Bool) (is : IsSplit is_update line) (sound : Sound (before ++ own ∷ after) splits) (long : IsLong line.tail line.factor (counts own.id))
+    (is_update : Bool) (is : IsSplit is_update line) (sound : Sound (before ++ stage_loop ∷ after) splits) (long : IsLong line.tail line.factor (counts stage_loop.id))
     (on_old : OnOld (length splits) body) where
   abbrev place : ℕ
   place = length splits
 
   abbrev split : Split
-  split = split_by own line
+  split = split_by stage_loop line
 
   abbrev new_counts : Values
-  new_counts = more_counts counts (length splits) (split_by own line)
+  new_counts = more_counts counts (length splits) (split_by stage_loop line)
 
   abbrev new_loops : List Loop
-  new_loops = before ++ (parts own (length splits) line ++ after)
+  new_loops = before ++ (parts stage_loop (length splits) line ++ after)
 
-  own_there : 1 ≤ total (has_id own.id) (before ++ own ∷ after)
-  own_there = omega (arith, total-append (has_id own.id) before (own ∷ after), has_same own)
+  own_there : 1 ≤ total (has_id stage_loop.id) (before ++ stage_loop ∷ after)
+  own_there = omega (arith, total-append (has_id stage_loop.id) before (stage_loop ∷ after), has_same stage_loop)
 
-  own_old : is_old (length splits) own.id ≡ true
-  own_old = sound.old own.id own_there
+  own_old : is_old (length splits) stage_loop.id ≡ true
+  own_old = sound.old stage_loop.id own_there
 
   -- values of the new loops under which the body lists the same
   abbrev pub moved : Values → Values
-  moved found = with own.id (start own.id) (with (ids.Inner (length splits)) (inner_iteration line.tail line.factor (counts own.id) (found own.id))
-      (with (ids.Outer (length splits)) (found own.id / line.factor) found))
+  moved found_values = with stage_loop.id (start stage_loop.id) (with (ids.Inner (length splits)) (inner_iteration line.tail line.factor (counts stage_loop.id) (found_values stage_loop.id))
+      (with (ids.Outer (length splits)) (found_values stage_loop.id / line.factor) found_values))
 
-  moved_outer : (found : Values) → moved found (ids.Outer (length splits)) ≡ found own.id / line.factor
-  moved_outer found =
-      with_other own.id (start own.id) (with (ids.Inner (length splits)) (inner_iteration line.tail line.factor (counts own.id) (found own.id))
-      (with (ids.Outer (length splits)) (found own.id / line.factor) found)) (ids.Outer (length splits)) (swapped_id own.id (ids.Outer (length splits))
-      (old_apart (length splits) own.id (ids.Outer (length splits)) own_old (outer_new (length splits))))
-      ∙ with_same (ids.Outer (length splits)) (found own.id / line.factor) found
+  moved_outer : (found_values : Values) → moved found_values (ids.Outer (length splits)) ≡ found_values stage_loop.id /
+      line.factor
+  moved_outer found_values =
+      with_other stage_loop.id (start stage_loop.id) (with (ids.Inner (length splits)) (inner_iteration line.tail line.factor (counts stage_loop.id) (found_values stage_loop.id))
+      (with (ids.Outer (length splits)) (found_values stage_loop.id / line.factor) found_values)) (ids.Outer (length splits)) (swapped_id stage_loop.id (ids.Outer (length splits))
+      (old_apart (length splits) stage_loop.id (ids.Outer (length splits)) own_old (outer_new (length splits))))
+      ∙ with_same (ids.Outer (length splits)) (found_values stage_loop.id / line.factor) found_values
 
-  moved_inner : (found : Values) → moved found (ids.Inner (length splits)) ≡ inner_iteration line.tail line.factor (counts own.id) (found own.id)
-  moved_inner found =
-      with_other own.id (start own.id) (with (ids.Inner (length splits)) (inner_iteration line.tail line.factor (counts own.id) (found own.id))
-      (with (ids.Outer (length splits)) (found own.id / line.factor) found)) (ids.Inner (length splits)) (swapped_id own.id (ids.Inner (length splits))
-      (old_apart (length splits) own.id (ids.Inner (length splits)) own_old (inner_new (length splits))))
-      ∙ with_same (ids.Inner (length splits)) (inner_iteration line.tail line.factor (counts own.id) (found own.id)) (with (ids.Outer (length splits))
-      (found own.id / line.factor) found)
+  moved_inner : (found_values : Values) → moved found_values (ids.Inner (length splits)) ≡ inner_iteration line.tail line.factor (counts stage_loop.id) (found_values stage_loop.id)
+  moved_inner found_values =
+      with_other stage_loop.id (start stage_loop.id) (with (ids.Inner (length splits)) (inner_iteration line.tail line.factor (counts stage_loop.id) (found_values stage_loop.id))
+      (with (ids.Outer (length splits)) (found_values stage_loop.id / line.factor) found_values)) (ids.Inner (length splits)) (swapped_id stage_loop.id (ids.Inner (length splits))
+      (old_apart (length splits) stage_loop.id (ids.Inner (length splits)) own_old (inner_new (length splits))))
+      ∙ with_same (ids.Inner (length splits)) (inner_iteration line.tail line.factor (counts stage_loop.id) (found_values stage_loop.id)) (with (ids.Outer (length splits))
+      (found_values stage_loop.id / line.factor) found_values)
 
-  moved_other : (found : Values) (id : LoopId) → same_id id own.id ≡ false → same_id (ids.Inner (length splits)) id ≡ false
-      → same_id (ids.Outer (length splits)) id ≡ false → moved found id ≡ found id
-  moved_other found id o d f =
-      with_other own.id (start own.id) (with (ids.Inner (length splits)) (inner_iteration line.tail line.factor (counts own.id) (found own.id))
-      (with (ids.Outer (length splits)) (found own.id / line.factor) found)) id o
-      ∙ with_other (ids.Inner (length splits)) (inner_iteration line.tail line.factor (counts own.id) (found own.id)) (with (ids.Outer (length splits))
-      (found own.id / line.factor) found) id (swapped_id (ids.Inner (length splits)) id d)
-      ∙ with_other (ids.Outer (length splits)) (found own.id / line.factor) found id (swapped_id (ids.Outer (length splits)) id f)
+  moved_other : (found_values : Values) (id : LoopId) → same_id id stage_loop.id ≡ false → same_id (ids.Inner (length splits)) id ≡ false
+      → same_id (ids.Outer (length splits)) id ≡ false → moved found_values id ≡ found_values id
+  moved_other found_values id o d f =
+      with_other stage_loop.id (start stage_loop.id) (with (ids.Inner (length splits)) (inner_iteration line.tail line.factor (counts stage_loop.id) (found_values stage_loop.id))
+      (with (ids.Outer (length splits)) (found_values stage_loop.id / line.factor) found_values)) id o
+      ∙ with_other (ids.Inner (length splits)) (inner_iteration line.tail line.factor (counts stage_loop.id) (found_values stage_loop.id)) (with (ids.Outer (length splits))
+      (found_values stage_loop.id / line.factor) found_values) id (swapped_id (ids.Inner (length splits)) id d)
+      ∙ with_other (ids.Outer (length splits)) (found_values stage_loop.id / line.factor) found_values id (swapped_id (ids.Outer (length splits)) id f)
 
   -- the split lists what the loop listed
-  pub split_lists : (found : Values) → found own.id < counts own.id → body found ≡ wanted
-      → split_body counts (length splits) (split_by own line) body (moved found) ≡ wanted
-  split_lists found l e =
-      let w : whole_of counts (length splits) (split_by own line) (moved found) ≡ found own.id =
-      ap (λ (n : ℕ). begin_of line.tail line.factor (counts own.id) n + moved found (ids.Inner (length splits))) (moved_outer found)
-      ∙ ap (λ (n : ℕ). begin_of line.tail line.factor (counts own.id) (found own.id / line.factor) + n) (moved_inner found)
-      ∙ inner_sum line.tail line.factor (counts own.id) (found own.id) is.some l long in
-      let same : body (with own.id (found own.id) (moved found)) ≡ body found = on_old (with own.id (found own.id) (moved found)) found
-      (λ id old. elim (cases_id id own.id) [
-        | inl s ↦ subst (λ (i : LoopId). with own.id (found own.id) (moved found) i ≡ found i) (sym s) (with_same own.id (found own.id) (moved found))
-        | inr o ↦ with_other own.id (found own.id) (moved found) id o
-            ∙ moved_other found id o (swapped_id id (ids.Inner (length splits)) (old_apart (length splits) id (ids.Inner (length splits)) old
+  pub split_lists : (found_values : Values) → found_values stage_loop.id < counts stage_loop.id
+      → body found_values ≡ wanted
+      → split_body counts (length splits) (split_by stage_loop line) body (moved found_values) ≡ wanted
+  split_lists found_values l e =
+      let w : whole_of counts (length splits) (split_by stage_loop line) (moved found_values) ≡ found_values
+      stage_loop.id =
+      ap (λ (n : ℕ). begin_of line.tail line.factor (counts stage_loop.id) n + moved found_values (ids.Inner (length splits))) (moved_outer found_values)
+      ∙ ap (λ (n : ℕ). begin_of line.tail line.factor (counts stage_loop.id) (found_values stage_loop.id / line.factor) + n) (moved_inner found_values)
+      ∙ inner_sum line.tail line.factor (counts stage_loop.id) (found_values stage_loop.id) is.some l long in
+      let same : body (with stage_loop.id (found_values stage_loop.id) (moved found_values)) ≡ body found_values = on_old (with stage_loop.id (found_values stage_loop.id) (moved found_values)) found_values
+      (λ id old. elim (cases_id id stage_loop.id) [
+        | inl s ↦ subst (λ (i : LoopId). with stage_loop.id (found_values stage_loop.id) (moved found_values) i ≡ found_values i) (sym s) (with_same stage_loop.id (found_values stage_loop.id) (moved found_values))
+        | inr o ↦ with_other stage_loop.id (found_values stage_loop.id) (moved found_values) id o
+            ∙ moved_other found_values id o (swapped_id id (ids.Inner (length splits)) (old_apart (length splits) id (ids.Inner (length splits)) old
             (inner_new (length splits)))) (swapped_id id (ids.Outer (length splits)) (old_apart (length splits) id (ids.Outer (length splits)) old
             (outer_new (length splits))))
       ]) in
-      ap (λ (n : ℕ). cond (nat_lt n (counts own.id)) (body (with own.id n (moved found))) []) w
-      ∙ ap (λ (t : Bool). cond t (body (with own.id (found own.id) (moved found))) []) (lt-ltb (found own.id) (counts own.id) l) ∙ same ∙ e
+      ap (λ (n : ℕ). cond (nat_lt n (counts stage_loop.id)) (body (with stage_loop.id n (moved found_values))) []) w
+      ∙ ap (λ (t : Bool). cond t (body (with stage_loop.id (found_values stage_loop.id) (moved found_values))) []) (lt-ltb (found_values stage_loop.id) (counts stage_loop.id) l) ∙ same ∙ e
 
-  pub split_in_range : (found : Values) → InRange counts (before ++ own ∷ after) found → InRange new_counts new_loops (moved found)
-  split_in_range found in_range id there =
-      let l : found own.id < counts own.id = in_range own.id own_there in
+  pub split_in_range : (found_values : Values) → InRange counts (before ++ stage_loop ∷ after) found_values → InRange new_counts new_loops (moved found_values)
+  split_in_range found_values in_range id there =
+      let l : found_values stage_loop.id < counts stage_loop.id = in_range stage_loop.id own_there in
       elim (part_of (length splits) id) [
-        | IsInner e ↦ subst (λ (i : LoopId). moved found i < new_counts i) (sym e)
+        | IsInner e ↦ subst (λ (i : LoopId). moved found_values i < new_counts i) (sym e)
             (omega (
               arith,
-              moved_inner found,
-              inner_below line.tail line.factor (counts own.id) (found own.id) is.some l long,
+              moved_inner found_values,
+              inner_below line.tail line.factor (counts stage_loop.id) (found_values stage_loop.id) is.some l long,
               with_same
-                  (ids.Inner (length splits)) line.factor (with (ids.Outer (length splits)) (outer_extent (counts own.id) line.factor) counts),
+                  (ids.Inner (length splits)) line.factor (with (ids.Outer (length splits)) (outer_extent (counts stage_loop.id) line.factor) counts),
             ))
-        | IsOuter e ↦ subst (λ (i : LoopId). moved found i < new_counts i) (sym e)
+        | IsOuter e ↦ subst (λ (i : LoopId). moved found_values i < new_counts i) (sym e)
             (omega (
               arith,
-              moved_outer found,
-              quotient_below (found own.id) (counts own.id) line.factor is.some l,
+              moved_outer found_values,
+              quotient_below (found_values stage_loop.id) (counts stage_loop.id) line.factor is.some l,
               with_same (ids.Outer (length splits))
-                  (outer_extent (counts own.id) line.factor) counts,
+                  (outer_extent (counts stage_loop.id) line.factor) counts,
             ))
         | IsNeither d f ↦
             let same_counts : new_counts id ≡ counts id = with_other (ids.Inner (length splits)) line.factor (with (ids.Outer (length splits))
-            (outer_extent (counts own.id) line.factor) counts) id (swapped_id (ids.Inner (length splits)) id d)
-            ∙ with_other (ids.Outer (length splits)) (outer_extent (counts own.id) line.factor) counts id (swapped_id (ids.Outer (length splits)) id f) in
-            let sum = total_parts (has_id id) before own after (length splits) line in
-            let none = parts_neither own (length splits) line id d f in
-            elim (cases_id id own.id) [
+            (outer_extent (counts stage_loop.id) line.factor) counts) id (swapped_id (ids.Inner (length splits)) id d)
+            ∙ with_other (ids.Outer (length splits)) (outer_extent (counts stage_loop.id) line.factor) counts id (swapped_id (ids.Outer (length splits)) id f) in
+            let sum = total_parts (has_id id) before stage_loop after (length splits) line in
+            let none = parts_neither stage_loop (length splits) line id d f in
+            elim (cases_id id stage_loop.id) [
               | inl s ↦
-                  let one : has_id id own ≡ 1 = ap (λ (i : LoopId). has_id i own) s ∙ has_same own in
+                  let one : has_id id stage_loop ≡ 1 = ap (λ (i : LoopId). has_id i stage_loop) s ∙ has_same stage_loop
+                  in
                   absurd (omega (arith, sum, none, there, sound.unique id))
-              | inr o ↦ omega (arith, moved_other found id o d f, in_range id (omega (arith, sum, none, there)))
+              | inr o ↦ omega (arith, moved_other found_values id o d f, in_range id (omega (arith, sum, none, there)))
             ]
       ]
 
-  pub split_only : (found : Values) → OnlyIn (before ++ own ∷ after) found start → OnlyIn new_loops (moved found) start
-  split_only found only id z =
-      let sum = total_parts (has_id id) before own after (length splits) line in
+  pub split_only : (found_values : Values) → OnlyIn (before ++ stage_loop ∷ after) found_values start
+      → OnlyIn new_loops (moved found_values) start
+  split_only found_values only id z =
+      let sum = total_parts (has_id id) before stage_loop after (length splits) line in
       elim (part_of (length splits) id) [
         | IsInner e ↦
-            let one : total (has_id id) (parts own (length splits) line) ≡ 1 = subst (λ (i : LoopId). total (has_id i) (parts own (length splits) line) ≡ 1)
-            (sym e) (parts_inner own (length splits) line) in
+            let one : total (has_id id) (parts stage_loop (length splits) line) ≡ 1 = subst (λ (i : LoopId). total (has_id i) (parts stage_loop (length splits) line) ≡ 1)
+            (sym e) (parts_inner stage_loop (length splits) line) in
             absurd (omega (
               arith,
-              total-append (has_id id) before (parts own (length splits) line ++ after),
-              total-append (has_id id) (parts own (length splits)
+              total-append (has_id id) before (parts stage_loop (length splits) line ++ after),
+              total-append (has_id id) (parts stage_loop (length splits)
                   line) after,
             ))
         | IsOuter e ↦
-            let one : total (has_id id) (parts own (length splits) line) ≡ 1 = subst (λ (i : LoopId). total (has_id i) (parts own (length splits) line) ≡ 1)
-            (sym e) (parts_outer own (length splits) line) in
+            let one : total (has_id id) (parts stage_loop (length splits) line) ≡ 1 = subst (λ (i : LoopId). total (has_id i) (parts stage_loop (length splits) line) ≡ 1)
+            (sym e) (parts_outer stage_loop (length splits) line) in
             absurd (omega (
               arith,
-              total-append (has_id id) before (parts own (length splits) line ++ after),
-              total-append (has_id id) (parts own (length splits)
+              total-append (has_id id) before (parts stage_loop (length splits) line ++ after),
+              total-append (has_id id) (parts stage_loop (length splits)
                   line) after,
             ))
-        | IsNeither d f ↦ elim (cases_id id own.id) [
-          | inl s ↦ subst (λ (i : LoopId). moved found i ≡ start i) (sym s) (with_same own.id (start own.id) (with (ids.Inner (length splits))
-              (inner_iteration line.tail line.factor (counts own.id) (found own.id)) (with (ids.Outer (length splits)) (found own.id / line.factor) found)))
-          | inr o ↦ moved_other found id o d f ∙ only id (omega (arith, sum, has_other id own (swapped_id id own.id o)))
+        | IsNeither d f ↦ elim (cases_id id stage_loop.id) [
+          | inl s ↦ subst (λ (i : LoopId). moved found_values i ≡ start i) (sym s) (with_same stage_loop.id (start stage_loop.id) (with (ids.Inner (length splits))
+              (inner_iteration line.tail line.factor (counts stage_loop.id) (found_values stage_loop.id)) (with (ids.Outer (length splits)) (found_values stage_loop.id / line.factor) found_values)))
+          | inr o ↦ moved_other found_values id o d f ∙ only id
+              (omega (arith, sum, has_other id stage_loop (swapped_id id stage_loop.id o)))
         ]
       ]
 
@@ -280,39 +286,39 @@ module _ (extents : Extents) (wanted : Visit) where
   pub body_on : (splits : List Split) → OnOld (length splits) (body_of splits)
   body_on splits = bodies_on_old splits (whole_counts extents) 0 (length splits) leaf (omega arith) leaf_on_old
 
-  found_parted : (is_update : Bool) (before : List Loop) (own : Loop) (after : List Loop) (splits : List Split) (line : SplitLine) → IsSplit is_update line
-      → Sound (before ++ own ∷ after) splits
-      → IsLong line.tail line.factor (counts_of splits own.id) → Found (before ++ own ∷ after) splits
-      → Found (before ++ (parts own (length splits) line ++ after)) (splits ++ split_by own line ∷ [])
-  found_parted is_update before own after splits line is sound long f =
-      let counts_are : counts_of (splits ++ split_by own line ∷ []) ≡ more_counts (counts_of splits) (length splits) (split_by own line) =
-      counts-more splits (whole_counts extents) 0 (length splits) (split_by own line) (omega arith) in
-      let bodies_are : body_of (splits ++ split_by own line ∷ []) ≡ split_body (counts_of splits) (length splits) (split_by own line) (body_of splits) =
-      bodies-more splits (whole_counts extents) 0 (length splits) (split_by own line) leaf (omega arith) in
-      let l : f.found own.id < counts_of splits own.id = f.in_range own.id (omega (arith, total-append (has_id own.id) before (own ∷ after), has_same own)) in
-      let new : Values = with own.id (zeros own.id) (with (ids.Inner (length splits)) (inner_iteration line.tail line.factor (counts_of splits own.id)
-      (f.found own.id)) (with (ids.Outer (length splits)) (f.found own.id / line.factor) f.found)) in
+  found_parted : (is_update : Bool) (before : List Loop) (stage_loop : Loop) (after : List Loop) (splits : List Split) (line : SplitLine) → IsSplit is_update line
+      → Sound (before ++ stage_loop ∷ after) splits
+      → IsLong line.tail line.factor (counts_of splits stage_loop.id) → Found (before ++ stage_loop ∷ after) splits
+      → Found (before ++ (parts stage_loop (length splits) line ++ after)) (splits ++ split_by stage_loop line ∷ [])
+  found_parted is_update before stage_loop after splits line is sound long f =
+      let counts_are : counts_of (splits ++ split_by stage_loop line ∷ []) ≡ more_counts (counts_of splits) (length splits) (split_by stage_loop line) =
+      counts-more splits (whole_counts extents) 0 (length splits) (split_by stage_loop line) (omega arith) in
+      let bodies_are : body_of (splits ++ split_by stage_loop line ∷ []) ≡ split_body (counts_of splits) (length splits) (split_by stage_loop line) (body_of splits) =
+      bodies-more splits (whole_counts extents) 0 (length splits) (split_by stage_loop line) leaf (omega arith) in
+      let l : f.found stage_loop.id < counts_of splits stage_loop.id = f.in_range stage_loop.id (omega (arith, total-append (has_id stage_loop.id) before (stage_loop ∷ after), has_same stage_loop)) in
+      let new : Values = with stage_loop.id (zeros stage_loop.id) (with (ids.Inner (length splits)) (inner_iteration line.tail line.factor (counts_of splits stage_loop.id)
+      (f.found stage_loop.id)) (with (ids.Outer (length splits)) (f.found stage_loop.id / line.factor) f.found)) in
       record {
-        found = with own.id (zeros own.id) (with (ids.Inner (length splits)) (inner_iteration line.tail line.factor (counts_of splits own.id) (f.found own.id))
-            (with (ids.Outer (length splits)) (f.found own.id / line.factor) f.found));
-        in_range = subst (λ (c : Values). InRange c (before ++ (parts own (length splits) line ++ after)) new) (sym counts_are)
-            (split_in_range (counts_of splits) (body_of splits) zeros (wanted ∷ []) before own after splits line is_update is sound long (body_on splits)
+        found = with stage_loop.id (zeros stage_loop.id) (with (ids.Inner (length splits)) (inner_iteration line.tail line.factor (counts_of splits stage_loop.id) (f.found stage_loop.id))
+            (with (ids.Outer (length splits)) (f.found stage_loop.id / line.factor) f.found));
+        in_range = subst (λ (c : Values). InRange c (before ++ (parts stage_loop (length splits) line ++ after)) new) (sym counts_are)
+            (split_in_range (counts_of splits) (body_of splits) zeros (wanted ∷ []) before stage_loop after splits line is_update is sound long (body_on splits)
             f.found f.in_range);
-        only = split_only (counts_of splits) (body_of splits) zeros (wanted ∷ []) before own after splits line is_update is sound long (body_on splits) f.found
+        only = split_only (counts_of splits) (body_of splits) zeros (wanted ∷ []) before stage_loop after splits line is_update is sound long (body_on splits) f.found
             f.only;
         lists = ap (λ (b : Values → List Visit). b new) bodies_are
-            ∙ split_lists (counts_of splits) (body_of splits) zeros (wanted ∷ []) before own after splits line is_update is sound long (body_on splits) f.found
+            ∙ split_lists (counts_of splits) (body_of splits) zeros (wanted ∷ []) before stage_loop after splits line is_update is sound long (body_on splits) f.found
             l f.lists;
       }
 
   covers_stays : (is_update : Bool) (start : List Loop) → Covers start [] → Stays is_update start Covers
   covers_stays is_update start begun = record {
     begun = begun;
-    parted = λ before own after splits line is c. record {
-      sound = (sound_stays is_update start begun.sound).parted before own after splits line is c.sound;
+    parted = λ before stage_loop after splits line is c. record {
+      sound = (sound_stays is_update start begun.sound).parted before stage_loop after splits line is c.sound;
       covers = λ e.
-          let p = fit_parts splits (whole_counts extents) 0 (split_by own line) e in
-          found_parted is_update before own after splits line is c.sound (long_from line.tail line.factor (counts_of splits own.id) p.1) (c.covers p.0);
+          let p = fit_parts splits (whole_counts extents) 0 (split_by stage_loop line) e in
+          found_parted is_update before stage_loop after splits line is c.sound (long_from line.tail line.factor (counts_of splits stage_loop.id) p.1) (c.covers p.0);
     };
     marked = λ loops new splits same c. record {
       sound = (sound_stays is_update start begun.sound).marked loops new splits same c.sound;
@@ -320,8 +326,12 @@ module _ (extents : Extents) (wanted : Visit) where
           let f = c.covers e in
           record {
             found = f.found;
-            in_range = λ id l. f.in_range id (omega (arith, bare_total (has_id id) (λ own. refl) new loops same));
-            only = λ id z. f.only id (omega (arith, bare_total (has_id id) (λ own. refl) new loops same));
+            in_range = λ id l. f.in_range id (omega (
+              arith,
+              bare_total (has_id id) (λ stage_loop. refl) new loops
+                  same,
+            ));
+            only = λ id z. f.only id (omega (arith, bare_total (has_id id) (λ stage_loop. refl) new loops same));
             lists = f.lists;
           };
     };

@@ -51,11 +51,11 @@ least_if P false own least = λ line is. true≢false (sym is.0)
 
 -- the line that marks a loop
 abbrev IsMarkedAt : Option Marked → ℕ → Type 0
-IsMarkedAt own line = (marked : Marked) × (own ≡ Some marked) × (marked.line ≡ line)
+IsMarkedAt own_marked line = (marked : Marked) × (own_marked ≡ Some marked) × (marked.line ≡ line)
 
-marked_least : (own : Option Marked) → IsLeast (IsMarkedAt own) (line_of own)
+marked_least : (marked : Option Marked) → IsLeast (IsMarkedAt marked) (line_of marked)
 marked_least None = λ line is. cc
-marked_least (Some own) = ((own, refl, refl), λ other is. let same : own.line ≡ other = cc in omega arith)
+marked_least (Some marked) = ((marked, refl, refl), λ other is. let same : marked.line ≡ other = cc in omega arith)
 
 at_first : (is_innermost : Bool) → (is_innermost && 0 == 0) ≡ is_innermost
 at_first true = refl
@@ -166,45 +166,47 @@ module _ (Own : FuncPlacement → FuncPlan → ℕ → Type 0) where
     plan_is : slice_get plans place ≡ Some plan
     own : Own standing plan line
 
-  either_func : (standing : FuncPlacement) (standings : List FuncPlacement) (plan : FuncPlan) (plans : List FuncPlan) (line place : ℕ) (s : FuncPlacement) (p : FuncPlan)
-      → slice_get (standing ∷ standings) place ≡ Some s → slice_get (plan ∷ plans) place ≡ Some p → Own s p line
-      → Own standing plan line ⊎ AmongFuncs standings plans line
-  either_func standing standings plan plans line zero s p standing_is plan_is is =
-      let same : s ≡ standing = cc in
+  either_func : (placement : FuncPlacement) (standings : List FuncPlacement) (plan : FuncPlan) (plans : List FuncPlan) (line place : ℕ) (s : FuncPlacement) (p : FuncPlan)
+      → slice_get (placement ∷ standings) place ≡ Some s → slice_get (plan ∷ plans) place ≡ Some p → Own s p line
+      → Own placement plan line ⊎ AmongFuncs standings plans line
+  either_func placement standings plan plans line zero s p standing_is plan_is is =
+      let same : s ≡ placement = cc in
       let alike : p ≡ plan = cc in
       inl (subst (λ (t : FuncPlacement). Own t plan line) same (subst (λ (q : FuncPlan). Own s q line) alike is))
-  either_func standing standings plan plans line (suc place) s p standing_is plan_is is =
+  either_func placement standings plan plans line (suc place) s p standing_is plan_is is =
       inr (record { place = place; standing = s; standing_is = standing_is; plan = p; plan_is = plan_is; own = is })
 
   -- the least line of all Funcs, by that of each
-  module _ (own_line : FuncPlacement → FuncPlan → Option ℕ) (own_least : (standing : FuncPlacement) (plan : FuncPlan)
-      → IsLeast (Own standing plan) (own_line standing plan)) where
+  module _ (own_line : FuncPlacement → FuncPlan → Option ℕ) (own_least : (placement : FuncPlacement) (plan : FuncPlan)
+      → IsLeast (Own placement plan) (own_line placement plan)) where
     abbrev funcs_line : List FuncPlacement → List FuncPlan → Option ℕ
     funcs_line [] plans = None
-    funcs_line (standing ∷ standings) [] = None
-    funcs_line (standing ∷ standings) (plan ∷ plans) = earlier (own_line standing plan) (funcs_line standings plans)
+    funcs_line (placement ∷ standings) [] = None
+    funcs_line (placement ∷ standings) (plan ∷ plans) = earlier (own_line placement plan) (funcs_line standings plans)
 
     funcs_least : (standings : List FuncPlacement) (plans : List FuncPlan) → IsLeast (AmongFuncs standings plans) (funcs_line standings plans)
     funcs_least [] plans = λ line is. cc
-    funcs_least (standing ∷ standings) [] = λ line is. cc
-    funcs_least (standing ∷ standings) (plan ∷ plans) =
-        least_either (Own standing plan) (AmongFuncs standings plans) (AmongFuncs (standing ∷ standings) (plan ∷ plans))
-        (λ line is. record { place = 0; standing = standing; standing_is = refl; plan = plan; plan_is = refl; own = is })
+    funcs_least (placement ∷ standings) [] = λ line is. cc
+    funcs_least (placement ∷ standings) (plan ∷ plans) =
+        least_either (Own placement plan) (AmongFuncs standings plans)
+        (AmongFuncs (placement ∷ standings) (plan ∷ plans))
+        (λ line is. record { place = 0; standing = placement; standing_is = refl; plan = plan; plan_is = refl; own = is })
         (λ line is. record { place = suc is.place; standing = is.standing; standing_is = is.standing_is; plan = is.plan; plan_is = is.plan_is; own = is.own })
-        (λ line is. either_func standing standings plan plans line is.place is.standing is.plan is.standing_is is.plan_is is.own) _ _
-        (own_least standing plan) (funcs_least standings plans)
+        (λ line is. either_func placement standings plan plans line is.place is.standing is.plan is.standing_is is.plan_is is.own) _ _
+        (own_least placement plan) (funcs_least standings plans)
 
 -- ---- the rules
 
 module _ (rule : LoopRule) where
   abbrev OfFunc : FuncPlacement → FuncPlan → ℕ → Type 0
-  OfFunc standing plan line = (standing.is_reached ≡ true) × OfPlan rule (is_root standing.place) plan line
+  OfFunc placement plan line = (placement.is_reached ≡ true) × OfPlan rule (is_root placement.place) plan line
 
   abbrev func_line : FuncPlacement → FuncPlan → Option ℕ
-  func_line standing plan = if standing.is_reached then plan_line rule (is_root standing.place) plan else None
+  func_line placement plan = if placement.is_reached then plan_line rule (is_root placement.place) plan else None
 
-  func_least : (standing : FuncPlacement) (plan : FuncPlan) → IsLeast (OfFunc standing plan) (func_line standing plan)
-  func_least standing plan = least_if (OfPlan rule (is_root standing.place) plan) standing.is_reached _ (plan_least rule (is_root standing.place) plan)
+  func_least : (placement : FuncPlacement) (plan : FuncPlan) → IsLeast (OfFunc placement plan)
+      (func_line placement plan)
+  func_least placement plan = least_if (OfPlan rule (is_root placement.place) plan) placement.is_reached _ (plan_least rule (is_root placement.place) plan)
 
 pub rule_lines_are_least : RuleLinesAreLeast
 rule_lines_are_least rule standings plans =
@@ -243,13 +245,18 @@ rule_lines_are_least rule standings plans =
 -- ---- where Funcs are computed
 
 abbrev IsComputedAt : Option ComputeLine → ℕ → Type 0
-IsComputedAt own line = (compute : ComputeLine) × (own ≡ Some compute) × (compute.line ≡ line)
+IsComputedAt own_compute_line line = (compute : ComputeLine) × (own_compute_line ≡ Some compute) × (compute.line ≡ line)
 
-compute_least : (own : Option ComputeLine) → IsLeast (IsComputedAt own) (compute_line own)
+compute_least : (own_compute_line : Option ComputeLine) → IsLeast (IsComputedAt own_compute_line)
+    (compute_line own_compute_line)
 compute_least None = λ line is. cc
-compute_least (Some own) = ((own, refl, refl), λ other is. let same : own.line ≡ other = cc in omega arith)
+compute_least (Some own_compute_line) = (
+  (own_compute_line, refl, refl),
+  λ other is. let same : own_compute_line.line ≡
+      other = cc in omega arith,
+)
 
-nowhere_is : (place : ComputeLevel) → is_nowhere place ≡ true → place ≡ places.Nowhere
+nowhere_is : (level : ComputeLevel) → is_nowhere level ≡ true → level ≡ places.Nowhere
 nowhere_is places.Nowhere is = refl
 nowhere_is places.Root is = cc
 nowhere_is places.Inlined is = cc
@@ -257,13 +264,15 @@ nowhere_is (places.At loop) is = cc
 
 -- the line computes the Func, which can't be computed there
 abbrev IsLost : FuncPlacement → FuncPlan → ℕ → Type 0
-IsLost standing plan line = ((standing.is_reached && is_nowhere standing.place) ≡ true) × IsComputedAt plan.compute line
+IsLost placement plan line = ((placement.is_reached && is_nowhere placement.place) ≡ true) × IsComputedAt plan.compute
+    line
 
 abbrev lost_line : FuncPlacement → FuncPlan → Option ℕ
-lost_line standing plan = if standing.is_reached && is_nowhere standing.place then compute_line plan.compute else None
+lost_line placement plan = if placement.is_reached && is_nowhere placement.place then compute_line plan.compute else
+    None
 
-lost_least : (standing : FuncPlacement) (plan : FuncPlan) → IsLeast (IsLost standing plan) (lost_line standing plan)
-lost_least standing plan = least_if (IsComputedAt plan.compute) (standing.is_reached && is_nowhere standing.place) (compute_line plan.compute)
+lost_least : (placement : FuncPlacement) (plan : FuncPlan) → IsLeast (IsLost placement plan) (lost_line placement plan)
+lost_least placement plan = least_if (IsComputedAt plan.compute) (placement.is_reached && is_nowhere placement.place) (compute_line plan.compute)
     (compute_least plan.compute)
 
 pub nowhere_lines_are_least : NowhereLinesAreLeast

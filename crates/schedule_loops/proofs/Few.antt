@@ -20,7 +20,7 @@ use Rattle.schedule_loops.proofs.Making.{Stays, by_making, split_by, total_parts
 use Rattle.schedule_loops.proofs.FirstLoops.{plain, there, update_start}
 
 abbrev one : Loop → ℕ
-one own = 1
+one stage_loop = 1
 
 length_total : (loops : List Loop) → length loops ≡ total one loops
 length_total [] = refl

@@ -28,15 +28,15 @@ Plain (own ∷ others) = ((own.id ≡ ids.Whole own.variable) × (has_variable o
 
 -- ---- what follows of them
 
-id_of : (own : Loop) (v : Variable) → own.id ≡ ids.Whole own.variable → (test : Bool) → same_variable own.variable v ≡ test
-    → has_id (ids.Whole v) own ≡ cond test 1 0
-id_of own v e test f = ap (λ (i : LoopId). cond {A = ℕ} (same_id i (ids.Whole v)) 1 0) e ∙ ap (λ (b : Bool). cond {A = ℕ} b 1 0) f
+id_of : (stage_loop : Loop) (v : Variable) → stage_loop.id ≡ ids.Whole stage_loop.variable → (test : Bool) → same_variable stage_loop.variable v ≡ test
+    → has_id (ids.Whole v) stage_loop ≡ cond test 1 0
+id_of stage_loop v e test f = ap (λ (i : LoopId). cond {A = ℕ} (same_id i (ids.Whole v)) 1 0) e ∙ ap (λ (b : Bool). cond {A = ℕ} b 1 0) f
 
-absent_at : (own : Loop) (others : List Loop) (v : Variable) (test : Bool) → same_variable own.variable v ≡ test → own.id ≡ ids.Whole own.variable
+absent_at : (stage_loop : Loop) (others : List Loop) (v : Variable) (test : Bool) → same_variable stage_loop.variable v ≡ test → stage_loop.id ≡ ids.Whole stage_loop.variable
     → (has_variable v others ≡ false → total (has_id (ids.Whole v)) others ≡ 0) → (test || has_variable v others) ≡ false
-    → total (has_id (ids.Whole v)) (own ∷ others) ≡ 0
-absent_at own others v true e plain later none = cc
-absent_at own others v false e plain later none = omega (arith, id_of own v plain false e, later none)
+    → total (has_id (ids.Whole v)) (stage_loop ∷ others) ≡ 0
+absent_at stage_loop others v true e plain later none = cc
+absent_at stage_loop others v false e plain later none = omega (arith, id_of stage_loop v plain false e, later none)
 
 -- no loop is over the variable
 pub absent : (v : Variable) (start : List Loop) → Plain start → has_variable v start ≡ false → total (has_id (ids.Whole v)) start ≡ 0
@@ -44,20 +44,21 @@ absent v [] plain none = refl
 absent v (own ∷ others) plain none =
     absent_at own others v (same_variable own.variable v) refl plain.0.0 (absent v others plain.1) none
 
-there_at : (own : Loop) (others : List Loop) (v : Variable) (test : Bool) → same_variable own.variable v ≡ test → own.id ≡ ids.Whole own.variable
+there_at : (stage_loop : Loop) (others : List Loop) (v : Variable) (test : Bool) → same_variable stage_loop.variable v ≡ test → stage_loop.id ≡ ids.Whole stage_loop.variable
     → (has_variable v others ≡ true → 1 ≤ total (has_id (ids.Whole v)) others) → (test || has_variable v others) ≡ true
-    → 1 ≤ total (has_id (ids.Whole v)) (own ∷ others)
-there_at own others v true e plain later some = omega (arith, id_of own v plain true e)
-there_at own others v false e plain later some = omega (arith, later some)
+    → 1 ≤ total (has_id (ids.Whole v)) (stage_loop ∷ others)
+there_at stage_loop others v true e plain later some = omega (arith, id_of stage_loop v plain true e)
+there_at stage_loop others v false e plain later some = omega (arith, later some)
 
 pub there : (v : Variable) (start : List Loop) → Plain start → has_variable v start ≡ true → 1 ≤ total (has_id (ids.Whole v)) start
 there v [] plain some = cc
 there v (own ∷ others) plain some = there_at own others v (same_variable own.variable v) refl plain.0.0 (there v others plain.1) some
 
-no_part : (id : LoopId) (own : Loop) → own.id ≡ ids.Whole own.variable → is_old 0 id ≡ false → has_id id own ≡ 0
-no_part (ids.Whole v) own e new = cc
-no_part (ids.Outer n) own e new = ap (λ (i : LoopId). cond {A = ℕ} (same_id i (ids.Outer n)) 1 0) e
-no_part (ids.Inner n) own e new = ap (λ (i : LoopId). cond {A = ℕ} (same_id i (ids.Inner n)) 1 0) e
+no_part : (id : LoopId) (stage_loop : Loop) → stage_loop.id ≡ ids.Whole stage_loop.variable → is_old 0 id ≡ false
+    → has_id id stage_loop ≡ 0
+no_part (ids.Whole v) stage_loop e new = cc
+no_part (ids.Outer n) stage_loop e new = ap (λ (i : LoopId). cond {A = ℕ} (same_id i (ids.Outer n)) 1 0) e
+no_part (ids.Inner n) stage_loop e new = ap (λ (i : LoopId). cond {A = ℕ} (same_id i (ids.Inner n)) 1 0) e
 
 pub no_parts : (id : LoopId) (start : List Loop) → Plain start → is_old 0 id ≡ false → total (has_id id) start ≡ 0
 no_parts id [] plain new = refl
@@ -67,17 +68,18 @@ old_at : (id : LoopId) (start : List Loop) → Plain start → (test : Bool) →
 old_at id start plain true e there = refl
 old_at id start plain false e there = absurd (omega (arith, no_parts id start plain e))
 
-few_has : (id : LoopId) (own : Loop) (test : Bool) → same_id own.id id ≡ test → has_id id own ≡ cond test 1 0
-few_has id own test e = ap (λ (b : Bool). cond {A = ℕ} b 1 0) e
+few_has : (id : LoopId) (stage_loop : Loop) (test : Bool) → same_id stage_loop.id id ≡ test
+    → has_id id stage_loop ≡ cond test 1 0
+few_has id stage_loop test e = ap (λ (b : Bool). cond {A = ℕ} b 1 0) e
 
-unique_at : (id : LoopId) (own : Loop) (others : List Loop) (test : Bool) → same_id own.id id ≡ test → own.id ≡ ids.Whole own.variable
-    → total (has_id (ids.Whole own.variable)) others ≡ 0
-    → total (has_id id) others ≤ 1 → total (has_id id) (own ∷ others) ≤ 1
-unique_at id own others true e plain none few =
-    let same : ids.Whole own.variable ≡ id = sym plain ∙ same_id-true own.id id e in
+unique_at : (id : LoopId) (stage_loop : Loop) (others : List Loop) (test : Bool) → same_id stage_loop.id id ≡ test → stage_loop.id ≡ ids.Whole stage_loop.variable
+    → total (has_id (ids.Whole stage_loop.variable)) others ≡ 0
+    → total (has_id id) others ≤ 1 → total (has_id id) (stage_loop ∷ others) ≤ 1
+unique_at id stage_loop others true e plain none few =
+    let same : ids.Whole stage_loop.variable ≡ id = sym plain ∙ same_id-true stage_loop.id id e in
     let zero_others : total (has_id id) others ≡ 0 = subst (λ (i : LoopId). total (has_id i) others ≡ 0) same none in
-    omega (arith, few_has id own true e)
-unique_at id own others false e plain none few = omega (arith, few_has id own false e)
+    omega (arith, few_has id stage_loop true e)
+unique_at id stage_loop others false e plain none few = omega (arith, few_has id stage_loop false e)
 
 unique : (start : List Loop) → Plain start → Unique start
 unique [] plain id = omega arith
@@ -92,9 +94,10 @@ sound_made {is_update} {start} plain made = by_making Sound (sound_stays is_upda
 
 -- ---- loops over arguments
 
-free_one : (id : LoopId) (own : Loop) (same free : Bool) → same_id own.id id ≡ same → is_free own ≡ free
-    → is_one is_free id own ≡ cond {A = ℕ} (same && free) 1 0
-free_one id own same free e f = ap (λ (b : Bool). cond {A = ℕ} (b && is_free own) 1 0) e ∙ ap (λ (b : Bool). cond {A = ℕ} (same && b) 1 0) f
+free_one : (id : LoopId) (stage_loop : Loop) (same free : Bool) → same_id stage_loop.id id ≡ same
+    → is_free stage_loop ≡ free
+    → is_one is_free id stage_loop ≡ cond {A = ℕ} (same && free) 1 0
+free_one id stage_loop same free e f = ap (λ (b : Bool). cond {A = ℕ} (b && is_free stage_loop) 1 0) e ∙ ap (λ (b : Bool). cond {A = ℕ} (same && b) 1 0) f
 
 argument_of : (v : Variable) → not (is_reduction v) ≡ true → (v ≡ variables.FirstArgument) ⊎ (v ≡ variables.SecondArgument)
 argument_of variables.FirstArgument e = inl refl
@@ -108,47 +111,54 @@ IsArgument start id =
     ((id ≡ ids.Whole variables.FirstArgument) × (has_variable variables.FirstArgument start ≡ true)) ⊎ ((id ≡ ids.Whole variables.SecondArgument)
     × (has_variable variables.SecondArgument start ≡ true))
 
-has_later : (v : Variable) (own : Loop) (others : List Loop) (test : Bool) → same_variable own.variable v ≡ test → has_variable v others ≡ true
+has_later : (v : Variable) (stage_loop : Loop) (others : List Loop) (test : Bool) → same_variable stage_loop.variable v ≡ test → has_variable v others ≡ true
     → (test || has_variable v others) ≡ true
-has_later v own others true e some = refl
-has_later v own others false e some = some
+has_later v stage_loop others true e some = refl
+has_later v stage_loop others false e some = some
 
-has_here : (v : Variable) (own : Loop) (others : List Loop) → own.variable ≡ v → has_variable v (own ∷ others) ≡ true
-has_here v own others e = let s : same_variable own.variable v ≡ true = ap (λ (u : Variable). same_variable u v) e ∙ same_variable-self v in rw s refl
+has_here : (v : Variable) (stage_loop : Loop) (others : List Loop) → stage_loop.variable ≡ v
+    → has_variable v (stage_loop ∷ others) ≡ true
+has_here v stage_loop others e = let s : same_variable stage_loop.variable v ≡ true = ap (λ (u : Variable). same_variable u v) e ∙ same_variable-self v in rw s refl
 
-here_is : (id : LoopId) (own : Loop) (others : List Loop) → own.id ≡ ids.Whole own.variable → own.id ≡ id → is_free own ≡ true → IsArgument (own ∷ others) id
-here_is id own others plain same free = elim (argument_of own.variable free) [
-  | inl e ↦ inl (sym same ∙ plain ∙ ap (λ (v : Variable). ids.Whole v) e, has_here variables.FirstArgument own others e)
-  | inr e ↦ inr (sym same ∙ plain ∙ ap (λ (v : Variable). ids.Whole v) e, has_here variables.SecondArgument own others e)
+here_is : (id : LoopId) (stage_loop : Loop) (others : List Loop) → stage_loop.id ≡ ids.Whole stage_loop.variable → stage_loop.id ≡ id → is_free stage_loop ≡ true → IsArgument (stage_loop ∷ others) id
+here_is id stage_loop others plain same free = elim (argument_of stage_loop.variable free) [
+  | inl e ↦ inl (
+    sym same ∙ plain ∙ ap (λ (v : Variable). ids.Whole v) e,
+    has_here variables.FirstArgument stage_loop
+        others e,
+  )
+  | inr e ↦ inr (sym same ∙ plain ∙ ap (λ (v : Variable). ids.Whole v) e, has_here variables.SecondArgument stage_loop others e)
 ]
 
-later_is : (id : LoopId) (own : Loop) (others : List Loop) → IsArgument others id → IsArgument (own ∷ others) id
-later_is id own others is = elim is [
-  | inl p ↦ inl (p.0, has_later variables.FirstArgument own others (same_variable own.variable variables.FirstArgument) refl p.1)
-  | inr p ↦ inr (p.0, has_later variables.SecondArgument own others (same_variable own.variable variables.SecondArgument) refl p.1)
+later_is : (id : LoopId) (stage_loop : Loop) (others : List Loop) → IsArgument others id
+    → IsArgument (stage_loop ∷ others) id
+later_is id stage_loop others is = elim is [
+  | inl p ↦ inl (p.0, has_later variables.FirstArgument stage_loop others (same_variable stage_loop.variable variables.FirstArgument) refl p.1)
+  | inr p ↦ inr (p.0, has_later variables.SecondArgument stage_loop others (same_variable stage_loop.variable variables.SecondArgument) refl p.1)
 ]
 
-free_at : (id : LoopId) (own : Loop) (others : List Loop) (same is : Bool) → same_id own.id id ≡ same → is_free own ≡ is → own.id ≡ ids.Whole own.variable
-    → (IsAmong is_free others id → IsArgument others id) → IsAmong is_free (own ∷ others) id → IsArgument (own ∷ others) id
-free_at id own others true true e f plain later there = here_is id own others plain (same_id-true own.id id e) f
-free_at id own others true false e f plain later there = later_is id own others (later (omega (arith, free_one id own true false e f)))
-free_at id own others false is e f plain later there = later_is id own others (later (omega (arith, free_one id own false is e f)))
+free_at : (id : LoopId) (stage_loop : Loop) (others : List Loop) (same is : Bool) → same_id stage_loop.id id ≡ same → is_free stage_loop ≡ is → stage_loop.id ≡ ids.Whole stage_loop.variable
+    → (IsAmong is_free others id → IsArgument others id) → IsAmong is_free (stage_loop ∷ others) id → IsArgument (stage_loop ∷ others) id
+free_at id stage_loop others true true e f plain later there = here_is id stage_loop others plain
+    (same_id-true stage_loop.id id e) f
+free_at id stage_loop others true false e f plain later there = later_is id stage_loop others (later (omega (arith, free_one id stage_loop true false e f)))
+free_at id stage_loop others false is e f plain later there = later_is id stage_loop others (later (omega (arith, free_one id stage_loop false is e f)))
 
 pub free : (id : LoopId) (start : List Loop) → Plain start → IsAmong is_free start id → IsArgument start id
 free id [] plain there = absurd (omega arith)
 free id (own ∷ others) plain there = free_at id own others (same_id own.id id) (is_free own) refl refl plain.0.0 (free id others plain.1) there
 
 -- an argument that a loop is over
-among_at : (v : Variable) (own : Loop) (others : List Loop) (test : Bool) → same_variable own.variable v ≡ test → own.id ≡ ids.Whole own.variable
+among_at : (v : Variable) (stage_loop : Loop) (others : List Loop) (test : Bool) → same_variable stage_loop.variable v ≡ test → stage_loop.id ≡ ids.Whole stage_loop.variable
     → not (is_reduction v) ≡ true
     → (has_variable v others ≡ true → IsAmong is_free others (ids.Whole v)) → (test || has_variable v others) ≡ true
-    → IsAmong is_free (own ∷ others) (ids.Whole v)
-among_at v own others true e plain argument later some =
-    let u : own.variable ≡ v = same_variable-true own.variable v e in
-    let same : same_id own.id (ids.Whole v) ≡ true = ap (λ (i : LoopId). same_id i (ids.Whole v)) plain ∙ e in
-    let is : is_free own ≡ true = ap (λ (w : Variable). not (is_reduction w)) u ∙ argument in
-    omega (arith, free_one (ids.Whole v) own true true same is)
-among_at v own others false e plain argument later some = omega (arith, later some)
+    → IsAmong is_free (stage_loop ∷ others) (ids.Whole v)
+among_at v stage_loop others true e plain argument later some =
+    let u : stage_loop.variable ≡ v = same_variable-true stage_loop.variable v e in
+    let same : same_id stage_loop.id (ids.Whole v) ≡ true = ap (λ (i : LoopId). same_id i (ids.Whole v)) plain ∙ e in
+    let is : is_free stage_loop ≡ true = ap (λ (w : Variable). not (is_reduction w)) u ∙ argument in
+    omega (arith, free_one (ids.Whole v) stage_loop true true same is)
+among_at v stage_loop others false e plain argument later some = omega (arith, later some)
 
 pub among : (v : Variable) (start : List Loop) → Plain start → not (is_reduction v) ≡ true → has_variable v start ≡ true → IsAmong is_free start (ids.Whole v)
 among v [] plain argument some = cc
@@ -161,22 +171,22 @@ pub record IsOf (v : Variable) (f : Loop → ℕ) (n : ℕ) : Type 0 where
   pub own : (l : Loop) → l.id ≡ ids.Whole l.variable → same_variable l.variable v ≡ true → f l ≡ n
   pub others : (l : Loop) → same_variable l.variable v ≡ false → f l ≡ 0
 
-none_at : (v : Variable) (f : Loop → ℕ) (n : ℕ) → IsOf v f n → (own : Loop) (others : List Loop) (test : Bool) → same_variable own.variable v ≡ test
-    → (has_variable v others ≡ false → total f others ≡ 0) → (test || has_variable v others) ≡ false → total f (own ∷ others) ≡ 0
-none_at v f n is own others true e later none = cc
-none_at v f n is own others false e later none = omega (arith, is.others own e, later none)
+none_at : (v : Variable) (f : Loop → ℕ) (n : ℕ) → IsOf v f n → (stage_loop : Loop) (others : List Loop) (test : Bool) → same_variable stage_loop.variable v ≡ test
+    → (has_variable v others ≡ false → total f others ≡ 0) → (test || has_variable v others) ≡ false → total f (stage_loop ∷ others) ≡ 0
+none_at v f n is stage_loop others true e later none = cc
+none_at v f n is stage_loop others false e later none = omega (arith, is.others stage_loop e, later none)
 
 pub none_sum : (v : Variable) (f : Loop → ℕ) (n : ℕ) → IsOf v f n → (start : List Loop) → has_variable v start ≡ false → total f start ≡ 0
 none_sum v f n is [] none = refl
 none_sum v f n is (own ∷ others) none = none_at v f n is own others (same_variable own.variable v) refl (none_sum v f n is others) none
 
-once_at : (v : Variable) (f : Loop → ℕ) (n : ℕ) → IsOf v f n → (own : Loop) (others : List Loop) (test : Bool) → same_variable own.variable v ≡ test
-    → own.id ≡ ids.Whole own.variable → has_variable own.variable others ≡ false
-    → (has_variable v others ≡ true → total f others ≡ n) → (test || has_variable v others) ≡ true → total f (own ∷ others) ≡ n
-once_at v f n is own others true e plain apart later some =
-    let u : own.variable ≡ v = same_variable-true own.variable v e in
-    omega (arith, is.own own plain e, none_sum v f n is others (subst (λ (w : Variable). has_variable w others ≡ false) u apart))
-once_at v f n is own others false e plain apart later some = omega (arith, is.others own e, later some)
+once_at : (v : Variable) (f : Loop → ℕ) (n : ℕ) → IsOf v f n → (stage_loop : Loop) (others : List Loop) (test : Bool) → same_variable stage_loop.variable v ≡ test
+    → stage_loop.id ≡ ids.Whole stage_loop.variable → has_variable stage_loop.variable others ≡ false
+    → (has_variable v others ≡ true → total f others ≡ n) → (test || has_variable v others) ≡ true → total f (stage_loop ∷ others) ≡ n
+once_at v f n is stage_loop others true e plain apart later some =
+    let u : stage_loop.variable ≡ v = same_variable-true stage_loop.variable v e in
+    omega (arith, is.own stage_loop plain e, none_sum v f n is others (subst (λ (w : Variable). has_variable w others ≡ false) u apart))
+once_at v f n is stage_loop others false e plain apart later some = omega (arith, is.others stage_loop e, later some)
 
 pub once_sum : (v : Variable) (f : Loop → ℕ) (n : ℕ) → IsOf v f n → (start : List Loop) → Plain start → has_variable v start ≡ true → total f start ≡ n
 once_sum v f n is [] plain some = cc

@@ -64,7 +64,7 @@ with_same id n values = rw (same_id-self id) refl
 pub with_other : (id : LoopId) (n : ℕ) (values : Values) (other : LoopId) → same_id other id ≡ false → with id n values other ≡ values other
 with_other id n values other d = rw d refl
 
--- A whole variable, or a loop of one of the first so many splits.
+-- A whole variable, or a loop of one of the first this many splits.
 abbrev pub is_old : ℕ → LoopId → Bool
 is_old place (ids.Whole v) = true
 is_old place (ids.Outer at) = nat_lt at place

@@ -24,15 +24,15 @@ use Rattle.schedule_loops.proofs.Making.{Stays, by_making, Sound, sound_stays, s
 use Rattle.schedule_loops.proofs.Making.{own_apart, apart_from}
 use Rattle.schedule_loops.proofs.Order.{whole_in_range, inner_part, outer_part}
 use Rattle.schedule_loops.proofs.FirstLoops.{Plain, sound, IsOf, once_sum}
-use Rattle.schedule_loops.proofs.Starts.{is_steady, steady_passed_on}
+use Rattle.schedule_loops.proofs.Starts.{is_loop_invariant, invariant_passed_on}
 
 -- what a loop over the variable adds that is not uneven
 abbrev pub exact : Variable → Values → (LoopId → Bool) → Values → Loop → ℕ
-exact v strides uneven values own = cond (same_variable own.variable v && not (uneven own.id)) (strides own.id * values own.id) 0
+exact v strides uneven values stage_loop = cond (same_variable stage_loop.variable v && not (uneven stage_loop.id)) (strides stage_loop.id * values stage_loop.id) 0
 
 -- the most that an uneven one adds
 abbrev pub slack : Variable → Values → (LoopId → Bool) → Values → Loop → ℕ
-slack v strides uneven counts own = cond (same_variable own.variable v && uneven own.id) (strides own.id * (counts own.id - 1)) 0
+slack v strides uneven counts stage_loop = cond (same_variable stage_loop.variable v && uneven stage_loop.id) (strides stage_loop.id * (counts stage_loop.id - 1)) 0
 
 abbrev pub even : LoopId → Bool
 even id = false
@@ -48,10 +48,10 @@ uneven-more [] uneven place end split e = let same : place ≡ end = omega arith
 uneven-more (first ∷ splits) uneven place end split e = uneven-more splits (more_uneven uneven place first) (suc place) end split (omega arith)
 
 -- what is added up over loops that are apart from a split
-pub total_apart : (place : ℕ) (of : LoopId) (f g : Loop → ℕ) (loops : List Loop) → ((own : Loop) → is_old place own.id ≡ true → same_id own.id of ≡ false
-    → f own ≡ g own) → Apart place of loops → total f loops ≡ total g loops
+pub total_apart : (place : ℕ) (of : LoopId) (f g : Loop → ℕ) (loops : List Loop) → ((stage_loop : Loop) → is_old place stage_loop.id ≡ true → same_id stage_loop.id of ≡ false
+    → f stage_loop ≡ g stage_loop) → Apart place of loops → total f loops ≡ total g loops
 total_apart place of f g [] same apart = refl
-total_apart place of f g (own ∷ loops) same apart = omega (arith, same own apart.0.0 apart.0.1, total_apart place of f g loops same apart.1)
+total_apart place of f g (stage_loop ∷ loops) same apart = omega (arith, same stage_loop apart.0.0 apart.0.1, total_apart place of f g loops same apart.1)
 
 -- ---- one loop, and the two that it is split into
 
@@ -150,13 +150,13 @@ module _ (extents : Values) (v : Variable) where
         ∙ same s.added;
   })
 
-  module _ (is_update : Bool) (before : List Loop) (own : Loop) (after : List Loop) (splits : List Split) (line : SplitLine) (is : IsSplit is_update line)
-      (linear : Linear (before ++ own ∷ after) splits) where
+  module _ (is_update : Bool) (before : List Loop) (stage_loop : Loop) (after : List Loop) (splits : List Split) (line : SplitLine) (is : IsSplit is_update line)
+      (linear : Linear (before ++ stage_loop ∷ after) splits) where
     abbrev place : ℕ
     place = length splits
 
     abbrev split : Split
-    split = split_by own line
+    split = split_by stage_loop line
 
     abbrev counts : Values
     counts = counts_from extents 0 splits
@@ -177,7 +177,7 @@ module _ (extents : Values) (v : Variable) where
     new_uneven = more_uneven uneven place split
 
     abbrev new_loops : List Loop
-    new_loops = before ++ (parts own (length splits) line ++ after)
+    new_loops = before ++ (parts stage_loop (length splits) line ++ after)
 
     new_of : {A : Type 0} (n m : A) (values : LoopId → A) (id : LoopId) → is_old place id ≡ true → with (ids.Inner place) n (with (ids.Outer place) m values) id
         ≡ values id
@@ -194,149 +194,152 @@ module _ (extents : Values) (v : Variable) where
     abbrev w : Values → ℕ
     w values = whole_of counts place split values
 
-    exact_old : (values : Values) (l : Loop) → is_old place l.id ≡ true → same_id l.id own.id ≡ false → exact v strides uneven (with own.id (w values) values) l
+    exact_old : (values : Values) (l : Loop) → is_old place l.id ≡ true → same_id l.id stage_loop.id ≡ false → exact v strides uneven (with stage_loop.id (w values) values) l
         ≡ exact v new_strides new_uneven values l
     exact_old values l old d =
-        ap (λ (n : ℕ). cond (same_variable l.variable v && not (uneven l.id)) (strides l.id * n) 0) (with_other own.id (w values) values l.id d)
+        ap (λ (n : ℕ). cond (same_variable l.variable v && not (uneven l.id)) (strides l.id * n) 0) (with_other stage_loop.id (w values) values l.id d)
         ∙ ap (λ (n : ℕ). cond (same_variable l.variable v && not (uneven l.id)) (n * values l.id) 0)
-        (sym (new_of (strides own.id) (strides own.id * line.factor) strides l.id old))
+        (sym (new_of (strides stage_loop.id) (strides stage_loop.id * line.factor) strides l.id old))
         ∙ ap (λ (b : Bool). cond (same_variable l.variable v && not b) (new_strides l.id * values l.id) 0)
-        (sym (new_of (uneven own.id) (uneven own.id || is_shift line.tail) uneven l.id old))
+        (sym (new_of (uneven stage_loop.id) (uneven stage_loop.id || is_shift line.tail) uneven l.id old))
 
-    slack_old : (l : Loop) → is_old place l.id ≡ true → same_id l.id own.id ≡ false
+    slack_old : (l : Loop) → is_old place l.id ≡ true → same_id l.id stage_loop.id ≡ false
         → slack v strides uneven counts l ≡ slack v new_strides new_uneven new_counts l
     slack_old l old d =
         ap (λ (n : ℕ). cond (same_variable l.variable v && uneven l.id) (strides l.id * (n - 1)) 0)
-        (sym (new_of line.factor (outer_extent (counts own.id) line.factor) counts l.id old))
+        (sym (new_of line.factor (outer_extent (counts stage_loop.id) line.factor) counts l.id old))
         ∙ ap (λ (n : ℕ). cond (same_variable l.variable v && uneven l.id) (n * (new_counts l.id - 1)) 0)
-        (sym (new_of (strides own.id) (strides own.id * line.factor) strides l.id old))
+        (sym (new_of (strides stage_loop.id) (strides stage_loop.id * line.factor) strides l.id old))
         ∙ ap (λ (b : Bool). cond (same_variable l.variable v && b) (new_strides l.id * (new_counts l.id - 1)) 0)
-        (sym (new_of (uneven own.id) (uneven own.id || is_shift line.tail) uneven l.id old))
+        (sym (new_of (uneven stage_loop.id) (uneven stage_loop.id || is_shift line.tail) uneven l.id old))
 
     sum_parted : (values : Values) → InRange new_counts new_loops values
         → Listed (total (exact v new_strides new_uneven values) new_loops) (total (slack v new_strides new_uneven new_counts) new_loops)
         (split_body counts place split (split_bodies extents 0 splits leaf) values)
     sum_parted values in_range =
-        sum_cond (nat_lt (w values) (counts own.id)) (total (exact v new_strides new_uneven values) new_loops)
-        (total (slack v new_strides new_uneven new_counts) new_loops) (split_bodies extents 0 splits leaf (with own.id (w values) values)) (λ below.
-        let l : w values < counts own.id = ltb-true (w values) (counts own.id) below in
-        let sound : Sound (before ++ own ∷ after) splits = linear.sound in
-        let old = linear.sum (with own.id (w values) values) (whole_in_range Values extents (λ a. a) (λ n. true) is_update is_steady
-        (steady_passed_on is_update) before own after splits line is sound values in_range l) in
-        let none = own_apart before own after sound.unique in
-        let apart_before = apart_from (length splits) own.id before (λ id there. sound.old id (omega (
+        sum_cond (nat_lt (w values) (counts stage_loop.id)) (total (exact v new_strides new_uneven values) new_loops)
+        (total (slack v new_strides new_uneven new_counts) new_loops) (split_bodies extents 0 splits leaf (with stage_loop.id (w values) values)) (λ below.
+        let l : w values < counts stage_loop.id = ltb-true (w values) (counts stage_loop.id) below in
+        let sound : Sound (before ++ stage_loop ∷ after) splits = linear.sound in
+        let old = linear.sum (with stage_loop.id (w values) values) (whole_in_range Values extents (λ a. a) (λ n. true) is_update is_loop_invariant
+        (invariant_passed_on is_update) before stage_loop after splits line is sound values in_range l) in
+        let none = own_apart before stage_loop after sound.unique in
+        let apart_before = apart_from (length splits) stage_loop.id before (λ id there. sound.old id (omega (
           arith,
           there,
-          total-append (has_id id) before (own
+          total-append (has_id id) before (stage_loop
               ∷ after),
         ))) (omega (arith, none)) in
-        let apart_after = apart_from (length splits) own.id after (λ id there. sound.old id (omega (
+        let apart_after = apart_from (length splits) stage_loop.id after (λ id there. sound.old id (omega (
           arith,
           there,
-          total-append (has_id id) before (own
+          total-append (has_id id) before (stage_loop
               ∷ after),
         ))) (omega (arith, none)) in
-        let b : ℕ = begin_of line.tail line.factor (counts own.id) (values (ids.Outer place)) in
+        let b : ℕ = begin_of line.tail line.factor (counts stage_loop.id) (values (ids.Outer place)) in
         let outer_in : values (ids.Outer place) < new_counts (ids.Outer place) = in_range (ids.Outer place)
         (omega (
           arith,
-          total-append (has_id (ids.Outer place)) before (parts own place line ++ after),
+          total-append (has_id (ids.Outer place)) before (parts stage_loop place line ++ after),
           total-append (has_id (ids.Outer place))
-              (parts own place line) after,
-          parts_outer own place line,
+              (parts stage_loop place line) after,
+          parts_outer stage_loop place line,
         )) in
-        let lo : values (ids.Outer place) < outer_extent (counts own.id) line.factor =
-        omega (arith, outer_in, at_outer line.factor (outer_extent (counts own.id) line.factor) counts) in
-        let p = parts_of (same_variable own.variable v) (uneven own.id) (is_shift line.tail) (strides own.id) (begin_of line.tail line.factor (counts own.id)
-        (values (ids.Outer place))) (counts own.id) line.factor (outer_extent (counts own.id) line.factor) (values (ids.Outer place)) (values (ids.Inner place))
-        is.some (outer_extent_reaches (counts own.id) line.factor is.some) lo (begin_below line.tail line.factor (counts own.id) (values (ids.Outer place)))
-        (begin_guard line.tail line.factor (counts own.id) (values (ids.Outer place))) in
-        let eb = total_apart (length splits) own.id (exact v strides uneven (with own.id (w values) values)) (exact v new_strides new_uneven values) before
+        let lo : values (ids.Outer place) < outer_extent (counts stage_loop.id) line.factor =
+        omega (arith, outer_in, at_outer line.factor (outer_extent (counts stage_loop.id) line.factor) counts) in
+        let p = parts_of (same_variable stage_loop.variable v) (uneven stage_loop.id) (is_shift line.tail) (strides stage_loop.id) (begin_of line.tail line.factor (counts stage_loop.id)
+        (values (ids.Outer place))) (counts stage_loop.id) line.factor (outer_extent (counts stage_loop.id) line.factor) (values (ids.Outer place)) (values (ids.Inner place))
+        is.some (outer_extent_reaches (counts stage_loop.id) line.factor is.some) lo (begin_below line.tail line.factor (counts stage_loop.id) (values (ids.Outer place)))
+        (begin_guard line.tail line.factor (counts stage_loop.id) (values (ids.Outer place))) in
+        let eb = total_apart (length splits) stage_loop.id (exact v strides uneven (with stage_loop.id (w values) values)) (exact v new_strides new_uneven values) before
         (exact_old values) apart_before in
-        let ea = total_apart (length splits) own.id (exact v strides uneven (with own.id (w values) values)) (exact v new_strides new_uneven values) after
+        let ea = total_apart (length splits) stage_loop.id (exact v strides uneven (with stage_loop.id (w values) values)) (exact v new_strides new_uneven values) after
         (exact_old values) apart_after in
-        let sb = total_apart (length splits) own.id (slack v strides uneven counts) (slack v new_strides new_uneven new_counts) before slack_old apart_before in
-        let sa = total_apart (length splits) own.id (slack v strides uneven counts) (slack v new_strides new_uneven new_counts) after slack_old apart_after in
-        let e_own : exact v strides uneven (with own.id (w values) values) own ≡ cond (same_variable own.variable v && not (uneven own.id))
-        (strides own.id * w values) 0 =
-        ap (λ (n : ℕ). cond (same_variable own.variable v && not (uneven own.id)) (strides own.id * n) 0) (with_same own.id (w values) values) in
-        let e_inner : exact v new_strides new_uneven values (inner_part own place line) ≡ cond (same_variable own.variable v && not (uneven own.id))
-        (strides own.id * values (ids.Inner place)) 0 =
-        ap (λ (n : ℕ). cond (same_variable own.variable v && not (new_uneven (ids.Inner place))) (n * values (ids.Inner place)) 0) (at_inner (strides own.id)
-        (strides own.id * line.factor) strides)
-        ∙ ap (λ (c : Bool). cond (same_variable own.variable v && not c) (strides own.id * values (ids.Inner place)) 0) (at_inner (uneven own.id) (uneven own.id
+        let sb = total_apart (length splits) stage_loop.id (slack v strides uneven counts) (slack v new_strides new_uneven new_counts) before slack_old apart_before in
+        let sa = total_apart (length splits) stage_loop.id (slack v strides uneven counts) (slack v new_strides new_uneven new_counts) after slack_old apart_after in
+        let e_own : exact v strides uneven (with stage_loop.id (w values) values) stage_loop ≡ cond (same_variable stage_loop.variable v && not (uneven stage_loop.id))
+        (strides stage_loop.id * w values) 0 =
+        ap (λ (n : ℕ). cond (same_variable stage_loop.variable v && not (uneven stage_loop.id)) (strides stage_loop.id * n) 0) (with_same stage_loop.id (w values) values) in
+        let e_inner : exact v new_strides new_uneven values (inner_part stage_loop place line) ≡ cond (same_variable stage_loop.variable v && not (uneven stage_loop.id))
+        (strides stage_loop.id * values (ids.Inner place)) 0 =
+        ap (λ (n : ℕ). cond (same_variable stage_loop.variable v && not (new_uneven (ids.Inner place))) (n * values (ids.Inner place)) 0) (at_inner (strides stage_loop.id)
+        (strides stage_loop.id * line.factor) strides)
+        ∙ ap (λ (c : Bool). cond (same_variable stage_loop.variable v && not c) (strides stage_loop.id * values (ids.Inner place)) 0) (at_inner (uneven stage_loop.id) (uneven stage_loop.id
         || is_shift line.tail) uneven) in
-        let e_outer : exact v new_strides new_uneven values (outer_part own place line) ≡ cond (same_variable own.variable v
-        && not (uneven own.id || is_shift line.tail)) (strides own.id * line.factor * values (ids.Outer place)) 0 =
-        ap (λ (n : ℕ). cond (same_variable own.variable v && not (new_uneven (ids.Outer place))) (n * values (ids.Outer place)) 0) (at_outer (strides own.id)
-        (strides own.id * line.factor) strides)
-        ∙ ap (λ (c : Bool). cond (same_variable own.variable v && not c) (strides own.id * line.factor * values (ids.Outer place)) 0) (at_outer (uneven own.id)
-        (uneven own.id || is_shift line.tail) uneven) in
-        let s_inner : slack v new_strides new_uneven new_counts (inner_part own place line) ≡ cond (same_variable own.variable v && uneven own.id)
-        (strides own.id * (line.factor - 1)) 0 =
-        ap (λ (n : ℕ). cond (same_variable own.variable v && new_uneven (ids.Inner place)) (n * (new_counts (ids.Inner place) - 1)) 0)
-        (at_inner (strides own.id) (strides own.id * line.factor) strides)
-        ∙ ap (λ (n : ℕ). cond (same_variable own.variable v && new_uneven (ids.Inner place)) (strides own.id * (n - 1)) 0)
-        (at_inner line.factor (outer_extent (counts own.id) line.factor) counts)
-        ∙ ap (λ (c : Bool). cond (same_variable own.variable v && c) (strides own.id * (line.factor - 1)) 0) (at_inner (uneven own.id) (uneven own.id
+        let e_outer : exact v new_strides new_uneven values (outer_part stage_loop place line) ≡ cond (same_variable stage_loop.variable v
+        && not (uneven stage_loop.id || is_shift line.tail)) (strides stage_loop.id * line.factor * values
+        (ids.Outer place)) 0 =
+        ap (λ (n : ℕ). cond (same_variable stage_loop.variable v && not (new_uneven (ids.Outer place))) (n * values (ids.Outer place)) 0) (at_outer (strides stage_loop.id)
+        (strides stage_loop.id * line.factor) strides)
+        ∙ ap (λ (c : Bool). cond (same_variable stage_loop.variable v && not c) (strides stage_loop.id * line.factor * values (ids.Outer place)) 0) (at_outer (uneven stage_loop.id)
+        (uneven stage_loop.id || is_shift line.tail) uneven) in
+        let s_inner : slack v new_strides new_uneven new_counts (inner_part stage_loop place line) ≡ cond (same_variable stage_loop.variable v && uneven stage_loop.id)
+        (strides stage_loop.id * (line.factor - 1)) 0 =
+        ap (λ (n : ℕ). cond (same_variable stage_loop.variable v && new_uneven (ids.Inner place)) (n * (new_counts (ids.Inner place) - 1)) 0)
+        (at_inner (strides stage_loop.id) (strides stage_loop.id * line.factor) strides)
+        ∙ ap (λ (n : ℕ). cond (same_variable stage_loop.variable v && new_uneven (ids.Inner place)) (strides stage_loop.id * (n - 1)) 0)
+        (at_inner line.factor (outer_extent (counts stage_loop.id) line.factor) counts)
+        ∙ ap (λ (c : Bool). cond (same_variable stage_loop.variable v && c) (strides stage_loop.id * (line.factor - 1)) 0) (at_inner (uneven stage_loop.id) (uneven stage_loop.id
         || is_shift line.tail) uneven) in
-        let s_outer : slack v new_strides new_uneven new_counts (outer_part own place line) ≡ cond (same_variable own.variable v
-        && (uneven own.id || is_shift line.tail)) (strides own.id * line.factor * (outer_extent (counts own.id) line.factor - 1)) 0 =
-        ap (λ (n : ℕ). cond (same_variable own.variable v && new_uneven (ids.Outer place)) (n * (new_counts (ids.Outer place) - 1)) 0)
-        (at_outer (strides own.id) (strides own.id * line.factor) strides)
-        ∙ ap (λ (n : ℕ). cond (same_variable own.variable v && new_uneven (ids.Outer place)) (strides own.id * line.factor * (n - 1)) 0)
-        (at_outer line.factor (outer_extent (counts own.id) line.factor) counts)
-        ∙ ap (λ (c : Bool). cond (same_variable own.variable v && c) (strides own.id * line.factor * (outer_extent (counts own.id) line.factor - 1)) 0)
-        (at_outer (uneven own.id) (uneven own.id || is_shift line.tail) uneven) in
-        let t_old : total (exact v strides uneven (with own.id (w values) values)) (before ++ own ∷ after)
-        ≡ total (exact v strides uneven (with own.id (w values) values)) before + (exact v strides uneven (with own.id (w values) values) own + total
-        (exact v strides uneven (with own.id (w values) values)) after) = total-append (exact v strides uneven (with own.id (w values) values)) before (own
+        let s_outer : slack v new_strides new_uneven new_counts (outer_part stage_loop place line) ≡ cond (same_variable stage_loop.variable v
+        && (uneven stage_loop.id || is_shift line.tail)) (strides stage_loop.id * line.factor * (outer_extent (counts stage_loop.id) line.factor - 1)) 0 =
+        ap (λ (n : ℕ). cond (same_variable stage_loop.variable v && new_uneven (ids.Outer place)) (n * (new_counts (ids.Outer place) - 1)) 0)
+        (at_outer (strides stage_loop.id) (strides stage_loop.id * line.factor) strides)
+        ∙ ap (λ (n : ℕ). cond (same_variable stage_loop.variable v && new_uneven (ids.Outer place)) (strides stage_loop.id * line.factor * (n - 1)) 0)
+        (at_outer line.factor (outer_extent (counts stage_loop.id) line.factor) counts)
+        ∙ ap (λ (c : Bool). cond (same_variable stage_loop.variable v && c) (strides stage_loop.id * line.factor * (outer_extent (counts stage_loop.id) line.factor - 1)) 0)
+        (at_outer (uneven stage_loop.id) (uneven stage_loop.id || is_shift line.tail) uneven) in
+        let t_old : total (exact v strides uneven (with stage_loop.id (w values) values)) (before ++ stage_loop ∷ after)
+        ≡ total (exact v strides uneven (with stage_loop.id (w values) values)) before + (exact v strides uneven (with stage_loop.id (w values) values) stage_loop + total
+        (exact v strides uneven (with stage_loop.id (w values) values)) after) = total-append (exact v strides uneven (with stage_loop.id (w values) values)) before (stage_loop
         ∷ after) in
         let t_new : total (exact v new_strides new_uneven values) new_loops ≡ total (exact v new_strides new_uneven values) before
-        + (exact v new_strides new_uneven values (inner_part own place line) + (exact v new_strides new_uneven values (outer_part own place line) + total
-        (exact v new_strides new_uneven values) after)) = total-append (exact v new_strides new_uneven values) before (parts own (length splits) line
+        + (exact v new_strides new_uneven values (inner_part stage_loop place line) + (exact v new_strides new_uneven values (outer_part stage_loop place line) + total
+        (exact v new_strides new_uneven values) after)) = total-append (exact v new_strides new_uneven values) before (parts stage_loop (length splits) line
         ++ after) in
-        let u_old : total (slack v strides uneven counts) (before ++ own ∷ after) ≡ total (slack v strides uneven counts) before + (slack v strides uneven
-        counts own + total (slack v strides uneven counts) after) = total-append (slack v strides uneven counts) before (own ∷ after) in
+        let u_old : total (slack v strides uneven counts) (before ++ stage_loop ∷ after) ≡ total (slack v strides uneven counts) before + (slack v strides uneven
+        counts stage_loop + total (slack v strides uneven counts) after) = total-append (slack v strides uneven counts) before (stage_loop ∷ after) in
         let u_new : total (slack v new_strides new_uneven new_counts) new_loops ≡ total (slack v new_strides new_uneven new_counts) before
-        + (slack v new_strides new_uneven new_counts (inner_part own place line) + (slack v new_strides new_uneven new_counts (outer_part own place line)
+        + (slack v new_strides new_uneven new_counts (inner_part stage_loop place line) + (slack v new_strides new_uneven new_counts (outer_part stage_loop place line)
         + total (slack v new_strides new_uneven new_counts) after)) = total-append (slack v new_strides new_uneven new_counts) before
-        (parts own (length splits) line ++ after) in
-        listed_more p.more (total (exact v strides uneven (with own.id (w values) values)) (before ++ own ∷ after)) (total (slack v strides uneven counts)
-        (before ++ own ∷ after)) (total (exact v new_strides new_uneven values) new_loops) (total (slack v new_strides new_uneven new_counts) new_loops)
-        (split_bodies extents 0 splits leaf (with own.id (w values) values))
-        (λ added. sums (total (exact v strides uneven (with own.id (w values) values)) before) (total (exact v new_strides new_uneven values) before)
-        (total (exact v strides uneven (with own.id (w values) values)) after) (total (exact v new_strides new_uneven values) after) p.more added eb ea
+        (parts stage_loop (length splits) line ++ after) in
+        listed_more p.more (total (exact v strides uneven (with stage_loop.id (w values) values)) (before ++ stage_loop ∷ after)) (total (slack v strides uneven counts)
+        (before ++ stage_loop ∷ after)) (total (exact v new_strides new_uneven values) new_loops) (total (slack v new_strides new_uneven new_counts) new_loops)
+        (split_bodies extents 0 splits leaf (with stage_loop.id (w values) values))
+        (λ added. sums (total (exact v strides uneven (with stage_loop.id (w values) values)) before) (total (exact v new_strides new_uneven values) before)
+        (total (exact v strides uneven (with stage_loop.id (w values) values)) after) (total (exact v new_strides new_uneven values) after) p.more added eb ea
         (e_own ∙ p.exact_is) e_inner e_outer t_old t_new)
         (λ added few. slacks (total (slack v strides uneven counts) before) (total (slack v new_strides new_uneven new_counts) before)
-        (total (slack v strides uneven counts) after) (total (slack v new_strides new_uneven new_counts) after) (slack v strides uneven counts own) p.more
+        (total (slack v strides uneven counts) after) (total (slack v new_strides new_uneven new_counts) after) (slack v strides uneven counts stage_loop) p.more
         added sb sa p.slack_is s_inner s_outer u_old u_new few)
         old)
 
   pub linear_stays : (is_update : Bool) (start : List Loop) → Linear start [] → Stays is_update start Linear
   linear_stays is_update start begun = record {
     begun = begun;
-    parted = λ before own after splits line is linear. record {
-      sound = (sound_stays is_update start begun.sound).parted before own after splits line is linear.sound;
+    parted = λ before stage_loop after splits line is linear. record {
+      sound = (sound_stays is_update start begun.sound).parted before stage_loop after splits line is linear.sound;
       sum =
-          let counts_are : counts_from extents 0 (splits ++ split_by own line ∷ []) ≡ more_counts (counts_from extents 0 splits) (length splits)
-          (split_by own line) = counts-more splits extents 0 (length splits) (split_by own line) (omega arith) in
-          let strides_are : strides_from whole_strides 0 (splits ++ split_by own line ∷ []) ≡ more_strides (strides_from whole_strides 0 splits) (length splits)
-          (split_by own line) = strides-more splits whole_strides 0 (length splits) (split_by own line) (omega arith) in
-          let uneven_are : uneven_from even 0 (splits ++ split_by own line ∷ []) ≡ more_uneven (uneven_from even 0 splits) (length splits) (split_by own line) =
-          uneven-more splits even 0 (length splits) (split_by own line) (omega arith) in
-          let bodies_are : split_bodies extents 0 (splits ++ split_by own line ∷ []) leaf ≡ split_body (counts_from extents 0 splits) (length splits)
-          (split_by own line) (split_bodies extents 0 splits leaf) = bodies-more splits extents 0 (length splits) (split_by own line) leaf (omega arith) in
-          rw (counts_are, strides_are, uneven_are, bodies_are) (sum_parted is_update before own after splits line is linear);
+          let counts_are : counts_from extents 0 (splits ++ split_by stage_loop line ∷ []) ≡ more_counts (counts_from extents 0 splits) (length splits)
+          (split_by stage_loop line) = counts-more splits extents 0 (length splits) (split_by stage_loop line)
+          (omega arith) in
+          let strides_are : strides_from whole_strides 0 (splits ++ split_by stage_loop line ∷ []) ≡ more_strides (strides_from whole_strides 0 splits) (length splits)
+          (split_by stage_loop line) = strides-more splits whole_strides 0 (length splits) (split_by stage_loop line)
+          (omega arith) in
+          let uneven_are : uneven_from even 0 (splits ++ split_by stage_loop line ∷ []) ≡ more_uneven (uneven_from even 0 splits) (length splits) (split_by stage_loop line) =
+          uneven-more splits even 0 (length splits) (split_by stage_loop line) (omega arith) in
+          let bodies_are : split_bodies extents 0 (splits ++ split_by stage_loop line ∷ []) leaf ≡ split_body (counts_from extents 0 splits) (length splits)
+          (split_by stage_loop line) (split_bodies extents 0 splits leaf) = bodies-more splits extents 0 (length splits) (split_by stage_loop line) leaf (omega arith) in
+          rw (counts_are, strides_are, uneven_are, bodies_are) (sum_parted is_update before stage_loop after splits line is linear);
     };
     marked = λ loops new splits same linear. record {
       sound = (sound_stays is_update start begun.sound).marked loops new splits same linear.sound;
       sum = λ values in_range.
-          let old = linear.sum values (λ i l. in_range i (omega (arith, bare_total (has_id i) (λ own. refl) new loops same))) in
+          let old = linear.sum values (λ i l. in_range i (omega (arith, bare_total (has_id i) (λ stage_loop. refl) new loops same))) in
           rw (
-            bare_total (exact v (strides_from whole_strides 0 splits) (uneven_from even 0 splits) values) (λ own. refl) new loops same,
+            bare_total (exact v (strides_from whole_strides 0 splits) (uneven_from even 0 splits) values) (λ stage_loop. refl) new loops same,
             bare_total
-                (slack v (strides_from whole_strides 0 splits) (uneven_from even 0 splits) (counts_from extents 0 splits)) (λ own. refl) new loops same,
+                (slack v (strides_from whole_strides 0 splits) (uneven_from even 0 splits) (counts_from extents 0 splits)) (λ stage_loop. refl) new loops same,
           ) old;
     };
     moved = λ loops new splits same order linear. record {

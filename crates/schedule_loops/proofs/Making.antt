@@ -22,14 +22,14 @@ total-append value (x ∷ xs) ys = omega (arith, total-append value xs ys)
 
 -- a split, as a line says it of a loop
 abbrev pub split_by : Loop → SplitLine → Split
-split_by own line = record { of = own.id; factor = line.factor; tail = line.tail }
+split_by stage_loop line = record { of = stage_loop.id; factor = line.factor; tail = line.tail }
 
 -- ---- what holds at first, and stays through each line
 
 pub record Stays (is_update : Bool) (start : List Loop) (P : List Loop → List Split → Type 0) : Type 0 where
   pub begun : P start []
-  pub parted : (before : List Loop) (own : Loop) (after : List Loop) (splits : List Split) (line : SplitLine) → IsSplit is_update line
-      → P (before ++ own ∷ after) splits → P (before ++ (parts own (length splits) line ++ after)) (splits ++ split_by own line ∷ [])
+  pub parted : (before : List Loop) (stage_loop : Loop) (after : List Loop) (splits : List Split) (line : SplitLine) → IsSplit is_update line
+      → P (before ++ stage_loop ∷ after) splits → P (before ++ (parts stage_loop (length splits) line ++ after)) (splits ++ split_by stage_loop line ∷ [])
   pub marked : (loops new : List Loop) (splits : List Split) → map bare new ≡ map bare loops → P loops splits → P new splits
   pub moved : (loops new : List Loop) (splits : List Split) → SameLoops new loops → reductions new ≡ reductions loops → P loops splits → P new splits
 
@@ -78,7 +78,7 @@ pub record Sound (loops : List Loop) (splits : List Split) : Type 0 where
   pub unique : Unique loops
   pub old : (id : LoopId) → 1 ≤ total (has_id id) loops → is_old (length splits) id ≡ true
 
-pub bare_total : (value : Loop → ℕ) → ((own : Loop) → value own ≡ value (bare own)) → (new loops : List Loop) → map bare new ≡ map bare loops
+pub bare_total : (value : Loop → ℕ) → ((stage_loop : Loop) → value stage_loop ≡ value (bare stage_loop)) → (new loops : List Loop) → map bare new ≡ map bare loops
     → total value new ≡ total value loops
 bare_total value kept [] [] e = refl
 bare_total value kept [] (y ∷ ys) e = cc
@@ -97,14 +97,14 @@ is_old_has place loops id old new = at (total (has_id id) loops) refl
     at zero e = e
     at (suc n) e = let s : is_old place id ≡ true = old id (omega arith) in absurd cc
 
-pub total_parts : (value : Loop → ℕ) (before : List Loop) (own : Loop) (after : List Loop) (place : ℕ) (line : SplitLine)
-    → total value (before ++ (parts own place line ++ after)) + value own ≡ total value (before ++ own ∷ after) + total value (parts own place line)
-total_parts value before own after place line =
+pub total_parts : (value : Loop → ℕ) (before : List Loop) (stage_loop : Loop) (after : List Loop) (place : ℕ) (line : SplitLine)
+    → total value (before ++ (parts stage_loop place line ++ after)) + value stage_loop ≡ total value (before ++ stage_loop ∷ after) + total value (parts stage_loop place line)
+total_parts value before stage_loop after place line =
     omega (
       arith,
-      total-append value before (parts own place line ++ after),
-      total-append value before (own ∷ after),
-      total-append value (parts own place line)
+      total-append value before (parts stage_loop place line ++ after),
+      total-append value before (stage_loop ∷ after),
+      total-append value (parts stage_loop place line)
           after,
     )
 
@@ -121,41 +121,41 @@ part_of place id = elim (cases_id (ids.Inner place) id) [
 ]
 
 -- how often the parts are a loop
-pub parts_inner : (own : Loop) (place : ℕ) (line : SplitLine) → total (has_id (ids.Inner place)) (parts own place line) ≡ 1
-parts_inner own place line = rw (same_id-self (ids.Inner place)) refl
+pub parts_inner : (stage_loop : Loop) (place : ℕ) (line : SplitLine) → total (has_id (ids.Inner place)) (parts stage_loop place line) ≡ 1
+parts_inner stage_loop place line = rw (same_id-self (ids.Inner place)) refl
 
-pub parts_outer : (own : Loop) (place : ℕ) (line : SplitLine) → total (has_id (ids.Outer place)) (parts own place line) ≡ 1
-parts_outer own place line = rw (same_id-self (ids.Outer place)) refl
+pub parts_outer : (stage_loop : Loop) (place : ℕ) (line : SplitLine) → total (has_id (ids.Outer place)) (parts stage_loop place line) ≡ 1
+parts_outer stage_loop place line = rw (same_id-self (ids.Outer place)) refl
 
-pub parts_neither : (own : Loop) (place : ℕ) (line : SplitLine) (id : LoopId) → same_id (ids.Inner place) id ≡ false → same_id (ids.Outer place) id ≡ false
-    → total (has_id id) (parts own place line) ≡ 0
-parts_neither own place line id d f = rw (d, f) refl
+pub parts_neither : (stage_loop : Loop) (place : ℕ) (line : SplitLine) (id : LoopId) → same_id (ids.Inner place) id ≡ false → same_id (ids.Outer place) id ≡ false
+    → total (has_id id) (parts stage_loop place line) ≡ 0
+parts_neither stage_loop place line id d f = rw (d, f) refl
 
-sound_parted : (before : List Loop) (own : Loop) (after : List Loop) (splits : List Split) (line : SplitLine)
-    → Sound (before ++ own ∷ after) splits → Sound (before ++ (parts own (length splits) line ++ after)) (splits ++ split_by own line ∷ [])
-sound_parted before own after splits line sound =
+sound_parted : (before : List Loop) (stage_loop : Loop) (after : List Loop) (splits : List Split) (line : SplitLine)
+    → Sound (before ++ stage_loop ∷ after) splits → Sound (before ++ (parts stage_loop (length splits) line ++ after)) (splits ++ split_by stage_loop line ∷ [])
+sound_parted before stage_loop after splits line sound =
     let place = length splits in
-    let more : length (splits ++ split_by own line ∷ []) ≡ suc (length splits) = omega (arith, length-append splits (split_by own line ∷ [])) in
+    let more : length (splits ++ split_by stage_loop line ∷ []) ≡ suc (length splits) = omega (arith, length-append splits (split_by stage_loop line ∷ [])) in
     record {
       unique = λ id. elim (part_of (length splits) id) [
-        | IsInner e ↦ subst (λ (i : LoopId). total (has_id i) (before ++ (parts own (length splits) line ++ after)) ≤ 1) (sym e)
+        | IsInner e ↦ subst (λ (i : LoopId). total (has_id i) (before ++ (parts stage_loop (length splits) line ++ after)) ≤ 1) (sym e)
             (omega (
               arith,
-              total_parts (has_id (ids.Inner (length splits))) before own after (length splits) line,
-              parts_inner own (length splits) line,
-              is_old_has (length splits) (before ++ own ∷ after) (ids.Inner (length splits)) sound.old (inner_new (length splits)),
+              total_parts (has_id (ids.Inner (length splits))) before stage_loop after (length splits) line,
+              parts_inner stage_loop (length splits) line,
+              is_old_has (length splits) (before ++ stage_loop ∷ after) (ids.Inner (length splits)) sound.old (inner_new (length splits)),
             ))
-        | IsOuter e ↦ subst (λ (i : LoopId). total (has_id i) (before ++ (parts own (length splits) line ++ after)) ≤ 1) (sym e)
+        | IsOuter e ↦ subst (λ (i : LoopId). total (has_id i) (before ++ (parts stage_loop (length splits) line ++ after)) ≤ 1) (sym e)
             (omega (
               arith,
-              total_parts (has_id (ids.Outer (length splits))) before own after (length splits) line,
-              parts_outer own (length splits) line,
-              is_old_has (length splits) (before ++ own ∷ after) (ids.Outer (length splits)) sound.old (outer_new (length splits)),
+              total_parts (has_id (ids.Outer (length splits))) before stage_loop after (length splits) line,
+              parts_outer stage_loop (length splits) line,
+              is_old_has (length splits) (before ++ stage_loop ∷ after) (ids.Outer (length splits)) sound.old (outer_new (length splits)),
             ))
         | IsNeither d f ↦ omega (
           arith,
-          total_parts (has_id id) before own after (length splits) line,
-          parts_neither own (length splits) line id d f,
+          total_parts (has_id id) before stage_loop after (length splits) line,
+          parts_neither stage_loop (length splits) line id d f,
           sound.unique id,
         )
       ];
@@ -165,8 +165,8 @@ sound_parted before own after splits line sound =
         | IsNeither d f ↦ older (length splits) id (sound.old id (omega (
           arith,
           there,
-          total_parts (has_id id) before own after (length splits) line,
-          parts_neither own (length splits) line id d f,
+          total_parts (has_id id) before stage_loop after (length splits) line,
+          parts_neither stage_loop (length splits) line id d f,
         )))
       ]);
     }
@@ -186,9 +186,9 @@ sound_stays is_update start sound = record {
 }
 
 -- the loop that is split is no other
-pub own_apart : (before : List Loop) (own : Loop) (after : List Loop) → Unique (before ++ own ∷ after)
-    → total (has_id own.id) before + total (has_id own.id) after ≡ 0
-own_apart before own after unique = omega (arith, unique own.id, total-append (has_id own.id) before (own ∷ after), has_same own)
+pub own_apart : (before : List Loop) (stage_loop : Loop) (after : List Loop) → Unique (before ++ stage_loop ∷ after)
+    → total (has_id stage_loop.id) before + total (has_id stage_loop.id) after ≡ 0
+own_apart before stage_loop after unique = omega (arith, unique stage_loop.id, total-append (has_id stage_loop.id) before (stage_loop ∷ after), has_same stage_loop)
 
 -- loops that are old and none of which is one
 pub apart_from : (place : ℕ) (of : LoopId) (loops : List Loop) → ((id : LoopId) → 1 ≤ total (has_id id) loops → is_old place id ≡ true)

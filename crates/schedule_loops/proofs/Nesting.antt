@@ -11,25 +11,26 @@ use Rattle.schedule_loops.proofs.Ids.{cases_id, swapped_id, with_same, with_othe
 
 -- 1 for the loop that is this one
 abbrev pub has_id : LoopId → Loop → ℕ
-has_id id own = if same_id own.id id then 1 else 0
+has_id id stage_loop = if same_id stage_loop.id id then 1 else 0
 
 -- The value of each of the loops is one of its iterations.
 abbrev pub InRange : Values → List Loop → Values → Type 0
 InRange counts loops values = (id : LoopId) → 1 ≤ total (has_id id) loops → values id < counts id
 
-pub has_other : (id : LoopId) (own : Loop) → same_id own.id id ≡ false → has_id id own ≡ 0
-has_other id own d = rw d refl
+pub has_other : (id : LoopId) (stage_loop : Loop) → same_id stage_loop.id id ≡ false → has_id id stage_loop ≡ 0
+has_other id stage_loop d = rw d refl
 
-pub has_same : (own : Loop) → has_id own.id own ≡ 1
-has_same own = rw (same_id-self own.id) refl
+pub has_same : (stage_loop : Loop) → has_id stage_loop.id stage_loop ≡ 1
+has_same stage_loop = rw (same_id-self stage_loop.id) refl
 
-pub in_range_more : (counts : Values) (own : Loop) (outside : List Loop) (values : Values) (n : ℕ) → InRange counts outside values → n < counts own.id
-    → InRange counts (own ∷ outside) (with own.id n values)
-in_range_more counts own outside values n in_range l id there = elim (cases_id own.id id) [
-  | inl e ↦ subst (λ (i : LoopId). with own.id n values i < counts i) e (omega (arith, with_same own.id n values, l))
+pub in_range_more : (counts : Values) (stage_loop : Loop) (outside : List Loop) (values : Values) (n : ℕ) → InRange counts outside values → n < counts stage_loop.id
+    → InRange counts (stage_loop ∷ outside) (with stage_loop.id n values)
+in_range_more counts stage_loop outside values n in_range l id there = elim (cases_id stage_loop.id id) [
+  | inl e ↦ subst (λ (i : LoopId). with stage_loop.id n values i < counts i) e
+      (omega (arith, with_same stage_loop.id n values, l))
   | inr d ↦
-      let out : 1 ≤ total (has_id id) outside = omega (arith, has_other id own d, there) in
-      omega (arith, with_other own.id n values id (swapped_id own.id id d), in_range id out)
+      let out : 1 ≤ total (has_id id) outside = omega (arith, has_other id stage_loop d, there) in
+      omega (arith, with_other stage_loop.id n values id (swapped_id stage_loop.id id d), in_range id out)
 ]
 
 -- bodies that list the same under all iterations do so in a nest

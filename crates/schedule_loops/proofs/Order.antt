@@ -32,32 +32,32 @@ quotient_below n extent factor some l = (div-lt_iff_lt-mul {k = factor} {x = n} 
 
 -- the loops of a split
 abbrev pub inner_part : Loop → ℕ → SplitLine → Loop
-inner_part own place line = record {
+inner_part stage_loop place line = record {
   id = ids.Inner place;
   name = line.inner;
-  variable = own.variable;
+  variable = stage_loop.variable;
   inner_of = Some line.factor;
   is_from_shift =
-      own.is_from_shift || is_shift line.tail;
+      stage_loop.is_from_shift || is_shift line.tail;
   marked = None;
 }
 
 abbrev pub outer_part : Loop → ℕ → SplitLine → Loop
-outer_part own place line = record {
+outer_part stage_loop place line = record {
   id = ids.Outer place;
   name = line.outer;
-  variable = own.variable;
+  variable = stage_loop.variable;
   inner_of = None;
-  is_from_shift = own.is_from_shift
+  is_from_shift = stage_loop.is_from_shift
       || is_shift line.tail;
   marked = None;
 }
 
 -- A test of loops that parts pass only if what is split passes it, and is not shifted.
 pub record IsPassedOn (is_update : Bool) (test : Loop → Bool) : Type 0 where
-  pub bare_is : (own : Loop) → test own ≡ test (bare own)
-  pub inner : (own : Loop) (place : ℕ) (line : SplitLine) (id : LoopId) → IsSplit is_update line → IsAmong test (parts own place line) id
-      → (test own ≡ true) × (line.tail ≡ tails.Guard)
+  pub bare_is : (stage_loop : Loop) → test stage_loop ≡ test (bare stage_loop)
+  pub inner : (stage_loop : Loop) (place : ℕ) (line : SplitLine) (id : LoopId) → IsSplit is_update line → IsAmong test (parts stage_loop place line) id
+      → (test stage_loop ≡ true) × (line.tail ≡ tails.Guard)
 
 module _ (A : Type 0) (extents : Values) (seen : Values → A) (keep : A → Bool) where
   abbrev body_of : List Split → Values → List A
@@ -90,19 +90,19 @@ module _ (A : Type 0) (extents : Values) (seen : Values → A) (keep : A → Boo
       ∙ with_other (ids.Outer place) (given split.of / split.factor) given id (swapped_id (ids.Outer place) id f)
 
   module _ (is_update : Bool) (test : Loop → Bool) (passed_on : IsPassedOn is_update test)
-      (before : List Loop) (own : Loop) (after : List Loop) (splits : List Split) (line : SplitLine)
-      (is : IsSplit is_update line) (sound : Sound (before ++ own ∷ after) splits) where
+      (before : List Loop) (stage_loop : Loop) (after : List Loop) (splits : List Split) (line : SplitLine)
+      (is : IsSplit is_update line) (sound : Sound (before ++ stage_loop ∷ after) splits) where
     abbrev place : ℕ
     place = length splits
 
     abbrev split : Split
-    split = split_by own line
+    split = split_by stage_loop line
 
     abbrev old_loops : List Loop
-    old_loops = before ++ own ∷ after
+    old_loops = before ++ stage_loop ∷ after
 
     abbrev new_loops : List Loop
-    new_loops = before ++ (parts own (length splits) line ++ after)
+    new_loops = before ++ (parts stage_loop (length splits) line ++ after)
 
     abbrev counts : Values
     counts = counts_of splits
@@ -110,62 +110,67 @@ module _ (A : Type 0) (extents : Values) (seen : Values → A) (keep : A → Boo
     abbrev new_counts : Values
     new_counts = more_counts counts place split
 
-    own_old : is_old place own.id ≡ true
-    own_old = sound.old own.id (omega (arith, total-append (has_id own.id) before (own ∷ after), has_same own))
+    own_old : is_old place stage_loop.id ≡ true
+    own_old = sound.old stage_loop.id (omega (
+      arith,
+      total-append (has_id stage_loop.id) before (stage_loop ∷ after),
+      has_same stage_loop,
+    ))
 
     count_inner : new_counts (ids.Inner place) ≡ line.factor
-    count_inner = with_same (ids.Inner place) line.factor (with (ids.Outer place) (outer_extent (counts own.id) line.factor) counts)
+    count_inner = with_same (ids.Inner place) line.factor (with (ids.Outer place) (outer_extent (counts stage_loop.id) line.factor) counts)
 
-    count_outer : new_counts (ids.Outer place) ≡ outer_extent (counts own.id) line.factor
-    count_outer = with_same (ids.Outer place) (outer_extent (counts own.id) line.factor) counts
+    count_outer : new_counts (ids.Outer place) ≡ outer_extent (counts stage_loop.id) line.factor
+    count_outer = with_same (ids.Outer place) (outer_extent (counts stage_loop.id) line.factor) counts
 
     -- a loop that passes the test is a part, and then so does the loop that is split, or was there
-    own_among : (id : LoopId) → IsAmong test (parts own place line) id → IsAmong test old_loops own.id
+    own_among : (id : LoopId) → IsAmong test (parts stage_loop place line) id → IsAmong test old_loops stage_loop.id
     own_among id there =
-        let passed : test own ≡ true = (passed_on.inner own place line id is there).0 in
-        let one : is_one test own.id own ≡ 1 = rw (same_id-self own.id, passed) refl in
-        omega (arith, total-append (is_one test own.id) before (own ∷ after))
+        let passed : test stage_loop ≡ true = (passed_on.inner stage_loop place line id is there).0 in
+        let one : is_one test stage_loop.id stage_loop ≡ 1 = rw (same_id-self stage_loop.id, passed) refl in
+        omega (arith, total-append (is_one test stage_loop.id) before (stage_loop ∷ after))
 
     -- a new loop that passes the test is a part
-    new_among : (id : LoopId) → is_old place id ≡ false → IsAmong test new_loops id → IsAmong test (parts own place line) id
+    new_among : (id : LoopId) → is_old place id ≡ false → IsAmong test new_loops id → IsAmong test (parts stage_loop place line) id
     new_among id new there =
-        omega (arith, total_parts (is_one test id) before own after place line, among_has test id old_loops, is_old_has place old_loops id sound.old new)
+        omega (arith, total_parts (is_one test id) before stage_loop after place line, among_has test id old_loops, is_old_has place old_loops id sound.old new)
 
     -- one that is no part was there, and is not the one that is split
     old_among : (id : LoopId) → same_id (ids.Inner place) id ≡ false → same_id (ids.Outer place) id ≡ false → IsAmong test new_loops id
         → IsAmong test old_loops id
     old_among id d f there =
-        omega (arith, total_parts (is_one test id) before own after place line, among_has test id (parts own place line), parts_neither own place line id d f)
+        omega (arith, total_parts (is_one test id) before stage_loop after place line, among_has test id (parts stage_loop place line), parts_neither stage_loop place line id d f)
 
     not_own : (id : LoopId) → same_id (ids.Inner place) id ≡ false → same_id (ids.Outer place) id ≡ false → IsAmong test new_loops id
-        → same_id id own.id ≡ false
-    not_own id d f there = elim (cases_id id own.id) [
+        → same_id id stage_loop.id ≡ false
+    not_own id d f there = elim (cases_id id stage_loop.id) [
       | inl e ↦
           let none : total (has_id id) before + total (has_id id) after ≡ 0 = subst (λ (i : LoopId). total (has_id i) before + total (has_id i) after ≡ 0)
-          (sym e) (own_apart before own after sound.unique) in
+          (sym e) (own_apart before stage_loop after sound.unique) in
           absurd (omega (
             arith,
-            total-append (is_one test id) before (parts own place line ++ after),
-            total-append (is_one test id) (parts own place line)
+            total-append (is_one test id) before (parts stage_loop place line ++ after),
+            total-append (is_one test id) (parts stage_loop place line)
                 after,
-            among_has test id (parts own place line),
+            among_has test id (parts stage_loop place line),
             among_has test id before,
             among_has test id after,
-            parts_neither own place line id d f,
+            parts_neither stage_loop place line id d f,
           ))
       | inr o ↦ o
     ]
 
     -- the values of the parts put together are those of loops that were there
-    pub whole_in_range : (values : Values) → InRange new_counts new_loops values → whole_of counts place split values < counts own.id
-        → InRange counts old_loops (with own.id (whole_of counts place split values) values)
-    whole_in_range values in_range l id there = elim (cases_id id own.id) [
-      | inl e ↦ subst (λ (i : LoopId). with own.id (whole_of counts place split values) values i < counts i) (sym e)
-          (omega (arith, with_same own.id (whole_of counts place split values) values))
+    pub whole_in_range : (values : Values) → InRange new_counts new_loops values → whole_of counts place split values < counts stage_loop.id
+        → InRange counts old_loops (with stage_loop.id (whole_of counts place split values) values)
+    whole_in_range values in_range l id there = elim (cases_id id stage_loop.id) [
+      | inl e ↦ subst (λ (i : LoopId). with stage_loop.id (whole_of counts place split values) values i < counts i)
+          (sym e)
+          (omega (arith, with_same stage_loop.id (whole_of counts place split values) values))
       | inr d ↦
-          let none : has_id id own ≡ 0 = has_other id own (swapped_id id own.id d) in
-          let r : values id < new_counts id = in_range id (omega (arith, total_parts (has_id id) before own after place line)) in
-          omega (arith, with_other own.id (whole_of counts place split values) values id d, counts_old A counts place split id (sound.old id there))
+          let none : has_id id stage_loop ≡ 0 = has_other id stage_loop (swapped_id id stage_loop.id d) in
+          let r : values id < new_counts id = in_range id (omega (arith, total_parts (has_id id) before stage_loop after place line)) in
+          omega (arith, with_other stage_loop.id (whole_of counts place split values) values id d, counts_old A counts place split id (sound.old id there))
     ]
 
     whole_guard : (values : Values) → line.tail ≡ tails.Guard → values (ids.Outer place) * line.factor + values (ids.Inner place) ≡ whole_of counts place split
@@ -176,10 +181,10 @@ module _ (A : Type 0) (extents : Values) (seen : Values → A) (keep : A → Boo
     kept_cond true xs none = none refl
     kept_cond false xs none = refl
 
-    selects_parted : Selects test old_loops splits → Selects test new_loops (splits ++ split_by own line ∷ [])
+    selects_parted : Selects test old_loops splits → Selects test new_loops (splits ++ split_by stage_loop line ∷ [])
     selects_parted sel =
-        let counts_are : counts_of (splits ++ split_by own line ∷ []) ≡ new_counts = counts-more splits extents 0 (length splits) split (omega arith) in
-        let bodies_are : body_of (splits ++ split_by own line ∷ []) ≡ split_body counts place split (body_of splits) = bodies-more splits extents 0
+        let counts_are : counts_of (splits ++ split_by stage_loop line ∷ []) ≡ new_counts = counts-more splits extents 0 (length splits) split (omega arith) in
+        let bodies_are : body_of (splits ++ split_by stage_loop line ∷ []) ≡ split_body counts place split (body_of splits) = bodies-more splits extents 0
         (length splits) split (λ values. seen values ∷ []) (omega arith) in
         let given = parted_given sel.given place split in
         let range : (id : LoopId) → IsAmong test new_loops id → given id < new_counts id = λ id there. elim (part_of place id) [
@@ -188,17 +193,17 @@ module _ (A : Type 0) (extents : Values) (seen : Values → A) (keep : A → Boo
             given_inner sel.given place split,
             count_inner,
             mod-lt
-                (sel.given own.id) is.some,
+                (sel.given stage_loop.id) is.some,
           ))
           | IsOuter e ↦
-              let g : sel.given own.id < counts own.id = sel.range own.id (own_among (ids.Outer place) (new_among (ids.Outer place) (outer_new place)
+              let g : sel.given stage_loop.id < counts stage_loop.id = sel.range stage_loop.id (own_among (ids.Outer place) (new_among (ids.Outer place) (outer_new place)
               (subst (IsAmong test new_loops) e there))) in
               subst (λ (i : LoopId). given i < new_counts i) (sym e) (omega (
                 arith,
                 given_outer sel.given place split,
                 count_outer,
                 quotient_below
-                    (sel.given own.id) (counts own.id) line.factor is.some g,
+                    (sel.given stage_loop.id) (counts stage_loop.id) line.factor is.some g,
               ))
           | IsNeither d f ↦
               omega (
@@ -211,10 +216,10 @@ module _ (A : Type 0) (extents : Values) (seen : Values → A) (keep : A → Boo
         ] in
         let only : Only test new_counts new_loops given (λ values. filter keep (split_body counts place split (body_of splits) values)) =
         λ values in_range id there differs.
-        kept_cond (nat_lt (whole_of counts place split values) (counts own.id)) (body_of splits (with own.id (whole_of counts place split values) values))
+        kept_cond (nat_lt (whole_of counts place split values) (counts stage_loop.id)) (body_of splits (with stage_loop.id (whole_of counts place split values) values))
         (λ below.
-        let l : whole_of counts place split values < counts own.id = ltb-true (whole_of counts place split values) (counts own.id) below in
-        let whole_values : Values = with own.id (whole_of counts place split values) values in
+        let l : whole_of counts place split values < counts stage_loop.id = ltb-true (whole_of counts place split values) (counts stage_loop.id) below in
+        let whole_values : Values = with stage_loop.id (whole_of counts place split values) values in
         let r : InRange counts old_loops whole_values = whole_in_range values in_range l in
         elim (part_of place id) [
           | IsInner e ↦
@@ -225,9 +230,9 @@ module _ (A : Type 0) (extents : Values) (seen : Values → A) (keep : A → Boo
                 in_range (ids.Inner place)
                     (omega (arith, among_has test (ids.Inner place) new_loops, subst (IsAmong test new_loops) e there)),
               ) in
-              sel.only whole_values r own.id (own_among (ids.Inner place) among) (λ same.
-              let w : values (ids.Outer place) * line.factor + values (ids.Inner place) ≡ sel.given own.id = whole_guard values (passed_on.inner own place line
-              (ids.Inner place) is among).1 ∙ sym (with_same own.id (whole_of counts place split values) values) ∙ same in
+              sel.only whole_values r stage_loop.id (own_among (ids.Inner place) among) (λ same.
+              let w : values (ids.Outer place) * line.factor + values (ids.Inner place) ≡ sel.given stage_loop.id = whole_guard values (passed_on.inner stage_loop place line
+              (ids.Inner place) is among).1 ∙ sym (with_same stage_loop.id (whole_of counts place split values) values) ∙ same in
               differs (subst (λ (i : LoopId). values i ≡ given i) (sym e)
               (sym (mod-mul-add (values (ids.Outer place)) line.factor (values (ids.Inner place)) li) ∙ ap (λ (n : ℕ). n % line.factor) w
               ∙ sym (given_inner sel.given place split))))
@@ -239,27 +244,27 @@ module _ (A : Type 0) (extents : Values) (seen : Values → A) (keep : A → Boo
                 in_range (ids.Inner place)
                     (omega (
                       arith,
-                      total-append (has_id (ids.Inner place)) before (parts own place line ++ after),
+                      total-append (has_id (ids.Inner place)) before (parts stage_loop place line ++ after),
                       total-append (has_id (ids.Inner place))
-                          (parts own place line) after,
-                      parts_inner own place line,
+                          (parts stage_loop place line) after,
+                      parts_inner stage_loop place line,
                     )),
               ) in
-              sel.only whole_values r own.id (own_among (ids.Outer place) among) (λ same.
-              let w : values (ids.Outer place) * line.factor + values (ids.Inner place) ≡ sel.given own.id = whole_guard values (passed_on.inner own place line
-              (ids.Outer place) is among).1 ∙ sym (with_same own.id (whole_of counts place split values) values) ∙ same in
+              sel.only whole_values r stage_loop.id (own_among (ids.Outer place) among) (λ same.
+              let w : values (ids.Outer place) * line.factor + values (ids.Inner place) ≡ sel.given stage_loop.id = whole_guard values (passed_on.inner stage_loop place line
+              (ids.Outer place) is among).1 ∙ sym (with_same stage_loop.id (whole_of counts place split values) values) ∙ same in
               differs (subst (λ (i : LoopId). values i ≡ given i) (sym e)
               (sym (div-mul-add (values (ids.Outer place)) line.factor (values (ids.Inner place)) li) ∙ ap (λ (n : ℕ). n / line.factor) w
               ∙ sym (given_outer sel.given place split))))
           | IsNeither d f ↦
               sel.only whole_values r id (old_among id d f there) (λ same.
-              differs (sym (with_other own.id (whole_of counts place split values) values id (not_own id d f there)) ∙ same
+              differs (sym (with_other stage_loop.id (whole_of counts place split values) values id (not_own id d f there)) ∙ same
               ∙ sym (given_old sel.given place split id d f)))
         ]) in
         record {
           given = given;
           range = subst (λ (c : Values). (id : LoopId) → IsAmong test new_loops id → given id < c id) (sym counts_are) range;
-          only = subst (λ (c : Values). Only test c new_loops given (λ values. filter keep (body_of (splits ++ split_by own line ∷ []) values)))
+          only = subst (λ (c : Values). Only test c new_loops given (λ values. filter keep (body_of (splits ++ split_by stage_loop line ∷ []) values)))
               (sym counts_are)
               (subst (λ (b : Values → List A). Only test new_counts new_loops given (λ values. filter keep (b values))) (sym bodies_are) only);
         }
@@ -280,20 +285,22 @@ module _ (A : Type 0) (extents : Values) (seen : Values → A) (keep : A → Boo
       → Stays is_update start (Settled test)
   settled_stays is_update test start given passed_on begins = record {
     begun = record { sound = begins.sound; selects = record { given = given; range = begins.range; only = begins.only } };
-    parted = λ before own after splits line is settled. record {
-      sound = (sound_stays is_update start begins.sound).parted before own after splits line is settled.sound;
-      selects = selects_parted is_update test passed_on before own after splits line is settled.sound settled.selects;
+    parted = λ before stage_loop after splits line is settled. record {
+      sound = (sound_stays is_update start begins.sound).parted before stage_loop after splits line is settled.sound;
+      selects = selects_parted is_update test passed_on before stage_loop after splits line is settled.sound
+          settled.selects;
     };
     marked = λ loops new splits same settled.
         let ones : (id : LoopId) → total (is_one test id) new ≡ total (is_one test id) loops = λ id. bare_total (is_one test id)
-        (λ own. ap (λ (b : Bool). cond (same_id own.id id && b) 1 0) (passed_on.bare_is own)) new loops same in
+        (λ stage_loop. ap (λ (b : Bool). cond (same_id stage_loop.id id && b) 1 0) (passed_on.bare_is stage_loop)) new
+        loops same in
         record {
           sound = (sound_stays is_update start begins.sound).marked loops new splits same settled.sound;
           selects = record {
             given = settled.selects.given;
             range = λ id there. settled.selects.range id (omega (arith, ones id));
             only = λ values in_range id there d.
-                settled.selects.only values (λ i l. in_range i (omega (arith, bare_total (has_id i) (λ own. refl) new loops same))) id (omega (arith, ones id))
+                settled.selects.only values (λ i l. in_range i (omega (arith, bare_total (has_id i) (λ stage_loop. refl) new loops same))) id (omega (arith, ones id))
                 d;
           };
         };
@@ -336,26 +343,26 @@ module _ (A : Type 0) (extents : Values) (seen : Values → A) (keep : A → Boo
       ∷ []) (omega arith) (leaf_on_old whole) in
       record {
         begun = record { settled = settled.begun; same = λ values. refl };
-        parted = λ before own after splits line is ordered. record {
-          settled = settled.parted before own after splits line is ordered.settled;
+        parted = λ before stage_loop after splits line is ordered. record {
+          settled = settled.parted before stage_loop after splits line is ordered.settled;
           same = λ values.
               let place = length splits in
-              let sound : Sound (before ++ own ∷ after) splits = ordered.settled.sound in
-              let none = own_apart before own after sound.unique in
-              let new_loops = before ++ (parts own (length splits) line ++ after) in
-              let counts_are : counts_of (splits ++ split_by own line ∷ []) ≡ more_counts (counts_of splits) (length splits) (split_by own line) =
-              counts-more splits extents 0 (length splits) (split_by own line) (omega arith) in
-              let bodies_are : body_of (splits ++ split_by own line ∷ []) ≡ split_body (counts_of splits) (length splits) (split_by own line) (body_of splits) =
-              bodies-more splits extents 0 (length splits) (split_by own line) (λ values. seen values ∷ []) (omega arith) in
-              ap (λ (c : Values). filter keep (nest c new_loops (body_of (splits ++ split_by own line ∷ [])) values)) counts_are
-              ∙ ap (λ (b : Values → List A). filter keep (nest (more_counts (counts_of splits) (length splits) (split_by own line)) new_loops b values))
+              let sound : Sound (before ++ stage_loop ∷ after) splits = ordered.settled.sound in
+              let none = own_apart before stage_loop after sound.unique in
+              let new_loops = before ++ (parts stage_loop (length splits) line ++ after) in
+              let counts_are : counts_of (splits ++ split_by stage_loop line ∷ []) ≡ more_counts (counts_of splits) (length splits) (split_by stage_loop line) =
+              counts-more splits extents 0 (length splits) (split_by stage_loop line) (omega arith) in
+              let bodies_are : body_of (splits ++ split_by stage_loop line ∷ []) ≡ split_body (counts_of splits) (length splits) (split_by stage_loop line) (body_of splits) =
+              bodies-more splits extents 0 (length splits) (split_by stage_loop line) (λ values. seen values ∷ []) (omega arith) in
+              ap (λ (c : Values). filter keep (nest c new_loops (body_of (splits ++ split_by stage_loop line ∷ [])) values)) counts_are
+              ∙ ap (λ (b : Values → List A). filter keep (nest (more_counts (counts_of splits) (length splits) (split_by stage_loop line)) new_loops b values))
               bodies_are
-              ∙ ap (filter keep) (parted_nest A (counts_of splits) (length splits) (split_by own line) before after (inner_part own (length splits) line)
-              (outer_part own (length splits) line) own (body_of splits)
+              ∙ ap (filter keep) (parted_nest A (counts_of splits) (length splits) (split_by stage_loop line) before after (inner_part stage_loop (length splits) line)
+              (outer_part stage_loop (length splits) line) stage_loop (body_of splits)
               (record { inner_is = refl; outer_is = refl; own_is = refl })
-              (apart_from (length splits) own.id before (λ id there. sound.old id (omega (arith, total-append (has_id id) before (own ∷ after))))
+              (apart_from (length splits) stage_loop.id before (λ id there. sound.old id (omega (arith, total-append (has_id id) before (stage_loop ∷ after))))
               (omega (arith, none)))
-              (apart_from (length splits) own.id after (λ id there. sound.old id (omega (arith, total-append (has_id id) before (own ∷ after))))
+              (apart_from (length splits) stage_loop.id after (λ id there. sound.old id (omega (arith, total-append (has_id id) before (stage_loop ∷ after))))
               (omega (arith, none)))
               (guard_from line.tail is.unshifted) is.some (on splits) values)
               ∙ ordered.same values;
@@ -396,30 +403,33 @@ module _ (A : Type 0) (extents : Values) (seen : Values → A) (keep : A → Boo
   pub quiet_stays : (is_update : Bool) (test : Loop → Bool) (start : List Loop) → IsPassedOn is_update test → Quiet start [] → Stays is_update start Quiet
   quiet_stays is_update test start passed_on begun = record {
     begun = begun;
-    parted = λ before own after splits line is quiet. record {
-      sound = (sound_stays is_update start begun.sound).parted before own after splits line is quiet.sound;
+    parted = λ before stage_loop after splits line is quiet. record {
+      sound = (sound_stays is_update start begun.sound).parted before stage_loop after splits line is quiet.sound;
       none =
-          let counts_are : counts_of (splits ++ split_by own line ∷ []) ≡ more_counts (counts_of splits) (length splits) (split_by own line) =
-          counts-more splits extents 0 (length splits) (split_by own line) (omega arith) in
-          let bodies_are : body_of (splits ++ split_by own line ∷ []) ≡ split_body (counts_of splits) (length splits) (split_by own line) (body_of splits) =
-          bodies-more splits extents 0 (length splits) (split_by own line) (λ values. seen values ∷ []) (omega arith) in
-          let none : (values : Values) → InRange (more_counts (counts_of splits) (length splits) (split_by own line)) (before ++ (parts own (length splits) line
-          ++ after)) values → filter keep (split_body (counts_of splits) (length splits) (split_by own line) (body_of splits) values) ≡ [] =
+          let counts_are : counts_of (splits ++ split_by stage_loop line ∷ []) ≡ more_counts (counts_of splits) (length splits) (split_by stage_loop line) =
+          counts-more splits extents 0 (length splits) (split_by stage_loop line) (omega arith) in
+          let bodies_are : body_of (splits ++ split_by stage_loop line ∷ []) ≡ split_body (counts_of splits) (length splits) (split_by stage_loop line) (body_of splits) =
+          bodies-more splits extents 0 (length splits) (split_by stage_loop line) (λ values. seen values ∷ [])
+          (omega arith) in
+          let none : (values : Values) → InRange (more_counts (counts_of splits) (length splits) (split_by stage_loop line)) (before ++ (parts stage_loop (length splits) line
+          ++ after)) values → filter keep (split_body (counts_of splits) (length splits) (split_by stage_loop line) (body_of splits) values) ≡ [] =
           λ values in_range.
-          let w = whole_of (counts_of splits) (length splits) (split_by own line) values in
-          quiet_cond (nat_lt (whole_of (counts_of splits) (length splits) (split_by own line) values) (counts_of splits own.id))
-          (body_of splits (with own.id (whole_of (counts_of splits) (length splits) (split_by own line) values) values)) (λ below.
-          quiet.none (with own.id (whole_of (counts_of splits) (length splits) (split_by own line) values) values)
-          (whole_in_range is_update test passed_on before own after splits line is quiet.sound values in_range
-          (ltb-true (whole_of (counts_of splits) (length splits) (split_by own line) values) (counts_of splits own.id) below))) in
-          subst (λ (c : Values). (values : Values) → InRange c (before ++ (parts own (length splits) line ++ after)) values
-          → filter keep (body_of (splits ++ split_by own line ∷ []) values) ≡ []) (sym counts_are)
-          (subst (λ (b : Values → List A). (values : Values) → InRange (more_counts (counts_of splits) (length splits) (split_by own line)) (before
-          ++ (parts own (length splits) line ++ after)) values → filter keep (b values) ≡ []) (sym bodies_are) none);
+          let w = whole_of (counts_of splits) (length splits) (split_by stage_loop line) values in
+          quiet_cond (nat_lt (whole_of (counts_of splits) (length splits) (split_by stage_loop line) values) (counts_of splits stage_loop.id))
+          (body_of splits (with stage_loop.id (whole_of (counts_of splits) (length splits) (split_by stage_loop line) values) values)) (λ below.
+          quiet.none (with stage_loop.id (whole_of (counts_of splits) (length splits) (split_by stage_loop line) values)
+          values)
+          (whole_in_range is_update test passed_on before stage_loop after splits line is quiet.sound values in_range
+          (ltb-true (whole_of (counts_of splits) (length splits) (split_by stage_loop line) values) (counts_of splits stage_loop.id) below))) in
+          subst (λ (c : Values). (values : Values) → InRange c (before ++ (parts stage_loop (length splits) line ++ after)) values
+          → filter keep (body_of (splits ++ split_by stage_loop line ∷ []) values) ≡ []) (sym counts_are)
+          (subst (λ (b : Values → List A). (values : Values) → InRange (more_counts (counts_of splits) (length splits) (split_by stage_loop line)) (before
+          ++ (parts stage_loop (length splits) line ++ after)) values → filter keep (b values) ≡ []) (sym bodies_are)
+          none);
     };
     marked = λ loops new splits same quiet. record {
       sound = (sound_stays is_update start begun.sound).marked loops new splits same quiet.sound;
-      none = λ values in_range. quiet.none values (λ i l. in_range i (omega (arith, bare_total (has_id i) (λ own. refl) new loops same)));
+      none = λ values in_range. quiet.none values (λ i l. in_range i (omega (arith, bare_total (has_id i) (λ stage_loop. refl) new loops same)));
     };
     moved = λ loops new splits same order quiet. record {
       sound = (sound_stays is_update start begun.sound).moved loops new splits same order quiet.sound;

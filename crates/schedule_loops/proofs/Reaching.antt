@@ -10,17 +10,17 @@ pub record ReachLeft (value : Loop → ℕ) (all rest : List Loop) (sum : ℕ) :
   pub small : sum + length rest * 2 ^ 56 ≤ length all * 2 ^ 56
   pub few : length all ≤ 5
 
-one_added : (value : Loop → ℕ) (all : List Loop) (own : Loop) (rest : List Loop) (sum added : ℕ) → ReachLeft value all (own ∷ rest) sum → added ≡ value own
+one_added : (value : Loop → ℕ) (all : List Loop) (stage_loop : Loop) (rest : List Loop) (sum added : ℕ) → ReachLeft value all (stage_loop ∷ rest) sum → added ≡ value stage_loop
     → added ≤ 2 ^ 56 → ReachLeft value all rest (sum + added)
-one_added value all own rest sum added left is small = record {
+one_added value all stage_loop rest sum added left is small = record {
   summed = omega (arith, left.summed, is);
   small = omega (arith, left.small, small);
   few = left.few;
 }
 
-pub next_added : (value : Loop → ℕ) (all rest : List Loop) (sum : ℕ) (other own : Loop) (added : ℕ) → 1 ≤ length rest → ReachLeft value all rest sum
-    → own ≡ get_or rest 0 other → added ≡ value own → added ≤ 2 ^ 56
+pub next_added : (value : Loop → ℕ) (all rest : List Loop) (sum : ℕ) (other stage_loop : Loop) (added : ℕ) → 1 ≤ length rest → ReachLeft value all rest sum
+    → stage_loop ≡ get_or rest 0 other → added ≡ value stage_loop → added ≤ 2 ^ 56
     → ReachLeft value all (take (length rest - 1) (drop 1 rest)) (sum + added)
-next_added value all rest sum other own added some left own_is is small =
+next_added value all rest sum other stage_loop added some left own_is is small =
     one_added value all (get_or rest 0 other) (take (length rest - 1) (drop 1 rest)) sum added
     (subst (λ (ls : List Loop). ReachLeft value all ls sum) (first_of_rest rest other some) left) (is ∙ ap value own_is) small

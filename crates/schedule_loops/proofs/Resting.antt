@@ -76,15 +76,16 @@ pub record Leaves (start loops : List Loop) (splits : List Split) : Type 0 where
   pub splits_apart : (v : Variable) → has_variable v start ≡ false → SplitsApart (ids.Whole v) splits
 
 -- what is none of the loops is not one of them
-pub not_among : (id : LoopId) (own : Loop) (count : ℕ) → has_id id own + count ≡ 0 → same_id id own.id ≡ false
-not_among id own count none = elim (cases_id own.id id) [
-  | inl e ↦ let one : has_id id own ≡ 1 = ap (λ (i : LoopId). has_id i own) (sym e) ∙ has_same own in absurd (omega arith)
-  | inr d ↦ swapped_id own.id id d
+pub not_among : (id : LoopId) (stage_loop : Loop) (count : ℕ) → has_id id stage_loop + count ≡ 0
+    → same_id id stage_loop.id ≡ false
+not_among id stage_loop count none = elim (cases_id stage_loop.id id) [
+  | inl e ↦ let one : has_id id stage_loop ≡ 1 = ap (λ (i : LoopId). has_id i stage_loop) (sym e) ∙ has_same stage_loop in absurd (omega arith)
+  | inr d ↦ swapped_id stage_loop.id id d
 ]
 
-parted_apart : (v : Variable) (before : List Loop) (own : Loop) (after : List Loop) → total (has_id (ids.Whole v)) (before ++ own ∷ after) ≡ 0
-    → same_id (ids.Whole v) own.id ≡ false
-parted_apart v before own after none = not_among (ids.Whole v) own 0 (omega (arith, total-append (has_id (ids.Whole v)) before (own ∷ after)))
+parted_apart : (v : Variable) (before : List Loop) (stage_loop : Loop) (after : List Loop) → total (has_id (ids.Whole v)) (before ++ stage_loop ∷ after) ≡ 0
+    → same_id (ids.Whole v) stage_loop.id ≡ false
+parted_apart v before stage_loop after none = not_among (ids.Whole v) stage_loop 0 (omega (arith, total-append (has_id (ids.Whole v)) before (stage_loop ∷ after)))
 
 leaves_stays : (is_update : Bool) (start : List Loop) → Plain start → Stays is_update start (Leaves start)
 leaves_stays is_update start plain = record {

@@ -13,7 +13,7 @@ use Rattle.schedule_loops.proofs.Nesting.{has_id, has_same, InRange, in_range_mo
 
 -- 1 for the loop that is this one, if it passes a test
 abbrev pub is_one : (Loop → Bool) → LoopId → Loop → ℕ
-is_one test id own = if same_id own.id id && test own then 1 else 0
+is_one test id stage_loop = if same_id stage_loop.id id && test stage_loop then 1 else 0
 
 -- It is one of the loops that pass a test.
 abbrev pub IsAmong : (Loop → Bool) → List Loop → LoopId → Type 0
@@ -27,8 +27,8 @@ one_at true true = omega arith
 one_at true false = omega arith
 one_at false passed = omega arith
 
-pub one_has : (test : Loop → Bool) (id : LoopId) (own : Loop) → is_one test id own ≤ has_id id own
-one_has test id own = one_at (same_id own.id id) (test own)
+pub one_has : (test : Loop → Bool) (id : LoopId) (stage_loop : Loop) → is_one test id stage_loop ≤ has_id id stage_loop
+one_has test id stage_loop = one_at (same_id stage_loop.id id) (test stage_loop)
 
 pub among_has : (test : Loop → Bool) (id : LoopId) (loops : List Loop) → total (is_one test id) loops ≤ total (has_id id) loops
 among_has test id [] = omega arith
@@ -94,16 +94,16 @@ given_outside counts (first ∷ ids) id n body on without values =
 -- ---- loops outside reductions have given values
 
 abbrev pub is_free : Loop → Bool
-is_free own = not (is_reduction own.variable)
+is_free stage_loop = not (is_reduction stage_loop.variable)
 
 abbrev pub filled : Values → List Loop → Values → Values
 filled given [] values = values
 filled given (own ∷ others) values = if is_reduction own.variable then filled given others values else with own.id (given own.id) (filled given others values)
 
-without_at : (test : Bool) (id : LoopId) (own : Loop) (others : List LoopId) → same_id own.id id ≡ false → Without id others
-    → Without id (cond test (own.id ∷ others) others)
-without_at true id own others d w = (d, w)
-without_at false id own others d w = w
+without_at : (test : Bool) (id : LoopId) (stage_loop : Loop) (others : List LoopId) → same_id stage_loop.id id ≡ false → Without id others
+    → Without id (cond test (stage_loop.id ∷ others) others)
+without_at true id stage_loop others d w = (d, w)
+without_at false id stage_loop others d w = w
 
 without_from : (id : LoopId) (loops : List Loop) → total (has_id id) loops ≡ 0 → Without id (reductions loops)
 without_from id [] none = tt
@@ -118,26 +118,26 @@ Only test counts loops given body =
     (values : Values) → InRange counts loops values → (id : LoopId) → IsAmong test loops id → values id ≢ given id → body values ≡ []
 
 -- one of the other loops is not this one
-apart : (test : Loop → Bool) (own : Loop) (others : List Loop) (id : LoopId) → Unique (own ∷ others) → IsAmong test others id → same_id id own.id ≡ false
-apart test own others id unique there = elim (cases_id id own.id) [
+apart : (test : Loop → Bool) (stage_loop : Loop) (others : List Loop) (id : LoopId) → Unique (stage_loop ∷ others) → IsAmong test others id → same_id id stage_loop.id ≡ false
+apart test stage_loop others id unique there = elim (cases_id id stage_loop.id) [
   | inl e ↦
-      let one : has_id id own ≡ 1 = ap (λ (i : LoopId). has_id i own) e ∙ has_same own in
+      let one : has_id id stage_loop ≡ 1 = ap (λ (i : LoopId). has_id i stage_loop) e ∙ has_same stage_loop in
       absurd (omega (arith, unique id, among_has test id others))
   | inr d ↦ d
 ]
 
-among_more : (test : Loop → Bool) (own : Loop) (others : List Loop) (id : LoopId) → IsAmong test others id → IsAmong test (own ∷ others) id
-among_more test own others id there = omega arith
+among_more : (test : Loop → Bool) (stage_loop : Loop) (others : List Loop) (id : LoopId) → IsAmong test others id → IsAmong test (stage_loop ∷ others) id
+among_more test stage_loop others id there = omega arith
 
-unique_less : (own : Loop) (others : List Loop) → Unique (own ∷ others) → Unique others
-unique_less own others unique id = omega (arith, unique id)
+unique_less : (stage_loop : Loop) (others : List Loop) → Unique (stage_loop ∷ others) → Unique others
+unique_less stage_loop others unique id = omega (arith, unique id)
 
-only_given : {A : Type 0} (counts : Values) (own : Loop) (others : List Loop) (given : Values) (body : Values → List A) (n : ℕ) → n < counts own.id
-    → Unique (own ∷ others) → Only is_free counts (own ∷ others) given body
-    → Only is_free counts others given (λ v. body (with own.id n v))
-only_given counts own others given body n l unique only values in_range id there d =
-    only (with own.id n values) (in_range_more counts own others values n in_range l) id (among_more is_free own others id there)
-    (λ e. d (sym (with_other own.id n values id (apart is_free own others id unique there)) ∙ e))
+only_given : {A : Type 0} (counts : Values) (stage_loop : Loop) (others : List Loop) (given : Values) (body : Values → List A) (n : ℕ) → n < counts stage_loop.id
+    → Unique (stage_loop ∷ others) → Only is_free counts (stage_loop ∷ others) given body
+    → Only is_free counts others given (λ v. body (with stage_loop.id n v))
+only_given counts stage_loop others given body n l unique only values in_range id there d =
+    only (with stage_loop.id n values) (in_range_more counts stage_loop others values n in_range l) id (among_more is_free stage_loop others id there)
+    (λ e. d (sym (with_other stage_loop.id n values id (apart is_free stage_loop others id unique there)) ∙ e))
 
 -- the nest is one of the reductions alone
 module _ (A : Type 0) (counts given : Values) where
@@ -147,69 +147,75 @@ module _ (A : Type 0) (counts given : Values) where
       → Only is_free counts loops given body
       → (values : Values) → nest counts loops body values ≡ nest_ids counts (reductions loops) body (filled given loops values)
 
-  selected_at : (test : Bool) (own : Loop) (others : List Loop) → is_reduction own.variable ≡ test → Selected others → Selected (own ∷ others)
-  selected_at true own others is later body unique on range only values =
+  selected_at : (test : Bool) (stage_loop : Loop) (others : List Loop) → is_reduction stage_loop.variable ≡ test → Selected others → Selected (stage_loop ∷ others)
+  selected_at true stage_loop others is later body unique on range only values =
       rw is
-      (later (λ outer. upto (counts own.id) (λ iteration. body (with own.id iteration outer))) (unique_less own others unique) (on_values_more counts own.id body on)
-      (λ id there. range id (among_more is_free own others id there))
-      (λ v in_range id there d. upto_none (counts own.id) (λ iteration. body (with own.id iteration v)) (λ iteration l. only_given counts own others given body iteration l unique
+      (later (λ outer. upto (counts stage_loop.id) (λ iteration. body (with stage_loop.id iteration outer))) (unique_less stage_loop others unique) (on_values_more counts stage_loop.id body on)
+      (λ id there. range id (among_more is_free stage_loop others id there))
+      (λ v in_range id there d. upto_none (counts stage_loop.id) (λ iteration. body (with stage_loop.id iteration v)) (λ iteration l. only_given counts stage_loop others given body iteration l unique
       only v in_range id there d))
       values)
-  selected_at false own others is later body unique on range only values =
-      let one : is_one is_free own.id own ≡ 1 = rw (same_id-self own.id, is) refl in
-      let here : IsAmong is_free (own ∷ others) own.id = omega arith in
-      let l : given own.id < counts own.id = range own.id here in
-      let none : total (has_id own.id) others ≡ 0 = omega (arith, unique own.id, has_same own) in
+  selected_at false stage_loop others is later body unique on range only values =
+      let one : is_one is_free stage_loop.id stage_loop ≡ 1 = rw (same_id-self stage_loop.id, is) refl in
+      let here : IsAmong is_free (stage_loop ∷ others) stage_loop.id = omega arith in
+      let l : given stage_loop.id < counts stage_loop.id = range stage_loop.id here in
+      let none : total (has_id stage_loop.id) others ≡ 0 = omega (arith, unique stage_loop.id, has_same stage_loop) in
       rw is
-      (nest_same counts others (λ outer. upto (counts own.id) (λ iteration. body (with own.id iteration outer))) (λ v. body (with own.id (given own.id) v))
-      (λ v in_range. upto_one (counts own.id) (given own.id) (λ iteration. body (with own.id iteration v)) l
-      (λ iteration lt d. only (with own.id iteration v) (in_range_more counts own others v iteration in_range lt) own.id here (λ e. d (sym (with_same own.id iteration v) ∙ e))))
+      (nest_same counts others (λ outer. upto (counts stage_loop.id) (λ iteration. body (with stage_loop.id iteration outer))) (λ v. body (with stage_loop.id (given stage_loop.id) v))
+      (λ v in_range. upto_one (counts stage_loop.id) (given stage_loop.id)
+      (λ iteration. body (with stage_loop.id iteration v)) l
+      (λ iteration lt d. only (with stage_loop.id iteration v) (in_range_more counts stage_loop others v iteration in_range lt) stage_loop.id here (λ e. d (sym (with_same stage_loop.id iteration v) ∙ e))))
       values
-      ∙ later (λ v. body (with own.id (given own.id) v)) (unique_less own others unique) (on_values_with own.id (given own.id) body on)
-      (λ id there. range id (among_more is_free own others id there))
-      (only_given counts own others given body (given own.id) l unique only) values
-      ∙ given_outside counts (reductions others) own.id (given own.id) body on (without_from own.id others none) (filled given others values))
+      ∙ later (λ v. body (with stage_loop.id (given stage_loop.id) v)) (unique_less stage_loop others unique) (on_values_with stage_loop.id (given stage_loop.id) body on)
+      (λ id there. range id (among_more is_free stage_loop others id there))
+      (only_given counts stage_loop others given body (given stage_loop.id) l unique only) values
+      ∙ given_outside counts (reductions others) stage_loop.id (given stage_loop.id) body on (without_from stage_loop.id others none) (filled given others values))
 
   pub selected : (loops : List Loop) → Selected loops
   selected [] = λ body unique on range only values. refl
-  selected (own ∷ others) = selected_at (is_reduction own.variable) own others refl (selected others)
+  selected (stage_loop ∷ others) = selected_at (is_reduction stage_loop.variable) stage_loop others refl
+      (selected others)
 
 -- ---- loops that change places
 
-one_free : (id : LoopId) (own : Loop) → own.id ≡ id → is_reduction own.variable ≡ false → is_one is_free id own ≡ 1
-one_free id own e is = ap (λ (i : LoopId). is_one is_free i own) (sym e) ∙ rw (same_id-self own.id, is) refl
+one_free : (id : LoopId) (stage_loop : Loop) → stage_loop.id ≡ id → is_reduction stage_loop.variable ≡ false
+    → is_one is_free id stage_loop ≡ 1
+one_free id stage_loop e is = ap (λ (i : LoopId). is_one is_free i stage_loop) (sym e) ∙ rw
+    (same_id-self stage_loop.id, is) refl
 
 one_reduction_at : (same : Bool) → cond {A = ℕ} (same && false) 1 0 ≡ 0
 one_reduction_at true = refl
 one_reduction_at false = refl
 
-one_reduction : (id : LoopId) (own : Loop) → is_reduction own.variable ≡ true → is_one is_free id own ≡ 0
-one_reduction id own is = rw is (one_reduction_at (same_id own.id id))
+one_reduction : (id : LoopId) (stage_loop : Loop) → is_reduction stage_loop.variable ≡ true
+    → is_one is_free id stage_loop ≡ 0
+one_reduction id stage_loop is = rw is (one_reduction_at (same_id stage_loop.id id))
 
-one_other : (test : Loop → Bool) (id : LoopId) (own : Loop) → same_id own.id id ≡ false → is_one test id own ≡ 0
-one_other test id own d = rw d refl
+one_other : (test : Loop → Bool) (id : LoopId) (stage_loop : Loop) → same_id stage_loop.id id ≡ false
+    → is_one test id stage_loop ≡ 0
+one_other test id stage_loop d = rw d refl
 
 -- what loops are given, and what others have
 abbrev pub Fills : Values → List Loop → Values → LoopId → Type 0
 Fills given loops values id =
     (IsAmong is_free loops id → filled given loops values id ≡ given id) × (total (is_one is_free id) loops ≡ 0 → filled given loops values id ≡ values id)
 
-fills_at : (test : Bool) (given : Values) (own : Loop) (others : List Loop) (values : Values) (id : LoopId) → is_reduction own.variable ≡ test
-    → Fills given others values id → Fills given (own ∷ others) values id
-fills_at true given own others values id is later =
-    let none : is_one is_free id own ≡ 0 = one_reduction id own is in
+fills_at : (test : Bool) (given : Values) (stage_loop : Loop) (others : List Loop) (values : Values) (id : LoopId) → is_reduction stage_loop.variable ≡ test
+    → Fills given others values id → Fills given (stage_loop ∷ others) values id
+fills_at true given stage_loop others values id is later =
+    let none : is_one is_free id stage_loop ≡ 0 = one_reduction id stage_loop is in
     (λ there. rw is (later.0 (omega arith)), λ there. rw is (later.1 (omega arith)))
-fills_at false given own others values id is later = elim (cases_id own.id id) [
+fills_at false given stage_loop others values id is later = elim (cases_id stage_loop.id id) [
   | inl e ↦
-      let one : is_one is_free id own ≡ 1 = one_free id own e is in
-      let here : with own.id (given own.id) (filled given others values) id ≡ given id =
-      subst (λ (i : LoopId). with own.id (given own.id) (filled given others values) i ≡ given i) e (with_same own.id (given own.id)
+      let one : is_one is_free id stage_loop ≡ 1 = one_free id stage_loop e is in
+      let here : with stage_loop.id (given stage_loop.id) (filled given others values) id ≡ given id =
+      subst (λ (i : LoopId). with stage_loop.id (given stage_loop.id) (filled given others values) i ≡ given i) e (with_same stage_loop.id (given stage_loop.id)
       (filled given others values)) in
       (λ there. rw is here, λ there. absurd (omega arith))
   | inr d ↦
-      let none : is_one is_free id own ≡ 0 = one_other is_free id own d in
-      let here : with own.id (given own.id) (filled given others values) id ≡ filled given others values id = with_other own.id (given own.id)
-      (filled given others values) id (swapped_id own.id id d) in
+      let none : is_one is_free id stage_loop ≡ 0 = one_other is_free id stage_loop d in
+      let here : with stage_loop.id (given stage_loop.id) (filled given others values) id ≡ filled given others values id = with_other stage_loop.id (given stage_loop.id)
+      (filled given others values) id (swapped_id stage_loop.id id d) in
       (λ there. rw is (here ∙ later.0 (omega arith)), λ there. rw is (here ∙ later.1 (omega arith)))
 ]
 

@@ -24,7 +24,7 @@ use Rattle.schedule_loops.proofs.Making.{by_making}
 use Rattle.schedule_loops.proofs.Order.{Quiet, quiet_stays}
 use Rattle.schedule_loops.proofs.FirstLoops.{Plain, sound, there, plain, update_start}
 use Rattle.schedule_loops.proofs.Resting.{in_place, seen, visit_seen, leaves, bodies_rest, nest_rests, SameAtRest}
-use Rattle.schedule_loops.proofs.Starts.{IsSlice, is_steady, steady_passed_on}
+use Rattle.schedule_loops.proofs.Starts.{IsSlice, is_loop_invariant, invariant_passed_on}
 
 -- ---- extents of variables
 
@@ -179,7 +179,7 @@ pub quiet_from : {A : Type 0} (extents : Values) (seen : Values → A) (passes :
     → Quiet A extents seen (λ y. not (passes y)) loops splits
 quiet_from {A} extents seen passes start plain holds {is_update} made =
     by_making (Quiet A extents seen (λ y. not (passes y)))
-    (quiet_stays A extents seen (λ y. not (passes y)) is_update is_steady start (steady_passed_on is_update)
+    (quiet_stays A extents seen (λ y. not (passes y)) is_update is_loop_invariant start (invariant_passed_on is_update)
     (record { sound = sound start plain; none = λ values in_range. fails_not passes (seen values) (holds values in_range) }))
     made
 

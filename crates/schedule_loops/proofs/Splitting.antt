@@ -35,7 +35,7 @@ module _ (A : Type 0) (counts : Values) (place : ℕ) (split : Split) where
   abbrev new_counts : Values
   new_counts = more_counts counts place split
 
-  -- the values of the split's loops, and those where the loop stands that is split
+  -- the values of the split's loops, and those where the loop is that is split
   record Stands (parts value : Values) : Type 0 where
     others : (id : LoopId) → is_old place id ≡ true → same_id id split.of ≡ false → parts id ≡ value id
     own : value split.of ≡ whole parts
@@ -68,16 +68,16 @@ module _ (A : Type 0) (counts : Values) (place : ℕ) (split : Split) where
   parts_inside : (inside : List Loop) → Apart place split.of inside → (f g : Values → List A) → Parts f g
       → Parts (nest new_counts inside f) (nest counts inside g)
   parts_inside [] apart f g does = does
-  parts_inside (own ∷ inside) apart f g does =
-      parts_inside inside apart.1 (λ outer. upto (new_counts own.id) (λ iteration. f (with own.id iteration outer))) (λ outer. upto (counts own.id)
-      (λ iteration. g (with own.id iteration outer)))
+  parts_inside (stage_loop ∷ inside) apart f g does =
+      parts_inside inside apart.1 (λ outer. upto (new_counts stage_loop.id) (λ iteration. f (with stage_loop.id iteration outer))) (λ outer. upto (counts stage_loop.id)
+      (λ iteration. g (with stage_loop.id iteration outer)))
       (λ parts value s.
-      ap (λ (n : ℕ). upto n (λ iteration. f (with own.id iteration parts))) (counts_old own.id apart.0.0)
-      ∙ upto_same (counts own.id) (λ iteration. f (with own.id iteration parts)) (λ iteration. cond (nat_lt (whole parts) (counts split.of)) (g (with own.id iteration value)) [])
+      ap (λ (n : ℕ). upto n (λ iteration. f (with stage_loop.id iteration parts))) (counts_old stage_loop.id apart.0.0)
+      ∙ upto_same (counts stage_loop.id) (λ iteration. f (with stage_loop.id iteration parts)) (λ iteration. cond (nat_lt (whole parts) (counts split.of)) (g (with stage_loop.id iteration value)) [])
       (λ iteration l.
-      does (with own.id iteration parts) (with own.id iteration value) (stands_with own.id iteration parts value apart.0.0 apart.0.1 s)
-      ∙ ap (λ (n : ℕ). cond (nat_lt n (counts split.of)) (g (with own.id iteration value)) []) (whole_with own.id iteration parts apart.0.0))
-      ∙ upto_cond (nat_lt (whole parts) (counts split.of)) (counts own.id) (λ iteration. g (with own.id iteration value)))
+      does (with stage_loop.id iteration parts) (with stage_loop.id iteration value) (stands_with stage_loop.id iteration parts value apart.0.0 apart.0.1 s)
+      ∙ ap (λ (n : ℕ). cond (nat_lt n (counts split.of)) (g (with stage_loop.id iteration value)) []) (whole_with stage_loop.id iteration parts apart.0.0))
+      ∙ upto_cond (nat_lt (whole parts) (counts split.of)) (counts stage_loop.id) (λ iteration. g (with stage_loop.id iteration value)))
 
   split_parts : (body : Values → List A) → OnOld place body → Parts (split_body counts place split body) body
   split_parts body on_old parts value s =
@@ -88,10 +88,10 @@ module _ (A : Type 0) (counts : Values) (place : ℕ) (split : Split) where
       ]))
 
   -- the loops of the split at this place
-  pub record AreParts (inner outer own : Loop) : Type 0 where
+  pub record AreParts (inner outer stage_loop : Loop) : Type 0 where
     pub inner_is : inner.id ≡ ids.Inner place
     pub outer_is : outer.id ≡ ids.Outer place
-    pub own_is : own.id ≡ split.of
+    pub own_is : stage_loop.id ≡ split.of
 
   whole_own : (i o : ℕ) (values : Values) → split.tail ≡ tails.Guard → whole (with (ids.Inner place) i (with (ids.Outer place) o values)) ≡ o * split.factor + i
   whole_own i o values guard = rw (guard, same_id-self (ids.Outer place)) refl
@@ -127,13 +127,13 @@ module _ (A : Type 0) (counts : Values) (place : ℕ) (split : Split) where
 
   same_counts : (loops : List Loop) → Apart place split.of loops → SameCounts new_counts counts loops
   same_counts [] apart = tt
-  same_counts (own ∷ loops) apart = (counts_old own.id apart.0.0, same_counts loops apart.1)
+  same_counts (stage_loop ∷ loops) apart = (counts_old stage_loop.id apart.0.0, same_counts loops apart.1)
 
-  pub parted_nest : (inside outside : List Loop) (inner outer own : Loop) (body : Values → List A) → AreParts inner outer own
+  pub parted_nest : (inside outside : List Loop) (inner outer stage_loop : Loop) (body : Values → List A) → AreParts inner outer stage_loop
       → Apart place split.of inside → Apart place split.of outside → split.tail ≡ tails.Guard → 1 ≤ split.factor → OnOld place body
-      → (values : Values) → nest new_counts (inside ++ inner ∷ outer ∷ outside) (split_body counts place split body) values ≡ nest counts (inside ++ own
+      → (values : Values) → nest new_counts (inside ++ inner ∷ outer ∷ outside) (split_body counts place split body) values ≡ nest counts (inside ++ stage_loop
       ∷ outside) body values
-  parted_nest inside outside inner outer own body parts apart_in apart_out guard some on_old values =
+  parted_nest inside outside inner outer stage_loop body parts apart_in apart_out guard some on_old values =
       let f : Values → List A = nest new_counts inside (split_body counts place split body) in
       let g : Values → List A = nest counts inside body in
       let does : Parts f g = parts_inside inside apart_in (split_body counts place split body) body (split_parts body on_old) in
@@ -141,6 +141,6 @@ module _ (A : Type 0) (counts : Values) (place : ℕ) (split : Split) where
       ∙ nest_counts new_counts counts outside (λ v. upto (new_counts outer.id) (λ o. upto (new_counts inner.id) (λ i. f (with inner.id i (with outer.id o v)))))
       (same_counts outside apart_out) values
       ∙ nest_same counts outside (λ v. upto (new_counts outer.id) (λ o. upto (new_counts inner.id) (λ i. f (with inner.id i (with outer.id o v)))))
-      (λ v. upto (counts own.id) (λ n. g (with own.id n v)))
+      (λ v. upto (counts stage_loop.id) (λ n. g (with stage_loop.id n v)))
       (λ v in_range. rw (parts.inner_is, parts.outer_is, parts.own_is) (guard_at f g does guard some v)) values
-      ∙ sym (nest-append counts inside (own ∷ outside) body values)
+      ∙ sym (nest-append counts inside (stage_loop ∷ outside) body values)

@@ -38,27 +38,27 @@ free_passed_on = record {
 }
 
 -- loops over arguments that don't come from a shifted split, of any stage
-abbrev pub is_steady : Loop → Bool
-is_steady own = is_free own && not own.is_from_shift
+abbrev pub is_loop_invariant : Loop → Bool
+is_loop_invariant own = is_free own && not own.is_from_shift
 
-steady_at : (free from shift a b : Bool) → 1 ≤ cond {A = ℕ} (a && (free && not (from || shift))) 1 0 + (cond {A = ℕ} (b && (free && not (from || shift))) 1 0
+invariant_at : (free from shift a b : Bool) → 1 ≤ cond {A = ℕ} (a && (free && not (from || shift))) 1 0 + (cond {A = ℕ} (b && (free && not (from || shift))) 1 0
     + 0) → ((free && not from) ≡ true) × (shift ≡ false)
-steady_at true false false a b l = (refl, refl)
-steady_at true true shift true true l = absurd (omega arith)
-steady_at true true shift true false l = absurd (omega arith)
-steady_at true true shift false b l = absurd (at b l)
+invariant_at true false false a b l = (refl, refl)
+invariant_at true true shift true true l = absurd (omega arith)
+invariant_at true true shift true false l = absurd (omega arith)
+invariant_at true true shift false b l = absurd (at b l)
   where
     at : (b : Bool) → 1 ≤ 0 + (cond {A = ℕ} (b && false) 1 0 + 0) → ⊥
     at true l = omega arith
     at false l = omega arith
-steady_at true false true a b l = absurd (at a b l)
+invariant_at true false true a b l = absurd (at a b l)
   where
     at : (a b : Bool) → 1 ≤ cond {A = ℕ} (a && false) 1 0 + (cond {A = ℕ} (b && false) 1 0 + 0) → ⊥
     at true true l = omega arith
     at true false l = omega arith
     at false true l = omega arith
     at false false l = omega arith
-steady_at false from shift a b l = absurd (at a b l)
+invariant_at false from shift a b l = absurd (at a b l)
   where
     at : (a b : Bool) → 1 ≤ cond {A = ℕ} (a && false) 1 0 + (cond {A = ℕ} (b && false) 1 0 + 0) → ⊥
     at true true l = omega arith
@@ -66,23 +66,23 @@ steady_at false from shift a b l = absurd (at a b l)
     at false true l = omega arith
     at false false l = omega arith
 
-pub steady_passed_on : (is_update : Bool) → IsPassedOn is_update is_steady
-steady_passed_on is_update = record {
+pub invariant_passed_on : (is_update : Bool) → IsPassedOn is_update is_loop_invariant
+invariant_passed_on is_update = record {
   bare_is = λ own. refl;
   inner = λ own place line id is there.
-      let t = steady_at (is_free own) own.is_from_shift (is_shift line.tail) (same_id (ids.Inner place) id) (same_id (ids.Outer place) id) there in
+      let t = invariant_at (is_free own) own.is_from_shift (is_shift line.tail) (same_id (ids.Inner place) id) (same_id (ids.Outer place) id) there in
       (t.0, guard_from line.tail t.1);
 }
 
-steady_free_at : (same free steady : Bool) → cond {A = ℕ} (same && (free && steady)) 1 0 ≤ cond {A = ℕ} (same && free) 1 0
-steady_free_at true true true = omega arith
-steady_free_at true true false = omega arith
-steady_free_at true false steady = omega arith
-steady_free_at false free steady = omega arith
+invariant_free_at : (same free loop_invariant : Bool) → cond {A = ℕ} (same && (free && loop_invariant)) 1 0 ≤ cond {A = ℕ} (same && free) 1 0
+invariant_free_at true true true = omega arith
+invariant_free_at true true false = omega arith
+invariant_free_at true false loop_invariant = omega arith
+invariant_free_at false free loop_invariant = omega arith
 
-pub steady_free : (id : LoopId) (loops : List Loop) → total (is_one is_steady id) loops ≤ total (is_one is_free id) loops
-steady_free id [] = omega arith
-steady_free id (own ∷ loops) = omega (arith, steady_free_at (same_id own.id id) (is_free own) (not own.is_from_shift), steady_free id loops)
+pub invariant_free : (id : LoopId) (loops : List Loop) → total (is_one is_loop_invariant id) loops ≤ total (is_one is_free id) loops
+invariant_free id [] = omega arith
+invariant_free id (own ∷ loops) = omega (arith, invariant_free_at (same_id own.id id) (is_free own) (not own.is_from_shift), invariant_free id loops)
 
 pub free_free : (id : LoopId) (loops : List Loop) → total (is_one is_free id) loops ≤ total (is_one is_free id) loops
 free_free id loops = omega arith

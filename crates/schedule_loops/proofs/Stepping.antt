@@ -28,13 +28,14 @@ use Rattle.schedule_loops.proofs.Making.{Stays, by_making, Sound, sound_stays, s
 use Rattle.schedule_loops.proofs.Making.{bodies-more, bare_total, own_apart, apart_from}
 use Rattle.schedule_loops.proofs.Order.{whole_in_range, inner_part, outer_part}
 use Rattle.schedule_loops.proofs.FirstLoops.{Plain, plain, sound, once_sum}
-use Rattle.schedule_loops.proofs.Starts.{is_steady, steady_passed_on}
+use Rattle.schedule_loops.proofs.Starts.{is_loop_invariant, invariant_passed_on}
 use Rattle.schedule_loops.proofs.Linear.{even, strides-more, uneven-more, total_apart, times_sum, times_factor, begin_guard}
 use Rattle.schedule_loops.proofs.Bounded.{in_iterations}
 
 -- what a loop over the variable adds
 abbrev pub part : Variable → Values → Values → Loop → ℕ
-part v strides values own = cond (same_variable own.variable v) (strides own.id * values own.id) 0
+part v strides values stage_loop = cond (same_variable stage_loop.variable v)
+    (strides stage_loop.id * values stage_loop.id) 0
 
 some_of : {A : Type 0} (test : Bool) (xs : List A) (x : A) → cond test xs [] ≡ x ∷ [] → (test ≡ true) × (xs ≡ x ∷ [])
 some_of true xs x e = (refl, e)
@@ -84,13 +85,13 @@ module _ (extents : Values) (v : Variable) where
         → (one other : Values) → listed splits a ≡ one ∷ [] → listed splits b ≡ other ∷ []
         → one (ids.Whole v) + total (part v (strides_of splits) b) loops ≡ other (ids.Whole v) + total (part v (strides_of splits) a) loops
 
-  module _ (is_update : Bool) (before : List Loop) (own : Loop) (after : List Loop) (splits : List Split) (line : SplitLine) (is : IsSplit is_update line)
-      (steps : Steps (before ++ own ∷ after) splits) where
+  module _ (is_update : Bool) (before : List Loop) (stage_loop : Loop) (after : List Loop) (splits : List Split) (line : SplitLine) (is : IsSplit is_update line)
+      (steps : Steps (before ++ stage_loop ∷ after) splits) where
     abbrev place : ℕ
     place = length splits
 
     abbrev split : Split
-    split = split_by own line
+    split = split_by stage_loop line
 
     abbrev cs : Values
     cs = counts_of splits
@@ -111,186 +112,195 @@ module _ (extents : Values) (v : Variable) where
     new_un = more_uneven un place split
 
     abbrev new_loops : List Loop
-    new_loops = before ++ (parts own (length splits) line ++ after)
+    new_loops = before ++ (parts stage_loop (length splits) line ++ after)
 
     abbrev w : Values → ℕ
     w values = whole_of cs place split values
 
     abbrev begin : Values → ℕ
-    begin values = begin_of line.tail line.factor (cs own.id) (values (ids.Outer place))
+    begin values = begin_of line.tail line.factor (cs stage_loop.id) (values (ids.Outer place))
 
-    snd : Sound (before ++ own ∷ after) splits
+    snd : Sound (before ++ stage_loop ∷ after) splits
     snd = steps.sound
 
     inner_there : 1 ≤ total (has_id (ids.Inner place)) new_loops
     inner_there = omega (
       arith,
-      total-append (has_id (ids.Inner place)) before (parts own place line ++ after),
+      total-append (has_id (ids.Inner place)) before (parts stage_loop place line ++ after),
       total-append (has_id (ids.Inner place))
-          (parts own place line) after,
-      parts_inner own place line,
+          (parts stage_loop place line) after,
+      parts_inner stage_loop place line,
     )
 
     outer_there : 1 ≤ total (has_id (ids.Outer place)) new_loops
     outer_there = omega (
       arith,
-      total-append (has_id (ids.Outer place)) before (parts own place line ++ after),
+      total-append (has_id (ids.Outer place)) before (parts stage_loop place line ++ after),
       total-append (has_id (ids.Outer place))
-          (parts own place line) after,
-      parts_outer own place line,
+          (parts stage_loop place line) after,
+      parts_outer stage_loop place line,
     )
 
-    uneven_inner : new_un (ids.Inner place) ≡ un own.id
-    uneven_inner = same_of (ids.Inner place) (un own.id) (with (ids.Outer place) (un own.id || is_shift line.tail) un)
+    uneven_inner : new_un (ids.Inner place) ≡ un stage_loop.id
+    uneven_inner = same_of (ids.Inner place) (un stage_loop.id)
+        (with (ids.Outer place) (un stage_loop.id || is_shift line.tail) un)
 
-    uneven_outer : new_un (ids.Outer place) ≡ (un own.id || is_shift line.tail)
-    uneven_outer = same_of (ids.Outer place) (un own.id || is_shift line.tail) un
+    uneven_outer : new_un (ids.Outer place) ≡ (un stage_loop.id || is_shift line.tail)
+    uneven_outer = same_of (ids.Outer place) (un stage_loop.id || is_shift line.tail) un
 
-    part_old : (values : Values) (l : Loop) → is_old place l.id ≡ true → same_id l.id own.id ≡ false → part v st (with own.id (w values) values) l
+    part_old : (values : Values) (l : Loop) → is_old place l.id ≡ true → same_id l.id stage_loop.id ≡ false → part v st (with stage_loop.id (w values) values) l
         ≡ part v new_st values l
     part_old values l old d =
-        ap (λ (n : ℕ). cond (same_variable l.variable v) (st l.id * n) 0) (with_other own.id (w values) values l.id d)
+        ap (λ (n : ℕ). cond (same_variable l.variable v) (st l.id * n) 0)
+        (with_other stage_loop.id (w values) values l.id d)
         ∙ ap (λ (n : ℕ). cond (same_variable l.variable v) (n * values l.id) 0)
-        (sym (other_of (ids.Inner place) (st own.id) (with (ids.Outer place) (st own.id * line.factor) st) l.id (old_apart place l.id (ids.Inner place) old
+        (sym (other_of (ids.Inner place) (st stage_loop.id) (with (ids.Outer place) (st stage_loop.id * line.factor) st) l.id (old_apart place l.id (ids.Inner place) old
         (inner_new place))
-        ∙ other_of (ids.Outer place) (st own.id * line.factor) st l.id (old_apart place l.id (ids.Outer place) old (outer_new place))))
+        ∙ other_of (ids.Outer place) (st stage_loop.id * line.factor) st l.id (old_apart place l.id (ids.Outer place) old (outer_new place))))
 
-    part_own : (values : Values) → part v st (with own.id (w values) values) own ≡ cond (same_variable own.variable v) (st own.id * w values) 0
-    part_own values = ap (λ (n : ℕ). cond (same_variable own.variable v) (st own.id * n) 0) (with_same own.id (w values) values)
+    part_own : (values : Values) → part v st (with stage_loop.id (w values) values) stage_loop ≡ cond (same_variable stage_loop.variable v) (st stage_loop.id * w values) 0
+    part_own values = ap (λ (n : ℕ). cond (same_variable stage_loop.variable v) (st stage_loop.id * n) 0) (with_same stage_loop.id (w values) values)
 
-    part_inner : (values : Values) → part v new_st values (inner_part own place line) ≡ cond (same_variable own.variable v)
-        (st own.id * values (ids.Inner place)) 0
-    part_inner values = ap (λ (n : ℕ). cond (same_variable own.variable v) (n * values (ids.Inner place)) 0) (same_of (ids.Inner place) (st own.id)
-        (with (ids.Outer place) (st own.id * line.factor) st))
+    part_inner : (values : Values) → part v new_st values (inner_part stage_loop place line) ≡ cond (same_variable stage_loop.variable v)
+        (st stage_loop.id * values (ids.Inner place)) 0
+    part_inner values = ap (λ (n : ℕ). cond (same_variable stage_loop.variable v) (n * values (ids.Inner place)) 0) (same_of (ids.Inner place) (st stage_loop.id)
+        (with (ids.Outer place) (st stage_loop.id * line.factor) st))
 
-    part_outer : (values : Values) → part v new_st values (outer_part own place line) ≡ cond (same_variable own.variable v) (st own.id * line.factor * values
+    part_outer : (values : Values) → part v new_st values (outer_part stage_loop place line) ≡ cond (same_variable stage_loop.variable v) (st stage_loop.id * line.factor * values
         (ids.Outer place)) 0
-    part_outer values = ap (λ (n : ℕ). cond (same_variable own.variable v) (n * values (ids.Outer place)) 0) (same_of (ids.Outer place)
-        (st own.id * line.factor) st)
+    part_outer values = ap (λ (n : ℕ). cond (same_variable stage_loop.variable v) (n * values (ids.Outer place)) 0) (same_of (ids.Outer place)
+        (st stage_loop.id * line.factor) st)
 
-    old_sum : (values : Values) → total (part v st (with own.id (w values) values)) (before ++ own ∷ after)
-        ≡ total (part v new_st values) before + (cond (same_variable own.variable v) (st own.id * w values) 0 + total (part v new_st values) after)
+    old_sum : (values : Values) → total (part v st (with stage_loop.id (w values) values))
+        (before ++ stage_loop ∷ after)
+        ≡ total (part v new_st values) before + (cond (same_variable stage_loop.variable v) (st stage_loop.id * w values) 0 + total (part v new_st values) after)
     old_sum values =
-        let none = own_apart before own after snd.unique in
-        let apart_before = apart_from (length splits) own.id before (λ id there. snd.old id (omega (
+        let none = own_apart before stage_loop after snd.unique in
+        let apart_before = apart_from (length splits) stage_loop.id before (λ id there. snd.old id (omega (
           arith,
           there,
-          total-append (has_id id) before (own
+          total-append (has_id id) before (stage_loop
               ∷ after),
         ))) (omega (arith, none)) in
-        let apart_after = apart_from (length splits) own.id after (λ id there. snd.old id (omega (arith, there, total-append (has_id id) before (own ∷ after))))
+        let apart_after = apart_from (length splits) stage_loop.id after (λ id there. snd.old id (omega (arith, there, total-append (has_id id) before (stage_loop ∷ after))))
         (omega (arith, none)) in
         omega (
           arith,
-          total-append (part v st (with own.id (w values) values)) before (own ∷ after),
+          total-append (part v st (with stage_loop.id (w values) values)) before (stage_loop ∷ after),
           part_own values,
-          total_apart (length splits) own.id (part v st (with own.id (w values) values)) (part v new_st values) before (part_old values) apart_before,
-          total_apart (length splits) own.id (part v st (with own.id (w values) values)) (part v new_st values) after (part_old values) apart_after,
+          total_apart (length splits) stage_loop.id (part v st (with stage_loop.id (w values) values)) (part v new_st values) before (part_old values) apart_before,
+          total_apart (length splits) stage_loop.id (part v st (with stage_loop.id (w values) values)) (part v new_st values) after (part_old values) apart_after,
         )
 
     new_sum : (values : Values) → total (part v new_st values) new_loops
-        ≡ total (part v new_st values) before + (cond (same_variable own.variable v) (st own.id * values (ids.Inner place)) 0
-        + (cond (same_variable own.variable v) (st own.id * line.factor * values (ids.Outer place)) 0 + total (part v new_st values) after))
-    new_sum values = omega (arith, total-append (part v new_st values) before (parts own (length splits) line ++ after), part_inner values, part_outer values)
+        ≡ total (part v new_st values) before + (cond (same_variable stage_loop.variable v) (st stage_loop.id * values (ids.Inner place)) 0
+        + (cond (same_variable stage_loop.variable v) (st stage_loop.id * line.factor * values (ids.Outer place)) 0 + total (part v new_st values) after))
+    new_sum values = omega (arith, total-append (part v new_st values) before (parts stage_loop (length splits) line ++ after), part_inner values, part_outer values)
 
     module _ (a b : Values) (in_a : InRange new_cs new_loops a) (in_b : InRange new_cs new_loops b) (agree : (id : LoopId) → 1 ≤ total (has_id id) new_loops
         → new_un id ≡ true → a id ≡ b id) where
-      same_outer : (un own.id || is_shift line.tail) ≡ true → a (ids.Outer place) ≡ b (ids.Outer place)
+      same_outer : (un stage_loop.id || is_shift line.tail) ≡ true → a (ids.Outer place) ≡ b (ids.Outer place)
       same_outer e = agree (ids.Outer place) outer_there (uneven_outer ∙ e)
 
-      same_inner : un own.id ≡ true → a (ids.Inner place) ≡ b (ids.Inner place)
+      same_inner : un stage_loop.id ≡ true → a (ids.Inner place) ≡ b (ids.Inner place)
       same_inner e = agree (ids.Inner place) inner_there (uneven_inner ∙ e)
 
-      same_whole : un own.id ≡ true → w a ≡ w b
+      same_whole : un stage_loop.id ≡ true → w a ≡ w b
       same_whole e =
-          ap (λ (n : ℕ). begin_of line.tail line.factor (cs own.id) n + a (ids.Inner place)) (same_outer (or_first (un own.id) (is_shift line.tail) e))
+          ap (λ (n : ℕ). begin_of line.tail line.factor (cs stage_loop.id) n + a (ids.Inner place)) (same_outer (or_first (un stage_loop.id) (is_shift line.tail) e))
           ∙ ap (λ (n : ℕ). begin b + n) (same_inner e)
 
-      old_agree : (id : LoopId) → 1 ≤ total (has_id id) (before ++ own ∷ after) → un id ≡ true → with own.id (w a) a id ≡ with own.id (w b) b id
-      old_agree id there e = elim (cases_id id own.id) [
+      old_agree : (id : LoopId) → 1 ≤ total (has_id id) (before ++ stage_loop ∷ after) → un id ≡ true → with stage_loop.id (w a) a id ≡ with stage_loop.id (w b) b id
+      old_agree id there e = elim (cases_id id stage_loop.id) [
         | inl s ↦
-            let u : un own.id ≡ true = ap un (sym s) ∙ e in
-            subst (λ (i : LoopId). with own.id (w a) a i ≡ with own.id (w b) b i) (sym s) (with_same own.id (w a) a ∙ same_whole u
-            ∙ sym (with_same own.id (w b) b))
+            let u : un stage_loop.id ≡ true = ap un (sym s) ∙ e in
+            subst (λ (i : LoopId). with stage_loop.id (w a) a i ≡ with stage_loop.id (w b) b i) (sym s) (with_same stage_loop.id (w a) a ∙ same_whole u
+            ∙ sym (with_same stage_loop.id (w b) b))
         | inr d ↦
             let old : is_old place id ≡ true = snd.old id there in
             let same_un : new_un id ≡ un id =
-            other_of (ids.Inner place) (un own.id) (with (ids.Outer place) (un own.id || is_shift line.tail) un) id (old_apart place id (ids.Inner place) old
+            other_of (ids.Inner place) (un stage_loop.id) (with (ids.Outer place) (un stage_loop.id || is_shift line.tail) un) id (old_apart place id (ids.Inner place) old
             (inner_new place))
-            ∙ other_of (ids.Outer place) (un own.id || is_shift line.tail) un id (old_apart place id (ids.Outer place) old (outer_new place)) in
+            ∙ other_of (ids.Outer place) (un stage_loop.id || is_shift line.tail) un id (old_apart place id (ids.Outer place) old (outer_new place)) in
             let l : 1 ≤ total (has_id id) new_loops = omega (
               arith,
               there,
-              total_parts (has_id id) before own after place line,
-              has_other id own
-                  (swapped_id id own.id d),
+              total_parts (has_id id) before stage_loop after place line,
+              has_other id stage_loop
+                  (swapped_id id stage_loop.id d),
             ) in
-            with_other own.id (w a) a id d ∙ agree id l (same_un ∙ e) ∙ sym (with_other own.id (w b) b id d)
+            with_other stage_loop.id (w a) a id d ∙ agree id l (same_un ∙ e) ∙ sym
+            (with_other stage_loop.id (w b) b id d)
       ]
 
-      step_at : (odd : Bool) → (un own.id || is_shift line.tail) ≡ odd
-          → cond {A = ℕ} (same_variable own.variable v) (st own.id * a (ids.Inner place)) 0 + cond {A = ℕ} (same_variable own.variable v)
-          (st own.id * line.factor * a (ids.Outer place)) 0 + cond {A = ℕ} (same_variable own.variable v) (st own.id * w b) 0
-          ≡ cond {A = ℕ} (same_variable own.variable v) (st own.id * b (ids.Inner place)) 0 + cond {A = ℕ} (same_variable own.variable v)
-          (st own.id * line.factor * b (ids.Outer place)) 0 + cond {A = ℕ} (same_variable own.variable v) (st own.id * w a) 0
+      step_at : (odd : Bool) → (un stage_loop.id || is_shift line.tail) ≡ odd
+          → cond {A = ℕ} (same_variable stage_loop.variable v) (st stage_loop.id * a (ids.Inner place)) 0 + cond {A = ℕ} (same_variable stage_loop.variable v)
+          (st stage_loop.id * line.factor * a (ids.Outer place)) 0 + cond {A = ℕ} (same_variable stage_loop.variable v) (st stage_loop.id * w b) 0
+          ≡ cond {A = ℕ} (same_variable stage_loop.variable v) (st stage_loop.id * b (ids.Inner place)) 0 + cond {A = ℕ} (same_variable stage_loop.variable v)
+          (st stage_loop.id * line.factor * b (ids.Outer place)) 0 + cond {A = ℕ} (same_variable stage_loop.variable v) (st stage_loop.id * w a) 0
       step_at odd e =
-          parts_step (same_variable own.variable v) odd (st own.id) line.factor (a (ids.Outer place)) (b (ids.Outer place)) (a (ids.Inner place))
+          parts_step (same_variable stage_loop.variable v) odd (st stage_loop.id) line.factor (a (ids.Outer place)) (b (ids.Outer place)) (a (ids.Inner place))
           (b (ids.Inner place)) (begin a) (begin b)
-          (λ o. let s = same_outer (e ∙ o) in (s, ap (λ (n : ℕ). begin_of line.tail line.factor (cs own.id) n) s))
-          (λ o. let g : is_shift line.tail ≡ false = or_false (un own.id) (is_shift line.tail) (e ∙ o) in
-          (begin_guard line.tail line.factor (cs own.id) (a (ids.Outer place)) g, begin_guard line.tail line.factor (cs own.id) (b (ids.Outer place)) g))
+          (λ o. let s = same_outer (e ∙ o) in (
+            s,
+            ap (λ (n : ℕ). begin_of line.tail line.factor (cs stage_loop.id) n)
+                s,
+          ))
+          (λ o. let g : is_shift line.tail ≡ false = or_false (un stage_loop.id) (is_shift line.tail) (e ∙ o) in
+          (begin_guard line.tail line.factor (cs stage_loop.id) (a (ids.Outer place)) g, begin_guard line.tail line.factor (cs stage_loop.id) (b (ids.Outer place)) g))
 
       step_parted : (one other : Values) → split_body cs place split (split_bodies extents 0 splits (λ whole. whole ∷ [])) a ≡ one ∷ []
           → split_body cs place split (split_bodies extents 0 splits (λ whole. whole ∷ [])) b ≡ other ∷ []
           → one (ids.Whole v) + total (part v new_st b) new_loops ≡ other (ids.Whole v) + total (part v new_st a) new_loops
       step_parted one other ea eb =
-          let pa = some_of (nat_lt (w a) (cs own.id)) (listed splits (with own.id (w a) a)) one ea in
-          let pb = some_of (nat_lt (w b) (cs own.id)) (listed splits (with own.id (w b) b)) other eb in
-          let la : w a < cs own.id = ltb-true (w a) (cs own.id) pa.0 in
-          let lb : w b < cs own.id = ltb-true (w b) (cs own.id) pb.0 in
-          let ra = whole_in_range Values extents (λ z. z) (λ n. true) is_update is_steady (steady_passed_on is_update) before own after splits line is snd a
+          let pa = some_of (nat_lt (w a) (cs stage_loop.id)) (listed splits (with stage_loop.id (w a) a)) one ea in
+          let pb = some_of (nat_lt (w b) (cs stage_loop.id)) (listed splits (with stage_loop.id (w b) b)) other eb in
+          let la : w a < cs stage_loop.id = ltb-true (w a) (cs stage_loop.id) pa.0 in
+          let lb : w b < cs stage_loop.id = ltb-true (w b) (cs stage_loop.id) pb.0 in
+          let ra = whole_in_range Values extents (λ z. z) (λ n. true) is_update is_loop_invariant (invariant_passed_on is_update) before stage_loop after splits line is snd a
           in_a la in
-          let rb = whole_in_range Values extents (λ z. z) (λ n. true) is_update is_steady (steady_passed_on is_update) before own after splits line is snd b
+          let rb = whole_in_range Values extents (λ z. z) (λ n. true) is_update is_loop_invariant (invariant_passed_on is_update) before stage_loop after splits line is snd b
           in_b lb in
-          let h = steps.step (with own.id (w a) a) (with own.id (w b) b) ra rb old_agree one other pa.1 pb.1 in
+          let h = steps.step (with stage_loop.id (w a) a) (with stage_loop.id (w b) b) ra rb old_agree one other pa.1
+          pb.1 in
           let g = sums_step (one (ids.Whole v)) (other (ids.Whole v)) (total (part v new_st b) before) (total (part v new_st b) after) (total (part v new_st a)
           before) (total (part v new_st a) after)
-          (cond (same_variable own.variable v) (st own.id * w b) 0) (cond (same_variable own.variable v) (st own.id * w a) 0)
-          (cond (same_variable own.variable v) (st own.id * b (ids.Inner place)) 0) (cond (same_variable own.variable v) (st own.id * line.factor * b
+          (cond (same_variable stage_loop.variable v) (st stage_loop.id * w b) 0) (cond (same_variable stage_loop.variable v) (st stage_loop.id * w a) 0)
+          (cond (same_variable stage_loop.variable v) (st stage_loop.id * b (ids.Inner place)) 0) (cond (same_variable stage_loop.variable v) (st stage_loop.id * line.factor * b
           (ids.Outer place)) 0)
-          (cond (same_variable own.variable v) (st own.id * a (ids.Inner place)) 0) (cond (same_variable own.variable v) (st own.id * line.factor * a
+          (cond (same_variable stage_loop.variable v) (st stage_loop.id * a (ids.Inner place)) 0) (cond (same_variable stage_loop.variable v) (st stage_loop.id * line.factor * a
           (ids.Outer place)) 0)
-          (omega (arith, h, old_sum a, old_sum b)) (step_at (un own.id || is_shift line.tail) refl) in
+          (omega (arith, h, old_sum a, old_sum b)) (step_at (un stage_loop.id || is_shift line.tail) refl) in
           omega (arith, g, new_sum a, new_sum b)
 
   steps_stays : (is_update : Bool) (start : List Loop) → Steps start [] → Stays is_update start Steps
   steps_stays is_update start begun = record {
     begun = begun;
-    parted = λ before own after splits line is steps. record {
-      sound = (sound_stays is_update start begun.sound).parted before own after splits line is steps.sound;
+    parted = λ before stage_loop after splits line is steps. record {
+      sound = (sound_stays is_update start begun.sound).parted before stage_loop after splits line is steps.sound;
       step =
-          let counts_are : counts_of (splits ++ split_by own line ∷ []) ≡ more_counts (counts_of splits) (length splits) (split_by own line) =
-          counts-more splits extents 0 (length splits) (split_by own line) (omega arith) in
-          let strides_are : strides_of (splits ++ split_by own line ∷ []) ≡ more_strides (strides_of splits) (length splits) (split_by own line) =
-          strides-more splits whole_strides 0 (length splits) (split_by own line) (omega arith) in
-          let uneven_are : uneven_of (splits ++ split_by own line ∷ []) ≡ more_uneven (uneven_of splits) (length splits) (split_by own line) =
-          uneven-more splits even 0 (length splits) (split_by own line) (omega arith) in
-          let bodies_are : split_bodies extents 0 (splits ++ split_by own line ∷ []) (λ whole. whole ∷ []) ≡ split_body (counts_of splits) (length splits)
-          (split_by own line) (split_bodies extents 0 splits (λ whole. whole ∷ [])) = bodies-more splits extents 0 (length splits) (split_by own line)
+          let counts_are : counts_of (splits ++ split_by stage_loop line ∷ []) ≡ more_counts (counts_of splits) (length splits) (split_by stage_loop line) =
+          counts-more splits extents 0 (length splits) (split_by stage_loop line) (omega arith) in
+          let strides_are : strides_of (splits ++ split_by stage_loop line ∷ []) ≡ more_strides (strides_of splits) (length splits) (split_by stage_loop line) =
+          strides-more splits whole_strides 0 (length splits) (split_by stage_loop line) (omega arith) in
+          let uneven_are : uneven_of (splits ++ split_by stage_loop line ∷ []) ≡ more_uneven (uneven_of splits) (length splits) (split_by stage_loop line) =
+          uneven-more splits even 0 (length splits) (split_by stage_loop line) (omega arith) in
+          let bodies_are : split_bodies extents 0 (splits ++ split_by stage_loop line ∷ []) (λ whole. whole ∷ []) ≡ split_body (counts_of splits) (length splits)
+          (split_by stage_loop line) (split_bodies extents 0 splits (λ whole. whole ∷ [])) = bodies-more splits extents 0 (length splits) (split_by stage_loop line)
           (λ whole. whole ∷ []) (omega arith) in
-          rw (counts_are, strides_are, uneven_are, bodies_are) (step_parted is_update before own after splits line is steps);
+          rw (counts_are, strides_are, uneven_are, bodies_are) (step_parted is_update before stage_loop after splits line is steps);
     };
     marked = λ loops new splits same steps. record {
       sound = (sound_stays is_update start begun.sound).marked loops new splits same steps.sound;
       step = λ a b in_a in_b agree one other ea eb.
-          let has : (id : LoopId) → total (has_id id) new ≡ total (has_id id) loops = λ id. bare_total (has_id id) (λ own. refl) new loops same in
+          let has : (id : LoopId) → total (has_id id) new ≡ total (has_id id) loops = λ id. bare_total (has_id id) (λ stage_loop. refl) new loops same in
           let h = steps.step a b (λ id l. in_a id (omega (arith, has id))) (λ id l. in_b id (omega (arith, has id))) (λ id l e. agree id (omega (arith, has id))
           e) one other ea eb in
           omega (
             arith,
             h,
-            bare_total (part v (strides_of splits) a) (λ own. refl) new loops same,
-            bare_total (part v (strides_of splits) b) (λ own. refl) new
+            bare_total (part v (strides_of splits) a) (λ stage_loop. refl) new loops same,
+            bare_total (part v (strides_of splits) b) (λ stage_loop. refl) new
                 loops same,
           );
     };

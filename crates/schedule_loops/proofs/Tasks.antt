@@ -32,31 +32,38 @@ nest_none counts (own ∷ loops) body id n outside none values is =
 abbrev pub task : {A : Type 0} → Values → List Loop → LoopId → (Values → List A) → Values → ℕ → List A
 task counts inside id body values iteration = nest counts inside body (with id iteration values)
 
-pub tasks_are : {A : Type 0} (counts : Values) (inside : List Loop) (own : Loop) (body : Values → List A) (values : Values)
-    → nest counts (inside ++ own ∷ []) body values ≡ upto (counts own.id) (task counts inside own.id body values)
-tasks_are counts inside own body values = nest-append counts inside (own ∷ []) body values
+pub tasks_are : {A : Type 0} (counts : Values) (inside : List Loop) (stage_loop : Loop) (body : Values → List A) (values : Values)
+    → nest counts (inside ++ stage_loop ∷ []) body values ≡ upto (counts stage_loop.id)
+    (task counts inside stage_loop.id body values)
+tasks_are counts inside stage_loop body values = nest-append counts inside (stage_loop ∷ []) body values
 
-pub among_own : (test : Loop → Bool) (inside : List Loop) (own : Loop) → test own ≡ true → IsAmong test (inside ++ own ∷ []) own.id
-among_own test inside own passed =
-    let one : is_one test own.id own ≡ 1 = rw (same_id-self own.id, passed) refl in
-    omega (arith, total-append (is_one test own.id) inside (own ∷ []))
+pub among_own : (test : Loop → Bool) (inside : List Loop) (stage_loop : Loop) → test stage_loop ≡ true → IsAmong test (inside ++ stage_loop ∷ []) stage_loop.id
+among_own test inside stage_loop passed =
+    let one : is_one test stage_loop.id stage_loop ≡ 1 = rw (same_id-self stage_loop.id, passed) refl in
+    omega (arith, total-append (is_one test stage_loop.id) inside (stage_loop ∷ []))
 
-module _ {A : Type 0} (test : Loop → Bool) (keep : A → Bool) (counts given : Values) (inside : List Loop) (own : Loop) (body : Values → List A)
-    (unique : Unique (inside ++ own ∷ [])) (passed : test own ≡ true) (only : Only test counts (inside ++ own ∷ []) given (λ values. filter keep (body values)))
+module _ {A : Type 0} (test : Loop → Bool) (keep : A → Bool) (counts given : Values) (inside : List Loop) (stage_loop : Loop) (body : Values → List A)
+    (unique : Unique (inside ++ stage_loop ∷ [])) (passed : test stage_loop ≡ true) (only : Only test counts (inside ++ stage_loop ∷ []) given (λ values. filter keep (body values)))
   where
     -- Only one task visits what is kept.
-    pub task_apart : (values : Values) (iteration : ℕ) → iteration < counts own.id → iteration ≢ given own.id → filter keep (task counts inside own.id body values iteration) ≡ []
+    pub task_apart : (values : Values) (iteration : ℕ) → iteration < counts stage_loop.id → iteration ≢ given stage_loop.id → filter keep (task counts inside stage_loop.id body values iteration) ≡ []
     task_apart values iteration l d =
-        let none : total (has_id own.id) inside ≡ 0 = omega (arith, unique own.id, total-append (has_id own.id) inside (own ∷ []), has_same own) in
-        filter-nest keep counts inside body (with own.id iteration values)
-        ∙ nest_none counts inside (λ v. filter keep (body v)) own.id iteration none
+        let none : total (has_id stage_loop.id) inside ≡ 0 = omega (arith, unique stage_loop.id, total-append (has_id stage_loop.id) inside (stage_loop ∷ []), has_same stage_loop) in
+        filter-nest keep counts inside body (with stage_loop.id iteration values)
+        ∙ nest_none counts inside (λ v. filter keep (body v)) stage_loop.id iteration none
         (λ v in_range here. only v
-        (λ id there. elim (cases_id own.id id) [
+        (λ id there. elim (cases_id stage_loop.id id) [
           | inl e ↦ subst (λ (i : LoopId). v i < counts i) e (omega (arith, here, l))
-          | inr d ↦ in_range id (omega (arith, there, total-append (has_id id) inside (own ∷ []), has_other id own d))
+          | inr d ↦ in_range id (omega (
+            arith,
+            there,
+            total-append (has_id id) inside (stage_loop ∷ []),
+            has_other id
+                stage_loop d,
+          ))
         ])
-        own.id (among_own test inside own passed) (λ e. d (sym here ∙ e)))
-        (with own.id iteration values) (with_same own.id iteration values)
+        stage_loop.id (among_own test inside stage_loop passed) (λ e. d (sym here ∙ e)))
+        (with stage_loop.id iteration values) (with_same stage_loop.id iteration values)
 
 -- ---- tasks in any order
 

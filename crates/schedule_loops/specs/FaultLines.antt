@@ -31,11 +31,11 @@ rules_before _ = rules_of.ParallelOutermost ∷ rules_of.ParallelOverArgument �
 
 module _ (standings : List FuncPlacement) (plans : List FuncPlan) where
   -- a Func that the output reaches, with its plan
-  pub record IsPlanned (standing : FuncPlacement) (plan : FuncPlan) : Type 0 where
+  pub record IsPlanned (placement : FuncPlacement) (plan : FuncPlan) : Type 0 where
     pub place : ℕ
-    pub standing_is : slice_get standings place ≡ Some standing
+    pub standing_is : slice_get standings place ≡ Some placement
     pub plan_is : slice_get plans place ≡ Some plan
-    pub is_reached : standing.is_reached ≡ true
+    pub is_reached : placement.is_reached ≡ true
 
   -- The line marks a loop of a stage of such a Func, and the loop breaks the rule. A stage's loops stand innermost first.
   pub record BreaksRule (rule : LoopRule) (line : ℕ) : Type 0 where

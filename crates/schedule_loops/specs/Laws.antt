@@ -21,7 +21,7 @@ use Rattle.schedule_loops.specs.Stages.{IsStageOf, KeepsRules, IsVisitOf, first_
 
 -- Where the output reaches a Func, an accepted schedule has such stages for its pure definition and for each of its updates.
 abbrev pub AcceptedStages : Type 0
-AcceptedStages = (func : Func) (plan : FuncPlan) (own : FuncPlacement) → IsPlan func plan → IsLegal plan own → own.is_reached ≡ true
+AcceptedStages = (func : Func) (plan : FuncPlan) (placement : FuncPlacement) → IsPlan func plan → IsLegal plan placement → placement.is_reached ≡ true
     → (IsStageOf func None plan.pure × KeepsRules plan.pure)
     × ((at : ℕ) (update : Update) (stage : Stage) → slice_get func.updates at ≡ Some update → slice_get plan.updates at ≡ Some stage
     → IsStageOf func (Some update) stage × KeepsRules stage)
@@ -61,12 +61,12 @@ IterationsAreAll = (func : Func) (update : Option Update) (extents : Extents) (s
 
 -- A task is what the loops inside the parallel one list in one of its iterations.
 abbrev pub IterationsAreNests : Type 0
-IterationsAreNests = (func : Func) (update : Option Update) (extents : Extents) (stage : Stage) (inside : List Loop) (own : Loop)
+IterationsAreNests = (func : Func) (update : Option Update) (extents : Extents) (stage : Stage) (inside : List Loop) (stage_loop : Loop)
     → IsStageOf func update stage
-    → stage.loops ≡ inside ++ own ∷ [] → parallel stage ≡ Some own
-    → (number : ℕ) → number < counts extents stage.splits own.id
+    → stage.loops ≡ inside ++ stage_loop ∷ [] → parallel stage ≡ Some stage_loop
+    → (number : ℕ) → number < counts extents stage.splits stage_loop.id
     → visits_in extents stage number
-    ≡ nest (counts extents stage.splits) inside (over_loops extents stage.splits (λ whole. visit_of extents whole ∷ [])) (with own.id number zeros)
+    ≡ nest (counts extents stage.splits) inside (over_loops extents stage.splits (λ whole. visit_of extents whole ∷ [])) (with stage_loop.id number zeros)
 
 -- Each slice belongs to one iteration: so iterations of a pure definition visit points apart, and those of an update slices apart.
 abbrev pub IterationsAreApart : Type 0

@@ -19,7 +19,7 @@ base splits variable iterations loops = total (λ own. if same_variable own.vari
 
 -- the most that a loop can add to a variable
 abbrev pub most_added : Extents → List Split → Variable → Loop → ℕ
-most_added extents splits variable own = if same_variable own.variable variable then strides splits own.id * (counts extents splits own.id - 1) else 0
+most_added extents splits variable stage_loop = if same_variable stage_loop.variable variable then strides splits stage_loop.id * (counts extents splits stage_loop.id - 1) else 0
 
 -- the most that loops can
 abbrev pub reach : Extents → List Split → Variable → List Loop → ℕ

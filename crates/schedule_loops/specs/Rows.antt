@@ -17,7 +17,7 @@ use Rattle.schedule_loops.specs.Visits.{Visit, listed_by}
 abbrev pub loop : LoopId → Variable → Loop
 loop id variable = record { id = id; name = []; variable = variable; inner_of = None; is_from_shift = false; marked = None }
 
--- a definition of one argument with so many values, whose loop is split so
+-- a definition of one argument with this many values, whose loop is split so
 abbrev pub width : ℕ → Extents
 width n = record { first_argument = n; second_argument = 0; first_reduction = 0; second_reduction = 0 }
 

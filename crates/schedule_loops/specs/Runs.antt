@@ -17,7 +17,7 @@ AreIterations counts [] iterations = Unit {0}
 AreIterations counts (own ∷ others) iterations = (iterations own.id < counts own.id) × AreIterations counts others iterations
 
 abbrev pub is_vectorized_loop : Loop → Bool
-is_vectorized_loop own = is_marked marks.Vectorized own
+is_vectorized_loop stage_loop = is_marked marks.Vectorized stage_loop
 
 -- The innermost of these loops is vectorized.
 abbrev pub is_vectorized_first : List Loop → Bool
@@ -38,7 +38,7 @@ is_among (own ∷ others) id = same_id id own.id || is_among others id
 
 -- These loops are in their iterations, and no other has begun.
 abbrev pub iterations_of : List Loop → loops.Values → loops.Values
-iterations_of own iterations id = if is_among own id then iterations id else 0
+iterations_of stage_loops iterations id = if is_among stage_loops id then iterations id else 0
 
 -- what the stage visits in all iterations of its innermost loop, while its other loops are in these iterations
 abbrev pub run_of : Extents → Stage → loops.Values → List Visit

@@ -14,4 +14,4 @@ pub record SizedLoops : Type 0 where
 
 -- the size of a loop that these splits leave
 abbrev pub size : SizedLoops → LoopId → LoopSize
-size own id = record { count = counts own.extents own.splits id; stride = strides own.splits id; is_uneven = is_uneven own.splits id }
+size sized_loops id = record { count = counts sized_loops.extents sized_loops.splits id; stride = strides sized_loops.splits id; is_uneven = is_uneven sized_loops.splits id }

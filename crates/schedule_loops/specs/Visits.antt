@@ -1,6 +1,6 @@
 -- What the loops of a stage visit, and in which order. Loops stand innermost first.
 --
--- A split loop's value is `outer * factor + inner`; under a shift the least of `outer * factor` and extent - factor stands in place of the
+-- A split loop's value is `outer * factor + inner`; under a shift the least of `outer * factor` and extent - factor takes the place of the
 -- product. What lies past the extent is left out.
 -- This project's own.
 use Rattle.std.specs.Prelude.{ℕ, zero, suc, ◌+◌, ◌-◌, ◌*◌, min, Bool, ◌&&◌, ◌==◌, nat_lt, if◌then◌else◌, List, [], ◌∷◌, ◌++◌, filter, ◌≤◌, ◌/◌, true, false}
@@ -22,7 +22,7 @@ use Rattle.schedule_lines.specs.declared.stages.Mark.TheVariants as marks
 -- ---- How many iterations each loop of a stage has, and how far one iteration of it takes its variable.
 --
 -- A loop over a whole variable has an iteration for each value of it, and takes it one further. A split of a loop uses the numbers of that
--- loop as they stood when it was made: the inner loop has `factor` iterations of the same stride, and the outer one as many as it takes to
+-- loop as they were when it was made: the inner loop has `factor` iterations of the same stride, and the outer one as many as it takes to
 -- reach the extent, with a stride `factor` times as long.
 
 -- a number for each loop: the iteration that it is in, from 0, how many iterations it has, or how far an iteration goes
@@ -189,7 +189,7 @@ is_slice x y visit = visit.x == x && visit.y == y
 abbrev pub slice : ℕ → ℕ → List Visit → List Visit
 slice x y visits = filter (is_slice x y) visits
 
--- so many points of a slice, in order
+-- this many points of a slice, in order
 abbrev pub rising : ℕ → ℕ → ℕ → ℕ → List Visit
 rising x y from zero = []
 rising x y from (suc count) = record { x = x; y = y; number = from } ∷ rising x y (suc from) count
@@ -237,12 +237,12 @@ abbrev pub times : ℕ → List ℕ → ℕ
 times n [] = 0
 times n (first ∷ others) = (if first == n then 1 else 0) + times n others
 
--- Each number below this one stands once in the list, and no other.
+-- Each number below this one is once in the list, and no other.
 pub record IsOrder (count : ℕ) (order : List ℕ) : Type 0 where
   pub once : (n : ℕ) → n < count → times n order ≡ 1
   pub no_other : (n : ℕ) → count ≤ n → times n order ≡ 0
 
--- A slice belongs to one of so many iterations: no other visits it.
+-- A slice belongs to one of this many iterations: no other visits it.
 pub record HasOwner (count : ℕ) (iteration : ℕ → List Visit) (x y : ℕ) : Type 0 where
   pub owner : ℕ
   pub is_iteration : owner < count

@@ -10,7 +10,7 @@
 //! - `specs/Runs.antt`: what a stage visits while its innermost loop takes all its values.
 //!
 //! A stage's loops come from the first loops of its Func, and an accepted stage keeps the rules of marked loops:
-//! both are `schedule`'s words, so this crate stands on it.
+//! both are `schedule`'s words, so this crate is on it.
 #![tactic(auto)]
 
 pub mod extents;

@@ -9,14 +9,14 @@ use schedule_lines::Loop;
 
 impl LoopSizes {
     /// The most that a loop of the stage can add to a variable.
-    pub fn most_added(&self, own: &Loop, variable: Variable) -> u64
-        ensures is { result ≡ spec.most_added self.now.extents self.now.splits variable own.now }
+    pub fn most_added(&self, stage_loop: &Loop, variable: Variable) -> u64
+        ensures is { result ≡ spec.most_added self.now.extents self.now.splits variable stage_loop.now }
         ensures few { result ≤ 2 ^ 56 }
     {
-        if own.variable != variable {
+        if stage_loop.variable != variable {
             return 0;
         }
-        let size = self.size(own.id);
+        let size = self.size(stage_loop.id);
         u64::from(size.stride) * u64::from(size.count.saturating_sub(1))
     }
 

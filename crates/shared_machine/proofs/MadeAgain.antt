@@ -92,7 +92,7 @@ tally-few state (one ∷ turns) hart = let f = some-few (one == hart) (outcome s
 pub tally-more-few : (state : State) (hart made : ℕ) → tally_more state hart made ≤ 16 * made
 tally-more-few state hart made = let f = tally-few state (replicate made hart) hart in let l = length-replicate made hart in omega (arith, f, l)
 
--- ---- the turns of a run that stands at a place
+-- ---- the turns of a run that is at a place
 
 pub take-run : (turns : List ℕ) (place hart count : ℕ) → Stand turns place hart count → take (place + count) turns ≡ take place turns ++ replicate count hart
 take-run turns place hart count stand =

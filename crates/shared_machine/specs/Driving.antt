@@ -19,8 +19,8 @@ RefusedSo seat OutOfMemory = Unit {0}
 RefusedSo seat TurnsSpent = most_turns ≤ number seat
 RefusedSo seat StopAsked = has_seen_stop seat.glance ≡ true
 
--- Why a thread ended that was to make so many turns at most, where the seat had made this number before: the hart doesn't run
--- any more, all of them were made, the gate isn't always open, or a turn was refused
+-- Why a thread ended that was to make this many turns at most, where the seat had made this number before: the hart
+-- doesn't run any more, all of them were made, the gate isn't always open, or a turn was refused
 abbrev pub EndedSo : {O F : Type 0} {G : Ghosts O} → Bool → ℕ → ℕ → Seat O F G → Ended → Type 0
 EndedSo always limit before seat Halted = tally seat % 16 ≢ 0
 EndedSo always limit before seat Limit = number seat ≡ before + limit

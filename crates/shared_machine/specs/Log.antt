@@ -23,7 +23,7 @@ abbrev pub tally_from : State → List ℕ → ℕ → ℕ
 tally_from state [] hart = 0
 tally_from state (one ∷ turns) hart = (if one == hart then code_of (outcome state one) else 0) + tally_from (turn state one) turns hart
 
--- the state that the turns lead to, from the start of an image with so many harts
+-- the state that the turns lead to, from the start of an image with this many harts
 abbrev pub state_after : ImageContents → ℕ → List ℕ → State
 state_after image harts turns = run (machine_of image harts) turns
 
@@ -35,7 +35,7 @@ tally image harts turns hart = tally_from (machine_of image harts) turns hart
 abbrev pub BeginsWith : List ℕ → List ℕ → Type 0
 BeginsWith turns first = take (length first) turns ≡ first
 
--- a log with so many turns more of one hart
+-- a log with this many turns more of one hart
 abbrev pub with_turns : LogState → ℕ → ℕ → LogState
 with_turns log hart made = record { harts = log.harts; turns = log.turns ++ replicate made hart }
 
@@ -43,16 +43,16 @@ with_turns log hart made = record { harts = log.harts; turns = log.turns ++ repl
 abbrev pub with_turn : LogState → ℕ → LogState
 with_turn log hart = with_turns log hart 1
 
--- the state after so many turns more of one hart
+-- the state after this many turns more of one hart
 abbrev pub after_turns : State → ℕ → ℕ → State
 after_turns state hart made = run state (replicate made hart)
 
--- the sum of the codes of so many turns of one hart
+-- the sum of the codes of this many turns of one hart
 abbrev pub tally_more : State → ℕ → ℕ → ℕ
 tally_more state hart made = tally_from state (replicate made hart) hart
 
--- A hart that had made so many turns, with this tally, made `made` more, one after the other: all but the last stepped, and
--- the last came to this. There is a log that says so, of this image and so many harts, which begins with the turns resumed.
+-- A hart that had made this many turns, with this tally, made `made` more, one after the other: all but the last stepped, and
+-- the last came to this. There is a log that says so, of this image and this many harts, which begins with the turns resumed.
 pub record CameSo (image : ImageContents) (harts : ℕ) (resumed : List ℕ) (hart number tallied made : ℕ) (last : Outcome) : Type 0 where
   pub turns : List ℕ
   pub log : IsLog (record { harts = harts; turns = turns })

@@ -1,4 +1,4 @@
--- What a run leaves whose harts make turns until they stop or have made so many.
+-- What a run leaves whose harts make turns until they stop or have made this many.
 -- This project's own.
 use Rattle.std.specs.Prelude.{◌≡◌, ◌≢◌, ℕ, ◌+◌, ◌<◌, ◌≤◌, List}
 use Rattle.hart_core.specs.declared.harts.Status.TheVariants.{Running}
@@ -7,7 +7,7 @@ use Rattle.turn_log.specs.TurnLog.{LogState, IsLog, count_of, most_turns}
 use Rattle.loader.specs.Image.{ImageContents}
 use Rattle.shared_machine.specs.Log.{BeginsWith, state_after}
 
--- A log of an image with so many harts, which begins with turns that were made before. No hart has made more than `limit` turns beyond
+-- A log of an image with this many harts, which begins with turns that were made before. No hart has made more than `limit` turns beyond
 -- these. One that has made fewer isn't running at the end, unless it has made as many as any hart may make.
 pub record IsRunOf (image : ImageContents) (harts : ℕ) (first : List ℕ) (limit : ℕ) (log : LogState) : Type 0 where
   pub is_log : IsLog log

@@ -22,7 +22,7 @@ tally seat = tally_in seat.shares
 abbrev pub IsSeatOf : {O F : Type 0} {G : Ghosts O} → BoardId → Seat O F G → Type 0
 IsSeatOf name seat = board.IsSeatOf name seat.place × board.IsGlanceOf name seat.glance
 
--- the seat of a hart that has made so many turns, with this tally, before any thread has run it
+-- the seat of a hart that has made this many turns, with this tally, before any thread has run it
 pub record IsSeatAt {O F : Type 0} {G : Ghosts O} (name : BoardId) (turns sum which : ℕ) (seat : Seat O F G) : Type 0 where
   pub of : IsSeatOf name seat
   pub is : hart seat ≡ which
@@ -44,7 +44,7 @@ AreNewSeats name which seats = AreSeatsAt name (λ hart. 0) (λ hart. 0) which s
 abbrev pub has_hart : {O F : Type 0} {G : Ghosts O} → List (Seat O F G) → ℕ → Bool
 has_hart seats which = list_any (λ seat. hart seat == which) seats
 
--- each of so many harts has one
+-- each of this many harts has one
 abbrev pub has_all : {O F : Type 0} {G : Ghosts O} → ℕ → List (Seat O F G) → Bool
 has_all zero seats = true
 has_all (suc which) seats = has_all which seats && has_hart seats which

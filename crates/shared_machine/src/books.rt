@@ -128,7 +128,7 @@ impl<F: Ledgers> Books<F> {
         }
     }
 
-    /// So many turns more of a seat's hart, with the sum of the codes of their outcomes.
+    /// This many turns more of a seat's hart, with the sum of the codes of their outcomes.
     pub(crate) fn count(&mut self, shares: &mut Shares<F>, turns: u64, codes: u64)
         ensures numbers { numbers_of self.new ≡ slice_set (numbers_of self.old) (hart_of shares.old)
             (slice_index (numbers_of self.old) (hart_of shares.old) + turns) }

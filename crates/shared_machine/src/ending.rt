@@ -72,7 +72,7 @@ impl<O: Origin, F: Ledgers> Shared<O, F> {
     }
 }
 
-/// Whether each of so many harts has a seat.
+/// Whether each of this many harts has a seat.
 fn has_all<O: Origin, F: Ledgers>(seats: &[Seat<O, F>], harts: usize) -> bool
     ensures { result ≡ has_all harts seats.now }
 {

@@ -44,8 +44,8 @@ impl<O: Origin, F: Ledgers> GuardedMachine<O, F> {
         }
     }
 
-    /// Turns of the hart whose shares these are, one after the other, until one doesn't step, so many are made, or the
-    /// hart has made 2^40 in all.
+    /// Turns of the hart whose shares these are, one after the other, until one doesn't step, this many are made, or
+    /// the hart has made 2^40 in all.
     pub(crate) fn turns(&mut self, shares: &mut Shares<F>, most: u64) -> Result<Batch, TurnRefusal>
         requires there { hart_of shares.old < O.harts }
         requires some { 1 ≤ most }

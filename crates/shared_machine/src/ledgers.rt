@@ -102,7 +102,7 @@ impl<F: Ledgers, const HART: usize> HartBooks<F, HART> {
         self.tally.audit(&mut shares.tally);
     }
 
-    /// So many turns more, with the sum of the codes of their outcomes.
+    /// This many turns more, with the sum of the codes of their outcomes.
     pub(crate) fn count(&mut self, shares: &mut HartShares<F, HART>, turns: u64, codes: u64)
         ensures books { (self.new.number.total ≡ self.old.number.total + turns)
             × (self.new.tally.total ≡ self.old.tally.total + codes) }

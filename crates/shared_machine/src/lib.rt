@@ -2,7 +2,7 @@
 //!
 //! - [`books`], [`ledgers`]: what is known of each hart's turns under the lock and in its seat.
 //! - [`locked`]: the machine beside its log, of which it is always the replay.
-//! - [`origins`]: what stands in a type for the image and the number of harts.
+//! - [`origins`]: what is in a type for the image and the number of harts.
 //! - [`shared`]: the machine that threads share ([`Shared`]).
 //! - [`driving`], [`gates`]: a thread for each seat ([`drive`], [`Gate`]).
 //! - [`running`]: a machine made, driven and closed in one call ([`run`]).

@@ -67,8 +67,8 @@ impl<O: Origin> Locked<O> {
         Ok(machine.turn(hart))
     }
 
-    /// Turns of a hart one after the other, which the log then tells: until one doesn't step, so many are made, or the
-    /// hart has made 2^40 in all. It makes at least one.
+    /// Turns of a hart one after the other, which the log then tells: until one doesn't step, this many are made, or
+    /// the hart has made 2^40 in all. It makes at least one.
     pub fn turns(&mut self, hart: usize, most: u64) -> Result<Batch, TurnRefusal>
         requires there { hart < O.harts }
         requires some { 1 ≤ most }

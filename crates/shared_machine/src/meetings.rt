@@ -181,7 +181,7 @@ impl Desk {
 }
 
 impl Meeting {
-    /// A meeting of so many.
+    /// A meeting of this many.
     fn new(many: usize) -> Meeting {
         Meeting {
             desk: Mutex::new(Desk { missing: many }),

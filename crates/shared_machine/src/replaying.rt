@@ -28,7 +28,7 @@ pub(crate) fn replay(machine: &mut Machine, log: &TurnLog) -> [u64; 8]
     tallies
 }
 
-/// Makes so many turns of a hart: the sum of their codes. Those of a hart that has stopped are passed at once.
+/// Makes this many turns of a hart: the sum of their codes. Those of a hart that has stopped are passed at once.
 fn replay_run(machine: &mut Machine, hart: usize, turns: u64) -> u64
     requires below { hart < length machine.old.harts }
     requires few { turns ≤ 8 * most_turns }

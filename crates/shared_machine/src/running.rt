@@ -34,8 +34,8 @@ const BATCH: u64 = 64;
 const FIRST: usize = 0;
 
 /// Runs the machine of an image on from a log of its turns, in a thread for each of the log's harts, until each has
-/// stopped or has made so many turns more. The machine at the end, and the log of all turns, which begins with the one
-/// given.
+/// stopped or has made this many turns more. The machine at the end, and the log of all turns, which begins with the
+/// one given.
 ///
 /// Where a turn is refused memory, none comes out, and the other harts make no more than the turns that they are at.
 /// None comes out where threads can't be had. One hart needs none beside the caller's.
@@ -77,7 +77,7 @@ fn run_alone<O: Origin>(
     Ok(locked.into_parts())
 }
 
-/// Makes turns of the one hart of a machine that no thread shares, until it has stopped or has made so many.
+/// Makes turns of the one hart of a machine that no thread shares, until it has stopped or has made this many.
 fn run_on<O: Origin>(locked: &mut Locked<O>, limit: u64) -> Result<(), AllocError>
     requires { O.harts ≡ 1 }
     ensures { OnOk result (IsRunOf O.image O.harts locked.old.log.turns limit locked.new.log) }
@@ -113,7 +113,7 @@ fn run_named<O: Origin + Send + Sync, F: Ledgers + Send + Sync, R: Threads + Wai
     run_out(rt, shared, seats, limit)
 }
 
-/// Drives all seats of a machine, each for so many turns, and closes the machine.
+/// Drives all seats of a machine, each for this many turns, and closes the machine.
 fn run_out<O: Origin + Send + Sync, F: Ledgers + Send + Sync, R: Threads + Wait + Sync>(
     rt: &R,
     shared: Shared<O, F>,

@@ -66,7 +66,7 @@ impl<O: Origin, F: Ledgers> Shared<O, F> {
     ///
     /// A thread that finds the lock held naps, and does not queue: the one that has it then takes it again without a
     /// call of the system, which would cost more than a batch of turns. So that none waits for ever where others always
-    /// come first, it queues after so many naps.
+    /// come first, it queues after this many naps.
     fn locked<R: Wait>(&self, rt: &R) -> MutexGuard<'_, GuardedMachine<O, F>> {
         for _nap in 0..NAPS {
             for _look in 0..LOOKS {

@@ -9,7 +9,7 @@ use rv_insn::Reg;
 /// How often a thread gives way while no hart gets on.
 const MOST_WAYS: u32 = 1_000;
 
-/// What a thread remembers of the hart whose turns it makes: how that stood after its last turns, and what came since
+/// What a thread remembers of the hart whose turns it makes: how that was after its last turns, and what came since
 /// of all harts.
 #[derive(Clone, Copy, Debug)]
 pub(crate) struct Stance {
@@ -30,7 +30,7 @@ impl Stance {
         }
     }
 
-    /// Looks at a hart after its turns. Whether it stands as it stood after those before: then it went round a loop
+    /// Looks at a hart after its turns. Whether it is as it was after those before: then it went round a loop
     /// that changed none of its registers, as one that waits at a gate does. Registers are compared by a number that is
     /// made of all of them, and where the pc is the same alone, so that a look costs little beside the turns.
     pub(crate) fn stays(&mut self, machine: &Machine, hart: usize) -> bool

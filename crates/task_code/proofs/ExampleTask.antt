@@ -58,9 +58,9 @@ module _ (task : ℕ) (small : task < 2) where
   unfolding value
   number-is reads = at_number ℕ (value_at reads values) 0
 
-  no-linear : (reads : Reads) (own : Linear) → loads reads values (e.Linear own) ≡ []
+  no-linear : (reads : Reads) (sum : Linear) → loads reads values (e.Linear sum) ≡ []
   unfolding seen
-  no-linear reads own = ap (λ (t : Seen). t.points) (at_linear Seen (seen_at reads values) own)
+  no-linear reads sum = ap (λ (t : Seen). t.points) (at_linear Seen (seen_at reads values) sum)
 
   no-number : (reads : Reads) → loads reads values (e.Number 0) ≡ []
   unfolding seen
@@ -190,7 +190,7 @@ starts-empty zero l = refl
 starts-empty (suc zero) l = refl
 starts-empty (suc (suc n)) l = absurd (omega (arith, l))
 
--- so many words have four times as many bytes
+-- this many words have four times as many bytes
 words-long : (i n : ℕ) (a : ℕ → ℕ) → length (touched (map (access_at Word) (firsts i n a))) ≡ 4 * n
 words-long i zero a = refl
 words-long i (suc n) a = let e = words-long (suc i) n a in let g : length (touched (map (access_at Word) (firsts i (suc n) a)))
@@ -294,39 +294,44 @@ module _ (w : World) (m : List ℕ) (l : length m ≡ w.size) (f : ℕ → ℕ) 
         ∙ one.others q (λ e. omega (arith, e, first));
   }
 
-module _ (own : Setting) (good : IsSetting own) (at-places : own.places ≡ example_places) (task : ℕ) (small : task < 2)
-    (sound : SoundIn own example_phase.body (task_values (Some example_counter) task))
-    (sure : RunsIn own example_phase.body (task_values (Some example_counter) task)) (funcs : Planes) (words : AreWords funcs) where
+module _ (setting : Setting) (good : IsSetting setting) (at-places : setting.places ≡ example_places) (task : ℕ)
+    (small : task < 2)
+    (sound : SoundIn setting example_phase.body (task_values (Some example_counter) task))
+    (sure : RunsIn setting example_phase.body (task_values (Some example_counter) task)) (funcs : Planes) (words : AreWords funcs) where
   abbrev w : World
-  w = own.world
+  w = setting.world
 
   abbrev at-task : Values
   at-task = task_values (Some example_counter) task
 
   abbrev reads : Reads
-  reads = reads_of own.inputs funcs
+  reads = reads_of setting.inputs funcs
 
   abbrev its_hits : ℕ → ℕ → ℕ → Type 0
   its_hits func i j = (0 ≡ func) × ((value reads at-task example_store.x ≡ i) × (value reads at-task example_store.y ≡ j))
 
-  spot-is : address_of w own.places (func_point 0 (value reads at-task example_store.x) (value reads at-task example_store.y)) ≡ 0x00200008 + 4 * task
+  spot-is : address_of w setting.places (func_point 0 (value reads at-task example_store.x) (value reads at-task example_store.y)) ≡ 0x00200008 + 4 * task
   spot-is =
-      ap (λ a. address_of w own.places (func_point 0 a (value reads at-task example_store.y))) (x-is task small reads)
-      ∙ ap (λ b. address_of w own.places (func_point 0 task b)) (number-is task small reads)
+      ap (λ a. address_of w setting.places (func_point 0 a (value reads at-task example_store.y)))
+      (x-is task small reads)
+      ∙ ap (λ b. address_of w setting.places (func_point 0 task b)) (number-is task small reads)
       ∙ ap (λ p. address_of w p (func_point 0 task 0)) at-places
       ∙ (let g : address_of w example_places (func_point 0 task 0) ≡ 0x00200008 + 4 * task = omega arith in g)
 
   value-is : value reads at-task example_store.value ≡ 7 + task
   value-is = linear-is task small reads 7 (omega arith)
 
-  stores : (f : ℕ → ℕ) (memory : List ℕ) → HoldsFuncs own memory funcs → f 15 ≡ 0x00200000 + 4 * task → f 20 ≡ 7 + task
-      → Does own saving 1 f memory (λ q. Unit {0}) (stored own.points reads example_store at-task funcs) its_hits
+  stores : (f : ℕ → ℕ) (memory : List ℕ) → HoldsFuncs setting memory funcs → f 15 ≡ 0x00200000 + 4 * task
+      → f 20 ≡ 7 + task
+      → Does setting saving 1 f memory (λ q. Unit {0}) (stored setting.points reads example_store at-task funcs)
+      its_hits
   stores f memory holds e15 e20 =
-      let k = and_parts (own.written 0 (value reads at-task example_store.x) (value reads at-task example_store.y)) _
-      (sym (sound_store reads own.written own.loaded example_store at-task) ∙ sound funcs words) in
+      let k = and_parts (setting.written 0 (value reads at-task example_store.x) (value reads at-task example_store.y))
+      _
+      (sym (sound_store reads setting.written setting.loaded example_store at-task) ∙ sound funcs words) in
       let g : ((2097152 + 4 * task) + 8) % 2 ^ 32 ≡ 2097160 + 4 * task = omega (arith, small) in
-      saved own good at-task (λ q. Unit {0}) example_store 15 20 (pos 8) f memory funcs (omega arith) (omega arith) holds k.0
-      (is-single own good at-task example_store sure funcs words) (subst (λ n. n < 2 ^ 32) (sym value-is) (omega (arith, small)))
+      saved setting good at-task (λ q. Unit {0}) example_store 15 20 (pos 8) f memory funcs (omega arith) (omega arith) holds k.0
+      (is-single setting good at-task example_store sure funcs words) (subst (λ n. n < 2 ^ 32) (sym value-is) (omega (arith, small)))
       (ap (λ n. (n + 8) % 2 ^ 32) e15 ∙ g ∙ sym spot-is) (e20 ∙ sym value-is)
 
 example-does : EachTaskEnds example_places example_phase example_ticket example_insns (λ task. 13)

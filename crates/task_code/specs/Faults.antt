@@ -1,4 +1,4 @@
--- Why no code of a task is given: for each fault what stands then, by counts on the phase alone. This project's own.
+-- Why no code of a task is given: for each fault what is then, by counts on the phase alone. This project's own.
 use Rattle.std.specs.Prelude.{◌≤◌, ◌^◌}
 use Rattle.loop_ir.specs.declared.statements.Phase.{Phase}
 use Rattle.loop_ir.specs.Depths.{task_depth}

@@ -11,7 +11,7 @@ use Rattle.task_code_scalar.specs.Words.{Emits}
 pub use Rattle.task_code_statements.specs.Tasks.{DoesTask, EachTaskEnds, HasDrawn, TaskEnds, restored}
 pub use Rattle.task_code_statements.specs.declared.stages.CodeStage.{CodeStage}
 
--- so many words a task asks for: those of its statement, and those that leave what the draw and the gate look for
+-- this many words a task asks for: those of its statement, and those that leave what the draw and the gate look for
 abbrev pub task_size : Phase → ℕ
 task_size phase = whole_size phase.body + 8
 

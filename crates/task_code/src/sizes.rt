@@ -15,7 +15,7 @@ fn plus(a: u32, b: u32) -> u32
     if a + b < 1 << 18 { a + b } else { 1 << 18 }
 }
 
-/// Of a sum of so many terms.
+/// Of a sum of this many terms.
 fn sum_size(terms: usize) -> u32
     ensures { (result ≤ 2 ^ 18) × (result ≡ min (2 + 4 * terms) (2 ^ 18)) }
 {
@@ -26,7 +26,7 @@ fn sum_size(terms: usize) -> u32
     }
 }
 
-/// What it takes to keep a first operand while a second one is made, and so many more.
+/// What it takes to keep a first operand while a second one is made, and this many more.
 fn kept(second_is_leaf: bool, more: u32) -> u32
     requires { more ≤ 100 }
     ensures { (result ≤ 200) × (result ≡ (if second_is_leaf then 0 else 15) + more) }
@@ -96,7 +96,7 @@ fn are_copies(is_laid: bool, count: u32) -> bool
     is_laid && count > 0
 }
 
-/// So many times a size.
+/// This many times a size.
 fn times(count: u32, size: u32) -> u32
     ensures { (result ≤ 2 ^ 18) × (result ≡ min (count * size) (2 ^ 18)) }
 {
@@ -108,7 +108,7 @@ fn times(count: u32, size: u32) -> u32
     }
 }
 
-/// Of a loop of so many iterations around a body of so many words.
+/// Of a loop of this many iterations around a body of this many words.
 fn loop_size(is_laid: bool, count: u32, body: u32) -> u32
     requires { body ≤ 2 ^ 18 }
     ensures { (result ≤ 2 ^ 18) × ((n : ℕ) → body ≡ min n (2 ^ 18)

@@ -73,7 +73,7 @@ fn emit_words(
 ///
 /// It finds the task's number in x12 and the hart's in x10, and ends after its last word, with the addresses of the
 /// ticket word and of the gate word after it in x13 and x14, 1 in x15 and the number of tasks in x16; x10 and x11
-/// stay. Wherever it stands it does each task of the phase to the buffers in memory, in turns that depend on the task
+/// stay. Wherever it is it does each task of the phase to the buffers in memory, in turns that depend on the task
 /// alone (`DoesTask` of `task_code_statements/specs/Tasks.antt`), and it has no more words than the phase asks for. It
 /// also adds which of the words it takes for the code of stages inside the phase; no clause speaks of that.
 ///

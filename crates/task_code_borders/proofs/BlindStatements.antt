@@ -191,14 +191,15 @@ module _ (counter : Counter) (count : ℕ) (kind : LoopKind) (body : Stmt) (not_
       → may_be_at_once reads (s.For counter count kind body) values ≡ may_be_at_once reads (s.For counter count kind body) (of_stages values)
   for_once reads values =
       let r = loop_lanes reads body in
-      ap (λ (own : LoopLanes). own.may_be_at_once values) (lanes_of_loop reads counter count kind body)
+      ap (λ (own_loop_lanes : LoopLanes). own_loop_lanes.may_be_at_once values)
+      (lanes_of_loop reads counter count kind body)
       ∙ ap (λ b. once_by reads b (all_step_up r (λ i. with counter i values) count) (every count (λ i. r.may_be_at_once (with counter i values))))
       (apart_blind reads values)
       ∙ ap (λ b. once_by reads (are_apart r (λ i. with counter i (of_stages values)) count) b (every count (λ i. r.may_be_at_once (with counter i values))))
       (steps_blind reads values)
       ∙ ap (λ b. once_by reads (are_apart r (λ i. with counter i (of_stages values)) count) (all_step_up r (λ i. with counter i (of_stages values)) count) b)
       (many_if (at_once reads) Any any counter count body body not_border (λ v g. is.at_once reads v) values tt)
-      ∙ sym (ap (λ (own : LoopLanes). own.may_be_at_once (of_stages values)) (lanes_of_loop reads counter count kind body))
+      ∙ sym (ap (λ (own_loop_lanes : LoopLanes). own_loop_lanes.may_be_at_once (of_stages values)) (lanes_of_loop reads counter count kind body))
 
   -- ---- where points are stored in runs
 
@@ -252,21 +253,22 @@ module _ (counter : Counter) (count : ℕ) (kind : LoopKind) (body : Stmt) (not_
 
 -- ---- a statement that is taken apart
 
-pub blind_as : (own made : Stmt) → own ≡ made → IsBlindStatement made → IsBlindStatement own
-blind_as own made is blind = subst IsBlindStatement (sym is) blind
+pub blind_as : (statement new_statement : Stmt) → statement ≡ new_statement → IsBlindStatement new_statement
+    → IsBlindStatement statement
+blind_as statement new_statement is blind = subst IsBlindStatement (sym is) blind
 
-pub blind_sequence : (own first second a b : Stmt) → own ≡ s.Sequence first second → a ≡ first → b ≡ second → IsBlindStatement a → IsBlindStatement b
-    → IsBlindStatement own
-blind_sequence own first second a b is ea eb one two =
-    blind_as own (s.Sequence a b) (is ∙ ap (λ z. s.Sequence z second) (sym ea) ∙ ap (s.Sequence a) (sym eb)) (sequence_blind a b one two)
+pub blind_sequence : (statement first second a b : Stmt) → statement ≡ s.Sequence first second → a ≡ first → b ≡ second → IsBlindStatement a → IsBlindStatement b
+    → IsBlindStatement statement
+blind_sequence statement first second a b is ea eb one two =
+    blind_as statement (s.Sequence a b) (is ∙ ap (λ z. s.Sequence z second) (sym ea) ∙ ap (s.Sequence a) (sym eb)) (sequence_blind a b one two)
 
-pub blind_for : (own : Stmt) (counter : Counter) (count : ℕ) (kind : LoopKind) (body a : Stmt) → own ≡ s.For counter count kind body → a ≡ body
-    → is_border counter ≡ false → IsBlindStatement a → IsBlindStatement own
-blind_for own counter count kind body a is ea not_border one =
-    blind_as own (s.For counter count kind a) (is ∙ ap (s.For counter count kind) (sym ea)) (for_blind counter count kind a not_border one)
+pub blind_for : (statement : Stmt) (counter : Counter) (count : ℕ) (kind : LoopKind) (body a : Stmt) → statement ≡ s.For counter count kind body → a ≡ body
+    → is_border counter ≡ false → IsBlindStatement a → IsBlindStatement statement
+blind_for statement counter count kind body a is ea not_border one =
+    blind_as statement (s.For counter count kind a) (is ∙ ap (s.For counter count kind) (sym ea)) (for_blind counter count kind a not_border one)
 
-pub blind_bind : (own : Stmt) (counter : Counter) (whole : Whole) (extent : ℕ) (body a : Stmt) → own ≡ s.Bind counter whole extent body → a ≡ body
-    → is_border counter ≡ false → is_border whole.outer ≡ false → is_border whole.inner ≡ false → IsBlindStatement a → IsBlindStatement own
-blind_bind own counter whole extent body a is ea not_border outer inner one =
-    blind_as own (s.Bind counter whole extent a) (is ∙ ap (s.Bind counter whole extent) (sym ea))
+pub blind_bind : (statement : Stmt) (counter : Counter) (whole : Whole) (extent : ℕ) (body a : Stmt) → statement ≡ s.Bind counter whole extent body → a ≡ body
+    → is_border counter ≡ false → is_border whole.outer ≡ false → is_border whole.inner ≡ false → IsBlindStatement a → IsBlindStatement statement
+blind_bind statement counter whole extent body a is ea not_border outer inner one =
+    blind_as statement (s.Bind counter whole extent a) (is ∙ ap (s.Bind counter whole extent) (sym ea))
     (bind_blind counter whole extent a not_border outer inner one)

@@ -32,21 +32,21 @@ sum-blind values (first ∷ others) none = by-test (is_border first.counter) ref
         ap (λ n. values first.counter * first.stride + n) (rest h)
         ∙ ap (λ b. (if b then 0 else values first.counter) * first.stride + sum_of (of_stages values) others) (sym is)
 
-linear-blind : (values : Values) (own : Linear) → has_border own.terms ≡ false → linear_value values own ≡ linear_value (of_stages values) own
+linear-blind : (values : Values) (new_sum : Linear) → has_border new_sum.terms ≡ false → linear_value values new_sum ≡ linear_value (of_stages values) new_sum
 unfolding linear_value
-linear-blind values own none = ap (λ n. (own.number + n) % 2 ^ 32) (sum-blind values own.terms none)
+linear-blind values new_sum none = ap (λ n. (new_sum.number + n) % 2 ^ 32) (sum-blind values new_sum.terms none)
 
 -- ---- expressions
 
-blind-as : (own x : Expr) → own ≡ x → IsBlind x → IsBlind own
-blind-as own x is same = subst IsBlind (sym is) same
+blind-as : (expression x : Expr) → expression ≡ x → IsBlind x → IsBlind expression
+blind-as expression x is same = subst IsBlind (sym is) same
 
 module _ (reads : Reads) (values : Values) where
   abbrev there : Expr → Seen
-  there own = seen reads values own
+  there expression = seen reads values expression
 
   abbrev here : Expr → Seen
-  here own = seen reads (of_stages values) own
+  here expression = seen reads (of_stages values) expression
 
   sees-number : (n : ℕ) → there (e.Number n) ≡ here (e.Number n)
   unfolding seen
@@ -94,39 +94,44 @@ module _ (reads : Reads) (values : Values) where
       ∙ ap (λ s. seen_at reads values (layer.Load source s (there y))) one ∙ ap (λ s. seen_at reads values (layer.Load source (here x) s)) two
       ∙ sym (at_load Seen (seen_at reads (of_stages values)) source x y)
 
-  pub value_blind : (own : Expr) → IsBlind own → value reads values own ≡ value reads (of_stages values) own
-  value_blind own is =
-      sym (values_are_seen reads values own) ∙ ap (λ (s : Seen). s.value) (is.sees reads values) ∙ values_are_seen reads (of_stages values) own
+  pub value_blind : (expression : Expr) → IsBlind expression → value reads values expression ≡ value reads
+      (of_stages values) expression
+  value_blind expression is =
+      sym (values_are_seen reads values expression) ∙ ap (λ (s : Seen). s.value) (is.sees reads values) ∙ values_are_seen reads (of_stages values) expression
 
-  pub loads_blind : (own : Expr) → IsBlind own → loads reads values own ≡ loads reads (of_stages values) own
-  loads_blind own is = ap (λ (s : Seen). s.points) (is.sees reads values)
+  pub loads_blind : (expression : Expr) → IsBlind expression → loads reads values expression ≡ loads reads
+      (of_stages values) expression
+  loads_blind expression is = ap (λ (s : Seen). s.points) (is.sees reads values)
 
-pub blind-number : (own : Expr) (n : ℕ) → own ≡ e.Number n → IsBlind own
-blind-number own n is = blind-as own (e.Number n) is (record { sees = λ reads values. sees-number reads values n })
+pub blind-number : (expression : Expr) (n : ℕ) → expression ≡ e.Number n → IsBlind expression
+blind-number expression n is = blind-as expression (e.Number n) is
+    (record { sees = λ reads values. sees-number reads values n })
 
-pub blind-linear : (own : Expr) (sum : Linear) → own ≡ e.Linear sum → has_border sum.terms ≡ false → IsBlind own
-blind-linear own sum is none = blind-as own (e.Linear sum) is (record { sees = λ reads values. sees-linear reads values sum none })
+pub blind-linear : (expression : Expr) (sum : Linear) → expression ≡ e.Linear sum → has_border sum.terms ≡ false
+    → IsBlind expression
+blind-linear expression sum is none = blind-as expression (e.Linear sum) is (record { sees = λ reads values. sees-linear reads values sum none })
 
-pub blind-binary : (own : Expr) (o : Operation) (a b x y : Expr) → own ≡ e.Binary o a b → x ≡ a → y ≡ b → IsBlind x → IsBlind y → IsBlind own
-blind-binary own o a b x y is ex ey one two =
-    blind-as own (e.Binary o x y) (is ∙ ap (λ z. e.Binary o z b) (sym ex) ∙ ap (e.Binary o x) (sym ey))
+pub blind-binary : (expression : Expr) (o : Operation) (a b x y : Expr) → expression ≡ e.Binary o a b → x ≡ a → y ≡ b → IsBlind x → IsBlind y → IsBlind expression
+blind-binary expression o a b x y is ex ey one two =
+    blind-as expression (e.Binary o x y) (is ∙ ap (λ z. e.Binary o z b) (sym ex) ∙ ap (e.Binary o x) (sym ey))
     (record { sees = λ reads values. sees-binary reads values o x y (one.sees reads values) (two.sees reads values) })
 
-pub blind-divide : (own a x : Expr) (c : ℕ) → own ≡ e.Divide a c → x ≡ a → IsBlind x → IsBlind own
-blind-divide own a x c is ex one =
-    blind-as own (e.Divide x c) (is ∙ ap (λ z. e.Divide z c) (sym ex)) (record { sees = λ reads values. sees-divide reads values x c (one.sees reads values) })
+pub blind-divide : (expression a x : Expr) (c : ℕ) → expression ≡ e.Divide a c → x ≡ a → IsBlind x → IsBlind expression
+blind-divide expression a x c is ex one =
+    blind-as expression (e.Divide x c) (is ∙ ap (λ z. e.Divide z c) (sym ex)) (record { sees = λ reads values. sees-divide reads values x c (one.sees reads values) })
 
-pub blind-remainder : (own a x : Expr) (c : ℕ) → own ≡ e.Remainder a c → x ≡ a → IsBlind x → IsBlind own
-blind-remainder own a x c is ex one =
-    blind-as own (e.Remainder x c) (is ∙ ap (λ z. e.Remainder z c) (sym ex))
+pub blind-remainder : (expression a x : Expr) (c : ℕ) → expression ≡ e.Remainder a c → x ≡ a → IsBlind x
+    → IsBlind expression
+blind-remainder expression a x c is ex one =
+    blind-as expression (e.Remainder x c) (is ∙ ap (λ z. e.Remainder z c) (sym ex))
     (record { sees = λ reads values. sees-remainder reads values x c (one.sees reads values) })
 
-pub blind-select : (own c a b x y z : Expr) → own ≡ e.Select c a b → x ≡ c → y ≡ a → z ≡ b → IsBlind x → IsBlind y → IsBlind z → IsBlind own
-blind-select own c a b x y z is ex ey ez one two three =
-    blind-as own (e.Select x y z) (is ∙ ap (λ t. e.Select t a b) (sym ex) ∙ ap (λ t. e.Select x t b) (sym ey) ∙ ap (e.Select x y) (sym ez))
+pub blind-select : (expression c a b x y z : Expr) → expression ≡ e.Select c a b → x ≡ c → y ≡ a → z ≡ b → IsBlind x → IsBlind y → IsBlind z → IsBlind expression
+blind-select expression c a b x y z is ex ey ez one two three =
+    blind-as expression (e.Select x y z) (is ∙ ap (λ t. e.Select t a b) (sym ex) ∙ ap (λ t. e.Select x t b) (sym ey) ∙ ap (e.Select x y) (sym ez))
     (record { sees = λ reads values. sees-select reads values x y z (one.sees reads values) (two.sees reads values) (three.sees reads values) })
 
-pub blind-load : (own : Expr) (source : Source) (a b x y : Expr) → own ≡ e.Load source a b → x ≡ a → y ≡ b → IsBlind x → IsBlind y → IsBlind own
-blind-load own source a b x y is ex ey one two =
-    blind-as own (e.Load source x y) (is ∙ ap (λ z. e.Load source z b) (sym ex) ∙ ap (e.Load source x) (sym ey))
+pub blind-load : (expression : Expr) (source : Source) (a b x y : Expr) → expression ≡ e.Load source a b → x ≡ a → y ≡ b → IsBlind x → IsBlind y → IsBlind expression
+blind-load expression source a b x y is ex ey one two =
+    blind-as expression (e.Load source x y) (is ∙ ap (λ z. e.Load source z b) (sym ex) ∙ ap (e.Load source x) (sym ey))
     (record { sees = λ reads values. sees-load reads values source x y (one.sees reads values) (two.sees reads values) })

@@ -13,8 +13,8 @@ use Rattle.task_code_borders.proofs.Meanings.{same_sequence, same_serial, same_b
 use Rattle.task_code_borders.proofs.Senses.{running, tracing, sounding, at_once, in_runs}
 use Rattle.task_code_borders.proofs.Standing.{from_on}
 
-pub blind_parted : (own : Stmt) → IsBlindStatement own → IsParted own own
-blind_parted own is = record {
+pub blind_parted : (statement : Stmt) → IsBlindStatement statement → IsParted statement statement
+blind_parted statement is = record {
   runs = λ points inputs values are. is.runs points inputs values;
   traces = λ points inputs func x y values are. is.traces points inputs func x y values;
   sound = λ reads written loaded values are. is.sound reads written loaded values;
@@ -34,50 +34,51 @@ parted_sequence first second one two is too = record {
       (too.in_runs reads func x y expected);
 }
 
-pub parted_serial : (counter : Counter) (count : ℕ) (body made : Stmt) → is_border counter ≡ false → IsParted body made
-    → IsParted (s.For counter count kinds.Serial body) (s.For counter count kinds.Serial made)
-parted_serial counter count body made not is = record {
-  runs = λ points inputs. same_serial (running points inputs) counter count body made not (is.runs points inputs);
-  traces = λ points inputs func x y. same_serial (tracing points inputs func x y) counter count body made not (is.traces points inputs func x y);
-  sound = λ reads written loaded. same_serial (sounding reads written loaded) counter count body made not (is.sound reads written loaded);
-  at_once = λ reads. same_serial (at_once reads) counter count body made not (is.at_once reads);
-  in_runs = λ reads func x y expected. same_serial (in_runs reads func x y expected) counter count body made not (is.in_runs reads func x y expected);
+pub parted_serial : (counter : Counter) (count : ℕ) (body statement : Stmt) → is_border counter ≡ false
+    → IsParted body statement
+    → IsParted (s.For counter count kinds.Serial body) (s.For counter count kinds.Serial statement)
+parted_serial counter count body statement not is = record {
+  runs = λ points inputs. same_serial (running points inputs) counter count body statement not (is.runs points inputs);
+  traces = λ points inputs func x y. same_serial (tracing points inputs func x y) counter count body statement not (is.traces points inputs func x y);
+  sound = λ reads written loaded. same_serial (sounding reads written loaded) counter count body statement not (is.sound reads written loaded);
+  at_once = λ reads. same_serial (at_once reads) counter count body statement not (is.at_once reads);
+  in_runs = λ reads func x y expected. same_serial (in_runs reads func x y expected) counter count body statement not (is.in_runs reads func x y expected);
 }
 
-pub parted_bind : (counter : Counter) (whole : Whole) (extent : ℕ) (body made : Stmt) → is_border counter ≡ false → is_border whole.outer ≡ false
-    → is_border whole.inner ≡ false → IsParted body made → IsParted (s.Bind counter whole extent body) (s.Bind counter whole extent made)
-parted_bind counter whole extent body made not outer inner is = record {
-  runs = λ points inputs. same_bind (running points inputs) counter whole extent body made not outer inner (is.runs points inputs);
-  traces = λ points inputs func x y. same_bind (tracing points inputs func x y) counter whole extent body made not outer inner
+pub parted_bind : (counter : Counter) (whole : Whole) (extent : ℕ) (body statement : Stmt) → is_border counter ≡ false → is_border whole.outer ≡ false
+    → is_border whole.inner ≡ false → IsParted body statement → IsParted (s.Bind counter whole extent body) (s.Bind counter whole extent statement)
+parted_bind counter whole extent body statement not outer inner is = record {
+  runs = λ points inputs. same_bind (running points inputs) counter whole extent body statement not outer inner (is.runs points inputs);
+  traces = λ points inputs func x y. same_bind (tracing points inputs func x y) counter whole extent body statement not outer inner
       (is.traces points inputs func x y);
-  sound = λ reads written loaded. same_bind (sounding reads written loaded) counter whole extent body made not outer inner (is.sound reads written loaded);
-  at_once = λ reads. same_bind (at_once reads) counter whole extent body made not outer inner (is.at_once reads);
-  in_runs = λ reads func x y expected. same_bind (in_runs reads func x y expected) counter whole extent body made not outer inner
+  sound = λ reads written loaded. same_bind (sounding reads written loaded) counter whole extent body statement not outer inner (is.sound reads written loaded);
+  at_once = λ reads. same_bind (at_once reads) counter whole extent body statement not outer inner (is.at_once reads);
+  in_runs = λ reads func x y expected. same_bind (in_runs reads func x y expected) counter whole extent body statement not outer inner
       (is.in_runs reads func x y expected);
 }
 
-pub parted_once : (level : ℕ) (own made : Stmt) → IsParted own made → IsParted own (s.For (iteration level) 1 kinds.Serial made)
-parted_once level own made is = record {
-  runs = λ points inputs. same_once (running points inputs) level own made (is.runs points inputs);
-  traces = λ points inputs func x y. same_once (tracing points inputs func x y) level own made (is.traces points inputs func x y);
-  sound = λ reads written loaded. same_once (sounding reads written loaded) level own made (is.sound reads written loaded);
-  at_once = λ reads. same_once (at_once reads) level own made (is.at_once reads);
-  in_runs = λ reads func x y expected. same_once (in_runs reads func x y expected) level own made (is.in_runs reads func x y expected);
+pub parted_once : (level : ℕ) (statement new_statement : Stmt) → IsParted statement new_statement → IsParted statement (s.For (iteration level) 1 kinds.Serial new_statement)
+parted_once level statement new_statement is = record {
+  runs = λ points inputs. same_once (running points inputs) level statement new_statement (is.runs points inputs);
+  traces = λ points inputs func x y. same_once (tracing points inputs func x y) level statement new_statement (is.traces points inputs func x y);
+  sound = λ reads written loaded. same_once (sounding reads written loaded) level statement new_statement (is.sound reads written loaded);
+  at_once = λ reads. same_once (at_once reads) level statement new_statement (is.at_once reads);
+  in_runs = λ reads func x y expected. same_once (in_runs reads func x y expected) level statement new_statement (is.in_runs reads func x y expected);
 }
 
 -- ---- iterations from one on
 
-pub part_does : (counter : Counter) (level from count extent : ℕ) (body made : Stmt) → is_border counter ≡ false → from + count ≤ extent → extent < 2 ^ 32
-    → IsParted body made
-    → DoesIterations counter from count body (s.For (iteration level) count kinds.Serial (s.Bind counter (from_on level from) extent made))
-part_does counter level from count extent body made not within small is = record {
-  runs = λ points inputs. does_part (running points inputs) counter level from count extent body made not within small (is.runs points inputs);
-  traces = λ points inputs func x y. does_part (tracing points inputs func x y) counter level from count extent body made not within small
+pub part_does : (counter : Counter) (level from count extent : ℕ) (body statement : Stmt) → is_border counter ≡ false → from + count ≤ extent → extent < 2 ^ 32
+    → IsParted body statement
+    → DoesIterations counter from count body (s.For (iteration level) count kinds.Serial (s.Bind counter (from_on level from) extent statement))
+part_does counter level from count extent body statement not within small is = record {
+  runs = λ points inputs. does_part (running points inputs) counter level from count extent body statement not within small (is.runs points inputs);
+  traces = λ points inputs func x y. does_part (tracing points inputs func x y) counter level from count extent body statement not within small
       (is.traces points inputs func x y);
-  sound = λ reads written loaded. does_part (sounding reads written loaded) counter level from count extent body made not within small
+  sound = λ reads written loaded. does_part (sounding reads written loaded) counter level from count extent body statement not within small
       (is.sound reads written loaded);
-  at_once = λ reads. does_part (at_once reads) counter level from count extent body made not within small (is.at_once reads);
-  in_runs = λ reads func x y expected. does_part (in_runs reads func x y expected) counter level from count extent body made not within small
+  at_once = λ reads. does_part (at_once reads) counter level from count extent body statement not within small (is.at_once reads);
+  in_runs = λ reads func x y expected. does_part (in_runs reads func x y expected) counter level from count extent body statement not within small
       (is.in_runs reads func x y expected);
 }
 
@@ -95,62 +96,66 @@ both_do counter from m middle n count body one two at all is too = record {
       (is.in_runs reads func x y expected) (too.in_runs reads func x y expected);
 }
 
-pub all_do : (counter : Counter) (from count all : ℕ) (body made : Stmt) → from ≡ 0 → count ≡ all → DoesIterations counter from count body made
-    → IsParted (s.For counter all kinds.Serial body) made
-all_do counter from count all body made none_before every is = record {
-  runs = λ points inputs. does_all (running points inputs) counter from count all body made none_before every (is.runs points inputs);
-  traces = λ points inputs func x y. does_all (tracing points inputs func x y) counter from count all body made none_before every
+pub all_do : (counter : Counter) (from count all : ℕ) (body statement : Stmt) → from ≡ 0 → count ≡ all → DoesIterations counter from count body statement
+    → IsParted (s.For counter all kinds.Serial body) statement
+all_do counter from count all body statement none_before every is = record {
+  runs = λ points inputs. does_all (running points inputs) counter from count all body statement none_before every (is.runs points inputs);
+  traces = λ points inputs func x y. does_all (tracing points inputs func x y) counter from count all body statement none_before every
       (is.traces points inputs func x y);
-  sound = λ reads written loaded. does_all (sounding reads written loaded) counter from count all body made none_before every
+  sound = λ reads written loaded. does_all (sounding reads written loaded) counter from count all body statement none_before every
       (is.sound reads written loaded);
-  at_once = λ reads. does_all (at_once reads) counter from count all body made none_before every (is.at_once reads);
-  in_runs = λ reads func x y expected. does_all (in_runs reads func x y expected) counter from count all body made none_before every
+  at_once = λ reads. does_all (at_once reads) counter from count all body statement none_before every
+      (is.at_once reads);
+  in_runs = λ reads func x y expected. does_all (in_runs reads func x y expected) counter from count all body statement none_before every
       (is.in_runs reads func x y expected);
 }
 
 -- ---- statements as they are made
 
-pub part_made : (own : Counter) (extent level from count : ℕ) (inside body inner bound : Stmt) (counter start : Counter) → counter ≡ iteration level
+pub part_made : (loop_counter : Counter) (extent level from count : ℕ) (inside body inner bound : Stmt) (counter start : Counter) → counter ≡ iteration level
     → start ≡ number from → inner ≡ body
-    → bound ≡ s.Bind own (record { outer = counter; inner = start; factor = 1; last = None }) extent inner → extent < 2 ^ 32
-    → is_border own ≡ false → from + count ≤ extent → IsParted inside body
-    → DoesIterations own from count inside (s.For counter count kinds.Serial bound)
-part_made own extent level from count inside body inner bound counter start counter_is start_is inner_is bound_is small not within is =
-    let e : s.For counter count kinds.Serial bound ≡ s.For (iteration level) count kinds.Serial (s.Bind own (from_on level from) extent body) =
+    → bound ≡ s.Bind loop_counter (record { outer = counter; inner = start; factor = 1; last = None }) extent inner → extent < 2 ^ 32
+    → is_border loop_counter ≡ false → from + count ≤ extent → IsParted inside body
+    → DoesIterations loop_counter from count inside (s.For counter count kinds.Serial bound)
+part_made loop_counter extent level from count inside body inner bound counter start counter_is start_is inner_is bound_is small not within is =
+    let e : s.For counter count kinds.Serial bound ≡ s.For (iteration level) count kinds.Serial (s.Bind loop_counter (from_on level from) extent body) =
     ap (λ b. s.For counter count kinds.Serial b) bound_is
-    ∙ ap (λ b. s.For counter count kinds.Serial (s.Bind own (record { outer = counter; inner = start; factor = 1; last = None }) extent b)) inner_is
-    ∙ ap (λ c. s.For c count kinds.Serial (s.Bind own (record { outer = c; inner = start; factor = 1; last = None }) extent body)) counter_is
-    ∙ ap (λ c. s.For (iteration level) count kinds.Serial (s.Bind own (record { outer = iteration level; inner = c; factor = 1; last = None }) extent body))
+    ∙ ap (λ b. s.For counter count kinds.Serial (s.Bind loop_counter (record { outer = counter; inner = start; factor = 1; last = None }) extent b)) inner_is
+    ∙ ap (λ c. s.For c count kinds.Serial (s.Bind loop_counter (record { outer = c; inner = start; factor = 1; last = None }) extent body)) counter_is
+    ∙ ap (λ c. s.For (iteration level) count kinds.Serial (s.Bind loop_counter (record { outer = iteration level; inner = c; factor = 1; last = None }) extent body))
     start_is in
-    subst (λ m. DoesIterations own from count inside m) (sym e) (part_does own level from count extent inside body not within small is)
+    subst (λ m. DoesIterations loop_counter from count inside m) (sym e) (part_does loop_counter level from count extent inside body not within small is)
 
 module _ (counter : Counter) (inside : Stmt) where
   abbrev Does : ℕ → ℕ → Stmt → Type 0
-  Does from count made = DoesIterations counter from count inside made
+  Does from count statement = DoesIterations counter from count inside statement
 
-  pub first_none : (first count : ℕ) (made : Stmt) → first ≡ 0 → DoesIterations counter first count inside made
-      → DoesIterations counter 0 (first + count) inside made
-  first_none first count made none is =
-      let same : count ≡ first + count = omega (arith, none) in subst (λ n. Does 0 n made) same (subst (λ n. Does n count made) none is)
+  pub first_none : (first count : ℕ) (statement : Stmt) → first ≡ 0
+      → DoesIterations counter first count inside statement
+      → DoesIterations counter 0 (first + count) inside statement
+  first_none first count statement none is =
+      let same : count ≡ first + count = omega (arith, none) in subst (λ n. Does 0 n statement) same (subst (λ n. Does n count statement) none is)
 
-  pub last_none : (from last : ℕ) (made : Stmt) → last ≡ 0 → DoesIterations counter 0 from inside made → DoesIterations counter 0 (from + last) inside made
-  last_none from last made none is = let same : from ≡ from + last = omega (arith, none) in subst (λ n. Does 0 n made) same is
+  pub last_none : (from last : ℕ) (statement : Stmt) → last ≡ 0 → DoesIterations counter 0 from inside statement → DoesIterations counter 0 (from + last) inside statement
+  last_none from last statement none is = let same : from ≡ from + last = omega (arith, none) in subst (λ n. Does 0 n statement) same is
 
-  pub first_made : (first count : ℕ) (border body front made all : Stmt) → body ≡ border → all ≡ s.Sequence front made
-      → (IsParted inside body → DoesIterations counter 0 first inside front) → IsParted inside border → DoesIterations counter first count inside made
+  pub first_made : (first count : ℕ) (border body front statement all : Stmt) → body ≡ border
+      → all ≡ s.Sequence front statement
+      → (IsParted inside body → DoesIterations counter 0 first inside front) → IsParted inside border → DoesIterations counter first count inside statement
       → DoesIterations counter 0 (first + count) inside all
-  first_made first count border body front made all body_is all_is front_does parted is =
+  first_made first count border body front statement all body_is all_is front_does parted is =
       let from : first ≡ 0 + first = omega arith in
       subst (Does 0 (first + count)) (sym all_is)
-      (both_do counter 0 first first count (first + count) inside front made from refl (front_does (subst (IsParted inside) (sym body_is) parted)) is)
+      (both_do counter 0 first first count (first + count) inside front statement from refl (front_does (subst (IsParted inside) (sym body_is) parted)) is)
 
-  pub last_made : (from last : ℕ) (border body made end all : Stmt) → body ≡ border → all ≡ s.Sequence made end
-      → (IsParted inside body → DoesIterations counter from last inside end) → IsParted inside border → DoesIterations counter 0 from inside made
+  pub last_made : (from last : ℕ) (border body statement end all : Stmt) → body ≡ border
+      → all ≡ s.Sequence statement end
+      → (IsParted inside body → DoesIterations counter from last inside end) → IsParted inside border → DoesIterations counter 0 from inside statement
       → DoesIterations counter 0 (from + last) inside all
-  last_made from last border body made end all body_is all_is end_does parted is =
+  last_made from last border body statement end all body_is all_is end_does parted is =
       let begins : from ≡ 0 + from = omega arith in
       subst (Does 0 (from + last)) (sym all_is)
-      (both_do counter 0 from from last (from + last) inside made end begins refl is (end_does (subst (IsParted inside) (sym body_is) parted)))
+      (both_do counter 0 from from last (from + last) inside statement end begins refl is (end_does (subst (IsParted inside) (sym body_is) parted)))
 
   pub parts_made : (first middle end last count level : ℕ) (front all boxed : Stmt) (around : Counter) → first + middle ≡ end → end + last ≡ count
       → around ≡ iteration level → boxed ≡ all → DoesIterations counter 0 (first + middle) inside front

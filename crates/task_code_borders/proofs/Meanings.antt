@@ -42,7 +42,7 @@ pub record Sense (X : Type 0) : Type 0 where
 module _ {X : Type 0} (own : Sense X) (Good : Values → Type 0)
     (stay : (counter : Counter) (v : ℕ) (values : Values) → is_border counter ≡ false → Good values → Good (with counter v values)) where
   abbrev pub SameIf : Stmt → Stmt → Type 0
-  SameIf one made = (values : Values) → Good values → own.made_of made values ≡ own.of one (of_stages values)
+  SameIf one statement = (values : Values) → Good values → own.made_of statement values ≡ own.of one (of_stages values)
 
   pub sequence_if : (first second one two : Stmt) → SameIf first one → SameIf second two → SameIf (s.Sequence first second) (s.Sequence one two)
   sequence_if first second one two is too = λ values are.
@@ -50,23 +50,24 @@ module _ {X : Type 0} (own : Sense X) (Good : Values → Type 0)
       ∙ ap (λ x. own.join x (own.made_of two values)) (is values are) ∙ ap (own.join (own.of first (of_stages values))) (too values are)
       ∙ sym (own.mean.sequence first second (of_stages values))
 
-  pub many_if : (counter : Counter) (count : ℕ) (body made : Stmt) → is_border counter ≡ false → SameIf body made → (values : Values) → Good values
-      → own.many count (λ i. own.made_of made (with counter i values)) ≡ own.many count (λ i. own.of body (with counter i (of_stages values)))
-  many_if counter count body made not is values are =
-      own.law.same count (λ i. own.made_of made (with counter i values)) (λ i. own.of body (with counter i (of_stages values)))
+  pub many_if : (counter : Counter) (count : ℕ) (body statement : Stmt) → is_border counter ≡ false → SameIf body statement → (values : Values) → Good values
+      → own.many count (λ i. own.made_of statement (with counter i values)) ≡ own.many count (λ i. own.of body (with counter i (of_stages values)))
+  many_if counter count body statement not is values are =
+      own.law.same count (λ i. own.made_of statement (with counter i values)) (λ i. own.of body (with counter i (of_stages values)))
       (λ i less. is (with counter i values) (stay counter i values not are) ∙ ap (own.of body) (stages_with counter i values not))
 
-  pub serial_if : (counter : Counter) (count : ℕ) (body made : Stmt) → is_border counter ≡ false → SameIf body made
-      → SameIf (s.For counter count kinds.Serial body) (s.For counter count kinds.Serial made)
-  serial_if counter count body made not is = λ values are.
-      own.meant.serial counter count made values ∙ many_if counter count body made not is values are
+  pub serial_if : (counter : Counter) (count : ℕ) (body statement : Stmt) → is_border counter ≡ false
+      → SameIf body statement
+      → SameIf (s.For counter count kinds.Serial body) (s.For counter count kinds.Serial statement)
+  serial_if counter count body statement not is = λ values are.
+      own.meant.serial counter count statement values ∙ many_if counter count body statement not is values are
       ∙ sym (own.mean.serial counter count body (of_stages values))
 
-  pub bind_if : (counter : Counter) (whole : Whole) (extent : ℕ) (body made : Stmt) → is_border counter ≡ false → is_border whole.outer ≡ false
-      → is_border whole.inner ≡ false → SameIf body made → SameIf (s.Bind counter whole extent body) (s.Bind counter whole extent made)
-  bind_if counter whole extent body made not outer inner is = λ values are.
+  pub bind_if : (counter : Counter) (whole : Whole) (extent : ℕ) (body statement : Stmt) → is_border counter ≡ false → is_border whole.outer ≡ false
+      → is_border whole.inner ≡ false → SameIf body statement → SameIf (s.Bind counter whole extent body) (s.Bind counter whole extent statement)
+  bind_if counter whole extent body statement not outer inner is = λ values are.
       let v = whole_value whole values in
-      own.meant.bind counter whole extent made values
+      own.meant.bind counter whole extent statement values
       ∙ ap (λ x. cond (nat_lt v extent) x own.none)
       (is (with counter v values) (stay counter v values not are) ∙ ap (own.of body) (stages_with counter v values not))
       ∙ ap (λ n. cond (nat_lt n extent) (own.of body (with counter n (of_stages values))) own.none) (sym (whole_blind whole values outer inner))
@@ -76,51 +77,54 @@ module _ {X : Type 0} (own : Sense X) (Good : Values → Type 0)
 
 module _ {X : Type 0} (own : Sense X) where
   abbrev pub Same : Stmt → Stmt → Type 0
-  Same one made = (values : Values) → AreNumbers values → own.made_of made values ≡ own.of one (of_stages values)
+  Same one statement = (values : Values) → AreNumbers values → own.made_of statement values ≡ own.of one
+      (of_stages values)
 
   abbrev pub Does : Counter → ℕ → ℕ → Stmt → Stmt → Type 0
-  Does counter from count body made =
-      (values : Values) → AreNumbers values → own.made_of made values ≡ own.many count (λ i. own.of body (with counter (from + i) (of_stages values)))
+  Does counter from count body statement =
+      (values : Values) → AreNumbers values → own.made_of statement values ≡ own.many count (λ i. own.of body (with counter (from + i) (of_stages values)))
 
   pub same_sequence : (first second one two : Stmt) → Same first one → Same second two → Same (s.Sequence first second) (s.Sequence one two)
   same_sequence = sequence_if own AreNumbers numbers_stay
 
-  pub same_serial : (counter : Counter) (count : ℕ) (body made : Stmt) → is_border counter ≡ false → Same body made
-      → Same (s.For counter count kinds.Serial body) (s.For counter count kinds.Serial made)
+  pub same_serial : (counter : Counter) (count : ℕ) (body statement : Stmt) → is_border counter ≡ false
+      → Same body statement
+      → Same (s.For counter count kinds.Serial body) (s.For counter count kinds.Serial statement)
   same_serial = serial_if own AreNumbers numbers_stay
 
-  pub same_bind : (counter : Counter) (whole : Whole) (extent : ℕ) (body made : Stmt) → is_border counter ≡ false → is_border whole.outer ≡ false
-      → is_border whole.inner ≡ false → Same body made → Same (s.Bind counter whole extent body) (s.Bind counter whole extent made)
+  pub same_bind : (counter : Counter) (whole : Whole) (extent : ℕ) (body statement : Stmt) → is_border counter ≡ false → is_border whole.outer ≡ false
+      → is_border whole.inner ≡ false → Same body statement → Same (s.Bind counter whole extent body) (s.Bind counter whole extent statement)
   same_bind = bind_if own AreNumbers numbers_stay
 
   -- a loop of one iteration that counts for nothing
-  pub same_once : (level : ℕ) (one made : Stmt) → Same one made → Same one (s.For (iteration level) 1 kinds.Serial made)
-  same_once level one made is = λ values are.
-      own.meant.serial (iteration level) 1 made values
-      ∙ own.law.one (λ i. own.made_of made (with (iteration level) i values))
+  pub same_once : (level : ℕ) (one statement : Stmt) → Same one statement
+      → Same one (s.For (iteration level) 1 kinds.Serial statement)
+  same_once level one statement is = λ values are.
+      own.meant.serial (iteration level) 1 statement values
+      ∙ own.law.one (λ i. own.made_of statement (with (iteration level) i values))
       ∙ is (with (iteration level) 0 values) (numbers_stay_in level 0 values are)
       ∙ ap (own.of one) (stages_hide (iteration level) 0 values (iteration_is level))
 
   -- ---- iterations from one on
 
-  pub does_part : (counter : Counter) (level from count extent : ℕ) (body made : Stmt) → is_border counter ≡ false → from + count ≤ extent → extent < 2 ^ 32
-      → Same body made → Does counter from count body (s.For (iteration level) count kinds.Serial (s.Bind counter (from_on level from) extent made))
-  does_part counter level from count extent body made not within small is = λ values are.
-      own.meant.serial (iteration level) count (s.Bind counter (from_on level from) extent made) values
-      ∙ own.law.same count (λ i. own.made_of (s.Bind counter (from_on level from) extent made) (with (iteration level) i values))
+  pub does_part : (counter : Counter) (level from count extent : ℕ) (body statement : Stmt) → is_border counter ≡ false → from + count ≤ extent → extent < 2 ^ 32
+      → Same body statement → Does counter from count body (s.For (iteration level) count kinds.Serial (s.Bind counter (from_on level from) extent statement))
+  does_part counter level from count extent body statement not within small is = λ values are.
+      own.meant.serial (iteration level) count (s.Bind counter (from_on level from) extent statement) values
+      ∙ own.law.same count (λ i. own.made_of (s.Bind counter (from_on level from) extent statement) (with (iteration level) i values))
       (λ i. own.of body (with counter (from + i) (of_stages values))) (λ i less. each values are i less)
     where
       each : (values : Values) → AreNumbers values → (i : ℕ) → i < count
-          → own.made_of (s.Bind counter (from_on level from) extent made) (with (iteration level) i values)
+          → own.made_of (s.Bind counter (from_on level from) extent statement) (with (iteration level) i values)
           ≡ own.of body (with counter (from + i) (of_stages values))
       each values are i less =
           let at = with (iteration level) i values in
           let low : from + i < extent = omega (arith, less, within) in
           let value : whole_value (from_on level from) at ≡ from + i = from_on_is level from i values are (omega (arith, low, small)) in
           let passes : nat_lt (from + i) extent ≡ true = lt-ltb (from + i) extent low in
-          own.meant.bind counter (from_on level from) extent made at
-          ∙ ap (λ v. cond (nat_lt v extent) (own.made_of made (with counter v at)) own.none) value
-          ∙ ap (λ b. cond b (own.made_of made (with counter (from + i) at)) own.none) passes
+          own.meant.bind counter (from_on level from) extent statement at
+          ∙ ap (λ v. cond (nat_lt v extent) (own.made_of statement (with counter v at)) own.none) value
+          ∙ ap (λ b. cond b (own.made_of statement (with counter (from + i) at)) own.none) passes
           ∙ is (with counter (from + i) at) (numbers_stay counter (from + i) at not (numbers_stay_in level i values are))
           ∙ ap (own.of body) (stages_with counter (from + i) at not ∙ ap (with counter (from + i)) (stages_hide (iteration level) i values (iteration_is level)))
 
@@ -139,9 +143,9 @@ module _ {X : Type 0} (own : Sense X) where
       moved : (i : ℕ) → middle + i ≡ from + (m + i)
       moved i = omega (arith, at)
 
-  pub does_all : (counter : Counter) (from count all : ℕ) (body made : Stmt) → from ≡ 0 → count ≡ all → Does counter from count body made
-      → Same (s.For counter all kinds.Serial body) made
-  does_all counter from count all body made none_before every is = λ values are.
+  pub does_all : (counter : Counter) (from count all : ℕ) (body statement : Stmt) → from ≡ 0 → count ≡ all → Does counter from count body statement
+      → Same (s.For counter all kinds.Serial body) statement
+  does_all counter from count all body statement none_before every is = λ values are.
       is values are
       ∙ own.law.same count (λ i. own.of body (with counter (from + i) (of_stages values))) (λ i. own.of body (with counter i (of_stages values)))
       (λ i less. ap (λ v. own.of body (with counter v (of_stages values))) (start i))

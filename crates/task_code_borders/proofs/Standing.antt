@@ -73,7 +73,7 @@ whole_blind whole values outer inner =
     outer
     ∙ ap (λ b. word.add (at_most whole.last (word.multiply (values whole.outer) whole.factor)) (cond b 0 (values whole.inner))) inner
 
--- that of a loop in parts, where so many iterations begin at a number
+-- that of a loop in parts, where this many iterations begin at a number
 abbrev pub from_on : ℕ → ℕ → Whole
 from_on level from = record { outer = iteration level; inner = number from; factor = 1; last = None }
 

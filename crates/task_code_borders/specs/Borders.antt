@@ -1,4 +1,4 @@
--- Variables that no stage has: what counts the iterations of a part of a loop, and what stands at a number all the while. This project's own.
+-- Variables that no stage has: what counts the iterations of a part of a loop, and what is at a number all the while. This project's own.
 use Rattle.std.specs.Prelude.{◌≡◌, ℕ, ◌==◌, Bool, true, false, if◌then◌else◌, List, [], ◌∷◌}
 use Rattle.schedule_lines.specs.declared.stages.LoopId.TheVariants as ids
 use Rattle.loop_ir.specs.declared.expressions.Counter.{Counter}
@@ -16,7 +16,7 @@ is_border counter = counter.func == borders
 abbrev pub iteration : ℕ → Counter
 iteration level = record { func = borders; id = ids.Outer level }
 
--- what stands at a number
+-- what is at a number
 abbrev pub number : ℕ → Counter
 number n = record { func = borders; id = ids.Inner n }
 

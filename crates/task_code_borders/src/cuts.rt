@@ -1,6 +1,6 @@
 //! Where loops are cut. Guesses, of which nothing is promised.
 
-use crate::spans::{Span, VariableSpan, open_clamps, with_span};
+use crate::spans::{Interval, VariableInterval, open_clamps, with_span};
 use loop_ir::expressions::Counter;
 use loop_ir::statements::Stmt;
 use std::alloc::{AllocError, Global};
@@ -26,49 +26,49 @@ pub(crate) struct Loop<'a> {
     pub body: &'a Stmt,
 }
 
-/// How many clamps aren't decided in a loop's iterations but so many first and last ones.
+/// How many clamps aren't decided in a loop's iterations but this many first and last ones.
 fn left_open(
     alloc: Global,
-    spans: &[VariableSpan],
-    own: &Loop<'_>,
+    spans: &[VariableInterval],
+    serial_loop: &Loop<'_>,
     first: u32,
     last: u32,
 ) -> Result<usize, AllocError> {
-    let span = Span {
+    let span = Interval {
         low: i64::from(first),
-        high: i64::from(own.count.saturating_sub(last).saturating_sub(1)),
+        high: i64::from(serial_loop.count.saturating_sub(last).saturating_sub(1)),
     };
-    let inner = with_span(alloc, spans, own.counter, span)?;
-    open_clamps(alloc, inner.as_slice(), own.body)
+    let inner = with_span(alloc, spans, serial_loop.counter, span)?;
+    open_clamps(alloc, inner.as_slice(), serial_loop.body)
 }
 
-/// How many first iterations to leave out at least, where so many last ones are, so that no more clamps stay open.
+/// How many first iterations to leave out at least, where this many last ones are, so that no more clamps stay open.
 fn least_first(
     alloc: Global,
-    spans: &[VariableSpan],
-    own: &Loop<'_>,
+    spans: &[VariableInterval],
+    serial_loop: &Loop<'_>,
     most: u32,
     open: usize,
 ) -> Result<u32, AllocError> {
     for first in 0..most {
-        if left_open(alloc, spans, own, first, most)? <= open {
+        if left_open(alloc, spans, serial_loop, first, most)? <= open {
             return Ok(first);
         }
     }
     Ok(most)
 }
 
-/// How many last iterations to leave out at least, where so many first ones are, so that no more clamps stay open.
+/// How many last iterations to leave out at least, where this many first ones are, so that no more clamps stay open.
 fn least_last(
     alloc: Global,
-    spans: &[VariableSpan],
-    own: &Loop<'_>,
+    spans: &[VariableInterval],
+    serial_loop: &Loop<'_>,
     first: u32,
     most: u32,
     open: usize,
 ) -> Result<u32, AllocError> {
     for last in 0..most {
-        if left_open(alloc, spans, own, first, last)? <= open {
+        if left_open(alloc, spans, serial_loop, first, last)? <= open {
             return Ok(last);
         }
     }
@@ -82,18 +82,18 @@ fn least_last(
 /// Memory ran out.
 pub(crate) fn cuts_of(
     alloc: Global,
-    spans: &[VariableSpan],
-    own: &Loop<'_>,
+    spans: &[VariableInterval],
+    serial_loop: &Loop<'_>,
 ) -> Result<Option<Cuts>, AllocError> {
-    let most = (own.count.saturating_sub(1) / 2).min(MOST);
-    let whole = left_open(alloc, spans, own, 0, 0)?;
-    let open = left_open(alloc, spans, own, most, most)?;
+    let most = (serial_loop.count.saturating_sub(1) / 2).min(MOST);
+    let whole = left_open(alloc, spans, serial_loop, 0, 0)?;
+    let open = left_open(alloc, spans, serial_loop, most, most)?;
     if open >= whole {
         return Ok(None);
     }
-    let first = least_first(alloc, spans, own, most, open)?;
-    let last = least_last(alloc, spans, own, first, most, open)?;
-    let between = own.count.saturating_sub(first).saturating_sub(last);
+    let first = least_first(alloc, spans, serial_loop, most, open)?;
+    let last = least_last(alloc, spans, serial_loop, first, most, open)?;
+    let between = serial_loop.count.saturating_sub(first).saturating_sub(last);
     if between < LEAST_BETWEEN {
         return Ok(None);
     }

@@ -10,7 +10,7 @@ use crate::blindness::{has_stages, is_blind_statement};
 use crate::copies::copy_of_statement;
 use crate::cuts::{Cuts, Loop, cuts_of};
 use crate::parts::{Parting, both, in_parts};
-use crate::spans::{VariableSpan, below, of_whole, with_span};
+use crate::spans::{VariableInterval, below, of_whole, with_span};
 use crate::variables::is_border;
 use loop_ir::expressions::Counter;
 use loop_ir::statements::{LoopKind, Stmt};
@@ -19,7 +19,7 @@ use std::alloc::{AllocError, Global};
 
 /// Which loops are in parts.
 #[derive(Clone, Copy, Debug, PartialEq, Eq)]
-pub enum Reach {
+pub enum PartedLoops {
     /// All, in all parts of those around.
     All,
     /// All, but none in first and last parts of those around.
@@ -28,18 +28,18 @@ pub enum Reach {
     Innermost,
 }
 
-/// Where a statement stands: between which numbers variables lie, which loops are to be in parts, and at which level.
+/// Where a statement is: between which numbers variables lie, which loops are to be in parts, and at which level.
 #[derive(Clone, Copy, Debug)]
-pub struct Standing<'a> {
-    pub spans: &'a [VariableSpan],
-    pub reach: Reach,
+pub struct PartingScope<'a> {
+    pub spans: &'a [VariableInterval],
+    pub reach: PartedLoops,
     pub level: usize,
 }
 
 /// How many levels a loop in parts takes.
 const LEVELS: usize = 2;
 
-/// Whether a serial loop stands in a statement.
+/// Whether a serial loop is in a statement.
 fn has_serial(statement: &Stmt) -> bool {
     match statement {
         Stmt::Store(_) => false,
@@ -77,28 +77,28 @@ fn same(alloc: Global, statement: &Stmt) -> Result<Option<Stmt>, AllocError>
     if !is_blind_statement(statement) {
         return Ok(None);
     }
-    let made = copy_of_statement(alloc, statement)?;
-    Ok(Some(made))
+    let new_statement = copy_of_statement(alloc, statement)?;
+    Ok(Some(new_statement))
 }
 
 /// The body of first and last iterations, beside the one between.
 fn border_of(
     alloc: Global,
-    reach: Reach,
+    reach: PartedLoops,
     body: &Stmt,
     inner: &Stmt,
 ) -> Result<Option<Stmt>, AllocError>
-    ensures { IfOk result (λ found. IfSome found (λ border. IsParted body.now inner.now
+    ensures { IfOk result (λ found_statement. IfSome found_statement (λ border. IsParted body.now inner.now
         → IsParted body.now border)) }
 {
     match reach {
-        Reach::All => {
-            let made = copy_of_statement(alloc, inner)?;
-            Ok(Some(made))
+        PartedLoops::All => {
+            let new_statement = copy_of_statement(alloc, inner)?;
+            Ok(Some(new_statement))
         }
-        Reach::Inner | Reach::Innermost => {
-            let found = same(alloc, body)?;
-            Ok(found)
+        PartedLoops::Inner | PartedLoops::Innermost => {
+            let found_statement = same(alloc, body)?;
+            Ok(found_statement)
         }
     }
 }
@@ -114,40 +114,49 @@ fn around(alloc: Global, counter: Counter, count: u32, inner: Stmt) -> Result<St
 /// Where a loop is to be cut, if it is.
 fn wanted_cuts(
     alloc: Global,
-    standing: Standing<'_>,
-    own: &Loop<'_>,
+    scope: PartingScope<'_>,
+    serial_loop: &Loop<'_>,
 ) -> Result<Option<Cuts>, AllocError> {
-    if standing.reach == Reach::Innermost && has_serial(own.body) {
+    if scope.reach == PartedLoops::Innermost && has_serial(serial_loop.body) {
         return Ok(None);
     }
-    cuts_of(alloc, standing.spans, own)
+    cuts_of(alloc, scope.spans, serial_loop)
 }
 
 /// A serial loop in parts, where that decides clamps.
 fn cut(
     alloc: Global,
-    standing: Standing<'_>,
-    own: &Loop<'_>,
+    scope: PartingScope<'_>,
+    serial_loop: &Loop<'_>,
     inner: Stmt,
 ) -> Result<Option<Stmt>, AllocError>
-    ensures { IfOk result (λ found. IfSome found (λ made. is_border own.now.counter ≡ false
-        → IsParted own.now.body.now inner
-        → IsParted (stmts.For own.now.counter own.now.count kinds.Serial own.now.body.now) made)) }
+    ensures { IfOk result (λ found_statement. IfSome found_statement
+        (λ new_statement. is_border serial_loop.now.counter ≡ false
+        → IsParted serial_loop.now.body.now inner
+        → IsParted (stmts.For serial_loop.now.counter serial_loop.now.count kinds.Serial serial_loop.now.body.now)
+        new_statement)) }
 {
-    match wanted_cuts(alloc, standing, own)? {
+    match wanted_cuts(alloc, scope, serial_loop)? {
         None => {
-            let made = around(alloc, own.counter, own.count, inner)?;
-            Ok(Some(made))
+            let new_statement = around(alloc, serial_loop.counter, serial_loop.count, inner)?;
+            Ok(Some(new_statement))
         }
-        Some(cuts) => match border_of(alloc, standing.reach, own.body, &inner)? {
+        Some(cuts) => match border_of(alloc, scope.reach, serial_loop.body, &inner)? {
             None => Ok(None),
             Some(border) => {
                 let parting = Parting {
-                    counter: own.counter,
-                    level: standing.level,
+                    counter: serial_loop.counter,
+                    level: scope.level,
                 };
-                let found = in_parts(alloc, parting, own.count, cuts, &border, inner)?;
-                Ok(found)
+                let found_statement = in_parts(
+                    alloc,
+                    parting,
+                    serial_loop.count,
+                    cuts,
+                    &border,
+                    inner,
+                )?;
+                Ok(found_statement)
             }
         },
     }
@@ -156,21 +165,22 @@ fn cut(
 #[cycle(parting)]
 fn serial_in_parts(
     alloc: Global,
-    standing: Standing<'_>,
+    scope: PartingScope<'_>,
     counter: Counter,
     count: u32,
     body: &Stmt,
 ) -> Result<Option<Stmt>, AllocError>
-    ensures { IfOk result (λ found. IfSome found (IsParted (stmts.For counter count kinds.Serial body.now))) }
+    ensures { IfOk result (λ new_statement. IfSome new_statement
+        (IsParted (stmts.For counter count kinds.Serial body.now))) }
 {
     if is_border(counter) {
         return Ok(None);
     }
-    let spans = with_span(alloc, standing.spans, counter, below(count))?;
-    let within = Standing {
+    let spans = with_span(alloc, scope.spans, counter, below(count))?;
+    let within = PartingScope {
         spans: spans.as_slice(),
-        reach: standing.reach,
-        level: standing.level.saturating_add(LEVELS),
+        reach: scope.reach,
+        level: scope.level.saturating_add(LEVELS),
     };
     match parted(alloc, within, body)? {
         None => Ok(None),
@@ -180,8 +190,8 @@ fn serial_in_parts(
                 count,
                 body,
             };
-            let found = cut(alloc, standing, &own, inner)?;
-            Ok(found)
+            let new_statement = cut(alloc, scope, &own, inner)?;
+            Ok(new_statement)
         }
     }
 }
@@ -195,51 +205,51 @@ fn serial_in_parts(
 #[cycle(parting)]
 pub fn parted(
     alloc: Global,
-    standing: Standing<'_>,
+    scope: PartingScope<'_>,
     statement: &Stmt,
 ) -> Result<Option<Stmt>, AllocError>
-    ensures { IfOk result (λ found. IfSome found (IsParted statement.now)) }
+    ensures { IfOk result (λ found_statement. IfSome found_statement (IsParted statement.now)) }
 {
     match statement {
         Stmt::Store(_) => {
-            let found = same(alloc, statement)?;
-            Ok(found)
+            let found_statement = same(alloc, statement)?;
+            Ok(found_statement)
         }
-        Stmt::Sequence(first, second) => match parted(alloc, standing, first.get())? {
+        Stmt::Sequence(first, second) => match parted(alloc, scope, first.get())? {
             None => Ok(None),
-            Some(one) => match parted(alloc, standing, second.get())? {
+            Some(one) => match parted(alloc, scope, second.get())? {
                 None => Ok(None),
                 Some(other) => {
-                    let made = both(alloc, one, other)?;
-                    Ok(Some(made))
+                    let new_statement = both(alloc, one, other)?;
+                    Ok(Some(new_statement))
                 }
             },
         },
         Stmt::For(counter, count, kind, body) => match kind {
             LoopKind::Serial => {
-                let found = serial_in_parts(alloc, standing, *counter, *count, body.get())?;
-                Ok(found)
+                let found_statement = serial_in_parts(alloc, scope, *counter, *count, body.get())?;
+                Ok(found_statement)
             }
             LoopKind::Unrolled | LoopKind::Vectorized => {
-                let found = same(alloc, statement)?;
-                Ok(found)
+                let found_statement = same(alloc, statement)?;
+                Ok(found_statement)
             }
         },
         Stmt::Bind(counter, whole, extent, body) => {
             if is_border(*counter) || !has_stages(whole) {
                 return Ok(None);
             }
-            let span = of_whole(standing.spans, whole, *extent);
-            let spans = with_span(alloc, standing.spans, *counter, span)?;
-            let within = Standing {
+            let span = of_whole(scope.spans, whole, *extent);
+            let spans = with_span(alloc, scope.spans, *counter, span)?;
+            let within = PartingScope {
                 spans: spans.as_slice(),
-                reach: standing.reach,
-                level: standing.level,
+                reach: scope.reach,
+                level: scope.level,
             };
             match parted(alloc, within, body.get())? {
                 None => Ok(None),
-                Some(made) => {
-                    let inside = Boxed::new(alloc, made)?;
+                Some(new_statement) => {
+                    let inside = Boxed::new(alloc, new_statement)?;
                     Ok(Some(Stmt::Bind(*counter, *whole, *extent, inside)))
                 }
             }

@@ -22,19 +22,19 @@ pub(crate) struct Parting {
     pub level: usize,
 }
 
-/// So many iterations of a loop from one on, of which there are so many in all.
+/// This many iterations of a loop from one on, of which there are this many in all.
 fn part(
     alloc: Global,
-    own: Parting,
+    parting: Parting,
     all: u32,
     from: u32,
     count: u32,
     body: Stmt,
 ) -> Result<Stmt, AllocError>
-    ensures { IfOk result (λ made. (inside : Stmt) → is_border own.counter ≡ false → from + count ≤ all
-        → IsParted inside body → DoesIterations own.counter from count inside made) }
+    ensures { IfOk result (λ made. (inside : Stmt) → is_border parting.counter ≡ false → from + count ≤ all
+        → IsParted inside body → DoesIterations parting.counter from count inside made) }
 {
-    let counter = iteration(own.level);
+    let counter = iteration(parting.level);
     let whole = Whole {
         outer: counter,
         inner: number(from),
@@ -42,7 +42,7 @@ fn part(
         last: None,
     };
     let inner = Boxed::new(alloc, body)?;
-    let bound = Boxed::new(alloc, Stmt::Bind(own.counter, whole, all, inner))?;
+    let bound = Boxed::new(alloc, Stmt::Bind(parting.counter, whole, all, inner))?;
     Ok(Stmt::For(counter, count, LoopKind::Serial, bound))
 }
 
@@ -55,49 +55,50 @@ pub(crate) fn both(alloc: Global, first: Stmt, second: Stmt) -> Result<Stmt, All
     Ok(Stmt::Sequence(one, other))
 }
 
-/// Iterations of a loop after so many first ones, of all that it has.
+/// Iterations of a loop after this many first ones, of all that it has.
 fn behind_first(
     alloc: Global,
-    own: Parting,
+    parting: Parting,
     all: u32,
     first: u32,
     border: &Stmt,
-    made: Stmt,
+    statement: Stmt,
 ) -> Result<Stmt, AllocError>
-    ensures { IfOk result (λ found. (inside : Stmt) (count : ℕ) → is_border own.counter ≡ false → first ≤ all
-        → IsParted inside border.now → DoesIterations own.counter first count inside made
-        → DoesIterations own.counter 0 (first + count) inside found) }
+    ensures { IfOk result (λ new_statement. (inside : Stmt) (count : ℕ) → is_border parting.counter ≡ false
+        → first ≤ all
+        → IsParted inside border.now → DoesIterations parting.counter first count inside statement
+        → DoesIterations parting.counter 0 (first + count) inside new_statement) }
 {
     if first == 0 {
-        return Ok(made);
+        return Ok(statement);
     }
     let body = copy_of_statement(alloc, border)?;
-    let front = part(alloc, own, all, 0, first, body)?;
-    let found = both(alloc, front, made)?;
-    Ok(found)
+    let front = part(alloc, parting, all, 0, first, body)?;
+    let new_statement = both(alloc, front, statement)?;
+    Ok(new_statement)
 }
 
-/// The first iterations of a loop, and so many last ones after them, of all that it has.
+/// The first iterations of a loop, and this many last ones after them, of all that it has.
 fn before_last(
     alloc: Global,
-    own: Parting,
+    parting: Parting,
     all: u32,
     from: u32,
     last: u32,
     border: &Stmt,
-    made: Stmt,
+    statement: Stmt,
 ) -> Result<Stmt, AllocError>
-    ensures { IfOk result (λ found. (inside : Stmt) → is_border own.counter ≡ false → from + last ≤ all
-        → IsParted inside border.now → DoesIterations own.counter 0 from inside made
-        → DoesIterations own.counter 0 (from + last) inside found) }
+    ensures { IfOk result (λ new_statement. (inside : Stmt) → is_border parting.counter ≡ false → from + last ≤ all
+        → IsParted inside border.now → DoesIterations parting.counter 0 from inside statement
+        → DoesIterations parting.counter 0 (from + last) inside new_statement) }
 {
     if last == 0 {
-        return Ok(made);
+        return Ok(statement);
     }
     let body = copy_of_statement(alloc, border)?;
-    let end = part(alloc, own, all, from, last, body)?;
-    let found = both(alloc, made, end)?;
-    Ok(found)
+    let end = part(alloc, parting, all, from, last, body)?;
+    let new_statement = both(alloc, statement, end)?;
+    Ok(new_statement)
 }
 
 /// A serial loop in three parts, the first and the last of which have another body: as many as there are iterations in
@@ -108,24 +109,24 @@ fn before_last(
 /// Memory ran out.
 pub(crate) fn in_parts(
     alloc: Global,
-    own: Parting,
+    parting: Parting,
     count: u32,
     cuts: Cuts,
     border: &Stmt,
     inner: Stmt,
 ) -> Result<Option<Stmt>, AllocError>
-    ensures { IfOk result (λ found. IfSome found (λ made. (inside : Stmt) → is_border own.counter ≡ false
+    ensures { IfOk result (λ found. IfSome found (λ made. (inside : Stmt) → is_border parting.counter ≡ false
         → IsParted inside border.now → IsParted inside inner
-        → IsParted (stmts.For own.counter count kinds.Serial inside) made)) }
+        → IsParted (stmts.For parting.counter count kinds.Serial inside) made)) }
 {
     if count < cuts.last || count - cuts.last < cuts.first {
         return Ok(None);
     }
     let end = count - cuts.last;
-    let middle = part(alloc, own, count, cuts.first, end - cuts.first, inner)?;
-    let front = behind_first(alloc, own, count, cuts.first, border, middle)?;
-    let all = before_last(alloc, own, count, end, cuts.last, border, front)?;
+    let middle = part(alloc, parting, count, cuts.first, end - cuts.first, inner)?;
+    let front = behind_first(alloc, parting, count, cuts.first, border, middle)?;
+    let all = before_last(alloc, parting, count, end, cuts.last, border, front)?;
     let boxed = Boxed::new(alloc, all)?;
-    let around = iteration(own.level.saturating_add(1));
+    let around = iteration(parting.level.saturating_add(1));
     Ok(Some(Stmt::For(around, 1, LoopKind::Serial, boxed)))
 }

@@ -8,22 +8,22 @@ use std::alloc::{AllocError, Global};
 
 /// Between which numbers a value lies.
 #[derive(Clone, Copy, Debug)]
-pub struct Span {
+pub struct Interval {
     pub low: i64,
     pub high: i64,
 }
 
 /// A loop variable's.
 #[derive(Clone, Copy, Debug)]
-pub struct VariableSpan {
+pub struct VariableInterval {
     pub counter: Counter,
-    pub span: Span,
+    pub span: Interval,
 }
 
 /// An expression's, and how many clamps inside it aren't decided.
 #[derive(Clone, Copy, Debug)]
 struct Seen {
-    span: Span,
+    span: Interval,
     open: usize,
 }
 
@@ -33,8 +33,8 @@ const LEAST: i64 = -2147483648;
 const GREATEST: i64 = 2147483647;
 
 /// That of a value of which nothing is known.
-fn any() -> Span {
-    Span {
+fn any() -> Interval {
+    Interval {
         low: LEAST,
         high: GREATEST,
     }
@@ -46,7 +46,7 @@ fn signed(word: u32) -> i64 {
 }
 
 /// A span, or that of all words where a word turns over.
-fn narrowed(span: Span) -> Span {
+fn narrowed(span: Interval) -> Interval {
     if span.low < LEAST || span.high > GREATEST {
         any()
     } else {
@@ -54,7 +54,7 @@ fn narrowed(span: Span) -> Span {
     }
 }
 
-fn of_variable(spans: &[VariableSpan], counter: Counter) -> Span {
+fn of_variable(spans: &[VariableInterval], counter: Counter) -> Interval {
     match spans {
         [] => any(),
         [others @ .., last] => {
@@ -67,36 +67,36 @@ fn of_variable(spans: &[VariableSpan], counter: Counter) -> Span {
     }
 }
 
-fn plus(a: Span, b: Span) -> Span {
-    narrowed(Span {
+fn plus(a: Interval, b: Interval) -> Interval {
+    narrowed(Interval {
         low: a.low.saturating_add(b.low),
         high: a.high.saturating_add(b.high),
     })
 }
 
-fn minus(a: Span, b: Span) -> Span {
-    narrowed(Span {
+fn minus(a: Interval, b: Interval) -> Interval {
+    narrowed(Interval {
         low: a.low.saturating_sub(b.high),
         high: a.high.saturating_sub(b.low),
     })
 }
 
-fn times(a: Span, stride: i64) -> Span {
+fn times(a: Interval, stride: i64) -> Interval {
     let one = a.low.saturating_mul(stride);
     let other = a.high.saturating_mul(stride);
-    narrowed(Span {
+    narrowed(Interval {
         low: one.min(other),
         high: one.max(other),
     })
 }
 
-fn of_sum(spans: &[VariableSpan], own: &Linear) -> Span {
-    let number = signed(own.number);
-    let mut span = Span {
+fn of_sum(spans: &[VariableInterval], sum: &Linear) -> Interval {
+    let number = signed(sum.number);
+    let mut span = Interval {
         low: number,
         high: number,
     };
-    for term in own.terms.as_slice() {
+    for term in sum.terms.as_slice() {
         span = plus(
             span,
             times(of_variable(spans, term.counter), signed(term.stride)),
@@ -105,19 +105,19 @@ fn of_sum(spans: &[VariableSpan], own: &Linear) -> Span {
     span
 }
 
-fn is_open(a: Span, b: Span) -> bool {
+fn is_open(a: Interval, b: Interval) -> bool {
     a.high > b.low && b.high > a.low
 }
 
-fn lesser(a: Span, b: Span) -> Span {
-    Span {
+fn lesser(a: Interval, b: Interval) -> Interval {
+    Interval {
         low: a.low.min(b.low),
         high: a.high.min(b.high),
     }
 }
 
-fn greater(a: Span, b: Span) -> Span {
-    Span {
+fn greater(a: Interval, b: Interval) -> Interval {
+    Interval {
         low: a.low.max(b.low),
         high: a.high.max(b.high),
     }
@@ -148,10 +148,10 @@ fn of_both(operation: Operation, a: Seen, b: Seen) -> Seen {
 }
 
 #[cycle(looking)]
-fn look_at(spans: &[VariableSpan], e: &Expr) -> Seen {
+fn look_at(spans: &[VariableInterval], e: &Expr) -> Seen {
     match e {
         Expr::Number(n) => Seen {
-            span: Span {
+            span: Interval {
                 low: signed(*n),
                 high: signed(*n),
             },
@@ -184,11 +184,11 @@ fn look_at(spans: &[VariableSpan], e: &Expr) -> Seen {
 
 /// How many clamps of an index aren't decided.
 #[cycle(looking)]
-fn in_index(spans: &[VariableSpan], e: &Expr) -> usize {
+fn in_index(spans: &[VariableInterval], e: &Expr) -> usize {
     look_at(spans, e).open
 }
 
-fn in_store(spans: &[VariableSpan], store: &Store) -> usize {
+fn in_store(spans: &[VariableInterval], store: &Store) -> usize {
     look_at(spans, &store.x)
         .open
         .saturating_add(look_at(spans, &store.y).open)
@@ -198,39 +198,39 @@ fn in_store(spans: &[VariableSpan], store: &Store) -> usize {
 /// These and one more after them.
 pub fn with_span(
     alloc: Global,
-    spans: &[VariableSpan],
+    spans: &[VariableInterval],
     counter: Counter,
-    span: Span,
-) -> Result<Vec<VariableSpan>, AllocError> {
-    let mut made = Vec::new(alloc);
-    made.extend_from_slice(spans)?;
-    made.push(VariableSpan { counter, span })?;
-    Ok(made)
+    span: Interval,
+) -> Result<Vec<VariableInterval>, AllocError> {
+    let mut new_spans = Vec::new(alloc);
+    new_spans.extend_from_slice(spans)?;
+    new_spans.push(VariableInterval { counter, span })?;
+    Ok(new_spans)
 }
 
 /// That of a loop's variable.
-pub fn below(count: u32) -> Span {
-    Span {
+pub fn below(count: u32) -> Interval {
+    Interval {
         low: 0,
         high: i64::from(count).saturating_sub(1).max(0),
     }
 }
 
 /// That of a split loop's value.
-pub fn of_whole(spans: &[VariableSpan], whole: &Whole, extent: u32) -> Span {
+pub fn of_whole(spans: &[VariableInterval], whole: &Whole, extent: u32) -> Interval {
     let product = times(of_variable(spans, whole.outer), i64::from(whole.factor));
     let start = match whole.last {
         None => product,
         Some(last) => lesser(
             product,
-            Span {
+            Interval {
                 low: i64::from(last),
                 high: i64::from(last),
             },
         ),
     };
     let own = plus(start, of_variable(spans, whole.inner));
-    Span {
+    Interval {
         low: own.low,
         high: own.high.min(i64::from(extent)),
     }
@@ -243,7 +243,7 @@ pub fn of_whole(spans: &[VariableSpan], whole: &Whole, extent: u32) -> Span {
 /// Memory ran out.
 pub fn open_clamps(
     alloc: Global,
-    spans: &[VariableSpan],
+    spans: &[VariableInterval],
     statement: &Stmt,
 ) -> Result<usize, AllocError> {
     match statement {

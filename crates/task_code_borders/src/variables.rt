@@ -26,17 +26,17 @@ pub fn iteration(level: usize) -> Counter
     }
 }
 
-/// What stands at a number all the while.
-pub fn number(own: u32) -> Counter
-    ensures { result ≡ spec.number own }
+/// What is at a number all the while.
+pub fn number(own_number: u32) -> Counter
+    ensures { result ≡ spec.number own_number }
 {
     Counter {
         func: BORDERS,
-        id: LoopId::Inner(own as usize),
+        id: LoopId::Inner(own_number as usize),
     }
 }
 
-/// The number that a variable stands at all the while, if it is such a one.
+/// The number that a variable is at all the while, if it is such a one.
 pub fn number_of(counter: Counter) -> Option<u32>
     ensures { IfSome result (λ n. counter ≡ spec.number n) }
 {

@@ -24,16 +24,16 @@ level-maximum v w = elim (cases_lt (level v) (level w)) [
   | inr l ↦ rw (le-ltb (level v) (level w) l) (omega arith)
 ]
 
-pub lesser-lies : (a b made : LevelRange) (v w : ℕ) → made.low ≡ min a.low b.low → made.high ≡ min a.high b.high → LiesIn a v → LiesIn b w
-    → LiesIn made (minimum v w)
-lesser-lies a b made v w el eh x y =
+pub lesser-lies : (a b level_range : LevelRange) (v w : ℕ) → level_range.low ≡ min a.low b.low → level_range.high ≡ min a.high b.high → LiesIn a v → LiesIn b w
+    → LiesIn level_range (minimum v w)
+lesser-lies a b level_range v w el eh x y =
     let e = level-minimum v w in
     let xl = x.low in let xh = x.high in let yl = y.low in let yh = y.high in
     record { low = omega (arith, e, el, xl, yl); high = omega (arith, e, eh, xh, yh) }
 
-pub greater-lies : (a b made : LevelRange) (v w : ℕ) → made.low ≡ max a.low b.low → made.high ≡ max a.high b.high → LiesIn a v → LiesIn b w
-    → LiesIn made (maximum v w)
-greater-lies a b made v w el eh x y =
+pub greater-lies : (a b level_range : LevelRange) (v w : ℕ) → level_range.low ≡ max a.low b.low → level_range.high ≡ max a.high b.high → LiesIn a v → LiesIn b w
+    → LiesIn level_range (maximum v w)
+greater-lies a b level_range v w el eh x y =
     let e = level-maximum v w in
     let xl = x.low in let xh = x.high in let yl = y.low in let yh = y.high in
     record { low = omega (arith, e, el, xl, yl); high = omega (arith, e, eh, xh, yh) }
@@ -57,17 +57,18 @@ maximum-second v w l = rw (lt-ltb (level v) (level w) l) refl
 
 -- ---- sums
 
-pub up-lies : (first most more low : ℕ) (made : LevelRange) → low ≡ level first → made.low ≡ low → made.high ≡ low + most → low + most < 2 ^ 32 → more ≤ most
-    → LiesIn made (add first more)
+pub up-lies : (first most more low : ℕ) (level_range : LevelRange) → low ≡ level first → level_range.low ≡ low → level_range.high ≡ low + most → low + most < 2 ^ 32 → more ≤ most
+    → LiesIn level_range (add first more)
 unfolding add
-up-lies first most more low made e el eh small l =
+up-lies first most more low level_range e el eh small l =
     let s : level ((first + more) % 2 ^ 32) ≡ low + more = omega (arith, e, small, l) in
     record { low = omega (arith, s, el); high = omega (arith, s, eh, l) }
 
 -- a sum is its number and its terms
-pub sum-is : (values : Values) (own : Linear) → linear_value values own ≡ add own.number (sum_of values own.terms)
+pub sum-is : (values : Values) (new_sum : Linear) → linear_value values new_sum ≡ add new_sum.number
+    (sum_of values new_sum.terms)
 unfolding linear_value add
-sum-is values own = refl
+sum-is values new_sum = refl
 
 -- 0 changes nothing
 pub none-added : (v w : ℕ) → v < 2 ^ 32 → w ≡ 0 → add v w ≡ v
@@ -78,6 +79,6 @@ pub none-subtracted : (v w : ℕ) → v < 2 ^ 32 → w ≡ 0 → subtract v w �
 unfolding subtract
 none-subtracted v w small zero = omega (arith, small, zero)
 
-pub sum-word : (values : Values) (own : Linear) → linear_value values own < 2 ^ 32
+pub sum-word : (values : Values) (new_sum : Linear) → linear_value values new_sum < 2 ^ 32
 unfolding linear_value
-sum-word values own = omega arith
+sum-word values new_sum = omega arith

@@ -32,38 +32,40 @@ no-loads-number : (reads : Reads) (values : Values) (n : ℕ) → loads reads va
 unfolding seen
 no-loads-number reads values n = ap (λ (s : Seen). s.points) (at_number Seen (seen_at reads values) n)
 
-no-loads-linear : (reads : Reads) (values : Values) (own : Linear) → loads reads values (e.Linear own) ≡ []
+no-loads-linear : (reads : Reads) (values : Values) (new_sum : Linear) → loads reads values (e.Linear new_sum) ≡ []
 unfolding seen
-no-loads-linear reads values own = ap (λ (s : Seen). s.points) (at_linear Seen (seen_at reads values) own)
+no-loads-linear reads values new_sum = ap (λ (s : Seen). s.points) (at_linear Seen (seen_at reads values) new_sum)
 
-pub leaf-number : (own : Expr) (n : ℕ) → own ≡ e.Number n → (reads : Reads) (values : Values) → loads reads values own ≡ []
-leaf-number own n is reads values = ap (λ x. loads reads values x) is ∙ no-loads-number reads values n
+pub leaf-number : (expression : Expr) (n : ℕ) → expression ≡ e.Number n → (reads : Reads) (values : Values) → loads reads values expression ≡ []
+leaf-number expression n is reads values = ap (λ x. loads reads values x) is ∙ no-loads-number reads values n
 
-pub leaf-linear : (own : Expr) (sum : Linear) → own ≡ e.Linear sum → (reads : Reads) (values : Values) → loads reads values own ≡ []
-leaf-linear own sum is reads values = ap (λ x. loads reads values x) is ∙ no-loads-linear reads values sum
+pub leaf-linear : (expression : Expr) (sum : Linear) → expression ≡ e.Linear sum → (reads : Reads) (values : Values) → loads reads values expression ≡ []
+leaf-linear expression sum is reads values = ap (λ x. loads reads values x) is ∙ no-loads-linear reads values sum
 
 module _ (places : Places) (bounds : List Bound) where
   -- ---- leaves
 
-  pub same-itself : (own made : Expr) → own ≡ made → IsSame places bounds own made
-  same-itself own made is = record {
+  pub same-itself : (new_expression made : Expr) → new_expression ≡ made → IsSame places bounds new_expression made
+  same-itself new_expression made is = record {
     value_is = λ reads values below bytes. ap (λ x. value reads values x) (sym is);
     loads_are = λ reads values below bytes. ap (λ x. loads reads values x) (sym is);
   }
 
-  pub ranged-number : (own : Expr) (n : ℕ) (range : LevelRange) → own ≡ e.Number n → n < 2 ^ 32 → LiesIn range n
-      → IsRanged places bounds own (record { e = e.Number n; range = range; is_word = true })
-  ranged-number own n range is small l = record {
-    same = same-itself own (e.Number n) is;
+  pub ranged-number : (new_expression : Expr) (n : ℕ) (range : LevelRange) → new_expression ≡ e.Number n → n < 2 ^ 32
+      → LiesIn range n
+      → IsRanged places bounds new_expression (record { e = e.Number n; range = range; is_word = true })
+  ranged-number new_expression n range is small l = record {
+    same = same-itself new_expression (e.Number n) is;
     lies = λ reads values below bytes. subst (λ k. LiesIn range k) (sym (ap (λ x. value reads values x) is ∙ value_number reads values n)) l;
     word = λ reads values below bytes w. subst (λ k. k < 2 ^ 32) (sym (ap (λ x. value reads values x) is ∙ value_number reads values n)) small;
   }
 
-  pub ranged-linear : (own : Expr) (sum made : Linear) (range : LevelRange) → own ≡ e.Linear sum → made ≡ sum
+  pub ranged-linear : (new_expression : Expr) (sum made : Linear) (range : LevelRange)
+      → new_expression ≡ e.Linear sum → made ≡ sum
       → ((values : Values) → AreBelow bounds values → LiesIn range (linear_value values sum))
-      → IsRanged places bounds own (record { e = e.Linear made; range = range; is_word = true })
-  ranged-linear own sum made range is same l = record {
-    same = same-itself own (e.Linear made) (is ∙ ap e.Linear (sym same));
+      → IsRanged places bounds new_expression (record { e = e.Linear made; range = range; is_word = true })
+  ranged-linear new_expression sum made range is same l = record {
+    same = same-itself new_expression (e.Linear made) (is ∙ ap e.Linear (sym same));
     lies = λ reads values below bytes.
         subst (λ k. LiesIn range k) (sym (ap (λ x. value reads values x) is ∙ value_linear reads values sum)) (l values below);
     word = λ reads values below bytes w.
@@ -166,7 +168,8 @@ module _ (places : Places) (bounds : List Bound) where
         → (is_choice ≡ true → (v w : ℕ) → v < 2 ^ 32 → w < 2 ^ 32 → word.applied o v w < 2 ^ 32)
         → IsRanged places bounds (e.Binary o x y) (record { e = e.Binary o first second; range = range; is_word = is_word })
     taken-both first second range is_word is_choice ef es l ew choice =
-        subst (λ own. IsRanged places bounds (e.Binary o x y) (record { e = own; range = range; is_word = is_word }))
+        subst (λ new_expression. IsRanged places bounds (e.Binary o x y)
+        (record { e = new_expression; range = range; is_word = is_word }))
         (sym (ap (λ p. e.Binary o p second) ef ∙ ap (e.Binary o a.e) es)) (record {
           same = record {
             value_is = λ reads values below bytes. both-value o x y a b rx ry reads values below bytes;
@@ -230,27 +233,27 @@ module _ (places : Places) (bounds : List Bound) where
           word = both.word;
         }
 
-  pub ranged-binary : (own x y gx gy : Expr) (o : Operation) (a b made : Ranged) → own ≡ e.Binary o x y → gx ≡ x → gy ≡ y → IsRanged places bounds gx a
+  pub ranged-binary : (new_expression x y gx gy : Expr) (o : Operation) (a b made : Ranged) → new_expression ≡ e.Binary o x y → gx ≡ x → gy ≡ y → IsRanged places bounds gx a
       → IsRanged places bounds gy b
       → ((ps : Places) (bs : List Bound) (p q : Expr) → IsRanged ps bs p a → IsRanged ps bs q b → IsRanged ps bs (e.Binary o p q) made)
-      → IsRanged places bounds own made
-  ranged-binary own x y gx gy o a b made is ex ey ra rb all =
+      → IsRanged places bounds new_expression made
+  ranged-binary new_expression x y gx gy o a b made is ex ey ra rb all =
       subst (λ t. IsRanged places bounds t made) (sym (is ∙ ap (λ t. e.Binary o t y) (sym ex) ∙ ap (e.Binary o gx) (sym ey)))
       (all places bounds gx gy ra rb)
 
   -- ---- other expressions
 
-  pub ranged-anywhere : (own x : Expr) (made : Ranged) → made.e ≡ x → made.is_word ≡ false
-      → IsRanged places bounds own (record { e = x; range = made.range; is_word = false }) → IsRanged places bounds own made
-  ranged-anywhere own x made is none all = record {
-    same = subst (λ t. IsSame places bounds own t) (sym is) all.same;
+  pub ranged-anywhere : (new_expression x : Expr) (made : Ranged) → made.e ≡ x → made.is_word ≡ false
+      → IsRanged places bounds new_expression (record { e = x; range = made.range; is_word = false }) → IsRanged places bounds new_expression made
+  ranged-anywhere new_expression x made is none all = record {
+    same = subst (λ t. IsSame places bounds new_expression t) (sym is) all.same;
     lies = all.lies;
     word = λ reads values below bytes w. absurd (true≢false (sym w ∙ none));
   }
 
-  pub ranged-divide : (own x gx made : Expr) (c : ℕ) (range : LevelRange) → own ≡ e.Divide x c → gx ≡ x → IsSame places bounds gx made
-      → ((v : ℕ) → LiesIn range v) → IsRanged places bounds own (record { e = e.Divide made c; range = range; is_word = false })
-  ranged-divide own x gx made c range is ex same l =
+  pub ranged-divide : (new_expression x gx made : Expr) (c : ℕ) (range : LevelRange) → new_expression ≡ e.Divide x c → gx ≡ x → IsSame places bounds gx made
+      → ((v : ℕ) → LiesIn range v) → IsRanged places bounds new_expression (record { e = e.Divide made c; range = range; is_word = false })
+  ranged-divide new_expression x gx made c range is ex same l =
       subst (λ t. IsRanged places bounds t (record { e = e.Divide made c; range = range; is_word = false })) (sym (is ∙ ap (λ t. e.Divide t c) (sym ex)))
       (record {
         same = record {
@@ -265,9 +268,9 @@ module _ (places : Places) (bounds : List Bound) where
         word = λ reads values below bytes w. absurd (true≢false (sym w));
       })
 
-  pub ranged-remainder : (own x gx made : Expr) (c : ℕ) (range : LevelRange) → own ≡ e.Remainder x c → gx ≡ x → IsSame places bounds gx made
-      → ((v : ℕ) → LiesIn range v) → IsRanged places bounds own (record { e = e.Remainder made c; range = range; is_word = false })
-  ranged-remainder own x gx made c range is ex same l =
+  pub ranged-remainder : (new_expression x gx made : Expr) (c : ℕ) (range : LevelRange) → new_expression ≡ e.Remainder x c → gx ≡ x → IsSame places bounds gx made
+      → ((v : ℕ) → LiesIn range v) → IsRanged places bounds new_expression (record { e = e.Remainder made c; range = range; is_word = false })
+  ranged-remainder new_expression x gx made c range is ex same l =
       subst (λ t. IsRanged places bounds t (record { e = e.Remainder made c; range = range; is_word = false })) (sym (is ∙ ap (λ t. e.Remainder t c) (sym ex)))
       (record {
         same = record {
@@ -317,10 +320,10 @@ module _ (places : Places) (bounds : List Bound) where
         ∙ ap (λ l. lc ++ (l ++ loads reads values my)) (sx.loads_are reads values below three.1.0)
         ∙ ap (λ l. lc ++ (lx ++ l)) (sy.loads_are reads values below three.1.1) ∙ sym (loads_select reads values c x y)
 
-  pub ranged-select : (own c x y gc gx gy mc mx my : Expr) (range : LevelRange) → own ≡ e.Select c x y → gc ≡ c → gx ≡ x → gy ≡ y
+  pub ranged-select : (new_expression c x y gc gx gy mc mx my : Expr) (range : LevelRange) → new_expression ≡ e.Select c x y → gc ≡ c → gx ≡ x → gy ≡ y
       → IsSame places bounds gc mc → IsSame places bounds gx mx → IsSame places bounds gy my → ((v : ℕ) → LiesIn range v)
-      → IsRanged places bounds own (record { e = e.Select mc mx my; range = range; is_word = false })
-  ranged-select own c x y gc gx gy mc mx my range is ec ex ey sc sx sy l =
+      → IsRanged places bounds new_expression (record { e = e.Select mc mx my; range = range; is_word = false })
+  ranged-select new_expression c x y gc gx gy mc mx my range is ec ex ey sc sx sy l =
       subst (λ t. IsRanged places bounds t (record { e = e.Select mc mx my; range = range; is_word = false }))
       (sym (is ∙ ap (λ t. e.Select t x y) (sym ec) ∙ ap (λ t. e.Select gc t y) (sym ex) ∙ ap (e.Select gc gx) (sym ey))) (record {
         same = record {
@@ -369,11 +372,11 @@ module _ (places : Places) (bounds : List Bound) where
     load-byte : IsByte places source (value reads values (e.Load source x y))
     load-byte = subst (λ n. IsByte places source n) (sym (value_load reads values source x y)) two.1.0
 
-  pub ranged-load : (own x y gx gy mx my : Expr) (source : Source) (range : LevelRange) (is_word : Bool) → own ≡ e.Load source x y → gx ≡ x → gy ≡ y
+  pub ranged-load : (new_expression x y gx gy mx my : Expr) (source : Source) (range : LevelRange) (is_word : Bool) → new_expression ≡ e.Load source x y → gx ≡ x → gy ≡ y
       → IsSame places bounds gx mx → IsSame places bounds gy my → ((v : ℕ) → IsByte places source v → LiesIn range v)
       → (is_word ≡ true → (v : ℕ) → IsByte places source v → v < 256)
-      → IsRanged places bounds own (record { e = e.Load source mx my; range = range; is_word = is_word })
-  ranged-load own x y gx gy mx my source range is_word is ex ey sx sy l small =
+      → IsRanged places bounds new_expression (record { e = e.Load source mx my; range = range; is_word = is_word })
+  ranged-load new_expression x y gx gy mx my source range is_word is ex ey sx sy l small =
       subst (λ t. IsRanged places bounds t (record { e = e.Load source mx my; range = range; is_word = is_word }))
       (sym (is ∙ ap (λ t. e.Load source t y) (sym ex) ∙ ap (e.Load source gx) (sym ey))) (record {
         same = record {

@@ -64,127 +64,131 @@ up-minimum v n sv sn l low =
 
 -- ---- expressions
 
-module _ (own first second : Linear) (number : ℕ) (bound third test last : Expr) where
-  pub up-is : first ≡ own → second ≡ own → third ≡ e.Linear second → bound ≡ e.Number number → test ≡ e.Binary op.Less third bound → last ≡ e.Linear first
-      → IsSteppedUp own number (e.Binary op.Add last test)
+module _ (new_sum first second : Linear) (number : ℕ) (bound third test last : Expr) where
+  pub up-is : first ≡ new_sum → second ≡ new_sum → third ≡ e.Linear second → bound ≡ e.Number number → test ≡ e.Binary op.Less third bound → last ≡ e.Linear first
+      → IsSteppedUp new_sum number (e.Binary op.Add last test)
   up-is e1 e2 e3 e4 e5 e6 =
-      let made = e.Binary op.Add (e.Linear own) (e.Binary op.Less (e.Linear own) (e.Number number)) in
+      let made = e.Binary op.Add (e.Linear new_sum) (e.Binary op.Less (e.Linear new_sum) (e.Number number)) in
       let same : e.Binary op.Add last test ≡ made =
       ap (λ t. e.Binary op.Add t test) (e6 ∙ ap e.Linear e1)
-      ∙ ap (e.Binary op.Add (e.Linear own)) (e5 ∙ ap (λ t. e.Binary op.Less t bound) (e3 ∙ ap e.Linear e2) ∙ ap (e.Binary op.Less (e.Linear own)) e4) in
-      subst (λ t. IsSteppedUp own number t) (sym same) (record {
+      ∙ ap (e.Binary op.Add (e.Linear new_sum)) (e5 ∙ ap (λ t. e.Binary op.Less t bound) (e3 ∙ ap e.Linear e2) ∙ ap (e.Binary op.Less (e.Linear new_sum)) e4) in
+      subst (λ t. IsSteppedUp new_sum number t) (sym same) (record {
         value_is = λ reads values.
-            let v = linear_value values own in
-            value_binary reads values op.Add (e.Linear own) (e.Binary op.Less (e.Linear own) (e.Number number))
-            ∙ ap (λ k. add k (value reads values (e.Binary op.Less (e.Linear own) (e.Number number)))) (value_linear reads values own)
-            ∙ ap (add v) (value_binary reads values op.Less (e.Linear own) (e.Number number)
-            ∙ ap (λ k. truth (less k (value reads values (e.Number number)))) (value_linear reads values own)
+            let v = linear_value values new_sum in
+            value_binary reads values op.Add (e.Linear new_sum) (e.Binary op.Less (e.Linear new_sum) (e.Number number))
+            ∙ ap (λ k. add k (value reads values (e.Binary op.Less (e.Linear new_sum) (e.Number number)))) (value_linear reads values new_sum)
+            ∙ ap (add v) (value_binary reads values op.Less (e.Linear new_sum) (e.Number number)
+            ∙ ap (λ k. truth (less k (value reads values (e.Number number)))) (value_linear reads values new_sum)
             ∙ ap (λ k. truth (less v k)) (value_number reads values number));
         none = λ reads values.
-            loads_binary reads values op.Add (e.Linear own) (e.Binary op.Less (e.Linear own) (e.Number number))
-            ∙ ap (λ l. l ++ loads reads values (e.Binary op.Less (e.Linear own) (e.Number number))) (leaf-linear (e.Linear own) own refl reads values)
-            ∙ loads_binary reads values op.Less (e.Linear own) (e.Number number)
-            ∙ ap (λ l. l ++ loads reads values (e.Number number)) (leaf-linear (e.Linear own) own refl reads values)
+            loads_binary reads values op.Add (e.Linear new_sum) (e.Binary op.Less (e.Linear new_sum) (e.Number number))
+            ∙ ap (λ l. l ++ loads reads values (e.Binary op.Less (e.Linear new_sum) (e.Number number))) (leaf-linear (e.Linear new_sum) new_sum refl reads values)
+            ∙ loads_binary reads values op.Less (e.Linear new_sum) (e.Number number)
+            ∙ ap (λ l. l ++ loads reads values (e.Number number))
+            (leaf-linear (e.Linear new_sum) new_sum refl reads values)
             ∙ leaf-number (e.Number number) number refl reads values;
       })
 
-  pub down-is : first ≡ own → second ≡ own → third ≡ e.Linear second → bound ≡ e.Number number → test ≡ e.Binary op.Less bound third → last ≡ e.Linear first
-      → IsSteppedDown own number (e.Binary op.Subtract last test)
+  pub down-is : first ≡ new_sum → second ≡ new_sum → third ≡ e.Linear second → bound ≡ e.Number number → test ≡ e.Binary op.Less bound third → last ≡ e.Linear first
+      → IsSteppedDown new_sum number (e.Binary op.Subtract last test)
   down-is e1 e2 e3 e4 e5 e6 =
-      let made = e.Binary op.Subtract (e.Linear own) (e.Binary op.Less (e.Number number) (e.Linear own)) in
+      let made = e.Binary op.Subtract (e.Linear new_sum) (e.Binary op.Less (e.Number number) (e.Linear new_sum)) in
       let same : e.Binary op.Subtract last test ≡ made =
       ap (λ t. e.Binary op.Subtract t test) (e6 ∙ ap e.Linear e1)
-      ∙ ap (e.Binary op.Subtract (e.Linear own)) (e5 ∙ ap (λ t. e.Binary op.Less t third) e4 ∙ ap (e.Binary op.Less (e.Number number)) (e3 ∙ ap e.Linear e2)) in
-      subst (λ t. IsSteppedDown own number t) (sym same) (record {
+      ∙ ap (e.Binary op.Subtract (e.Linear new_sum)) (e5 ∙ ap (λ t. e.Binary op.Less t third) e4 ∙ ap (e.Binary op.Less (e.Number number)) (e3 ∙ ap e.Linear e2)) in
+      subst (λ t. IsSteppedDown new_sum number t) (sym same) (record {
         value_is = λ reads values.
-            let v = linear_value values own in
-            value_binary reads values op.Subtract (e.Linear own) (e.Binary op.Less (e.Number number) (e.Linear own))
-            ∙ ap (λ k. subtract k (value reads values (e.Binary op.Less (e.Number number) (e.Linear own)))) (value_linear reads values own)
-            ∙ ap (subtract v) (value_binary reads values op.Less (e.Number number) (e.Linear own)
-            ∙ ap (λ k. truth (less k (value reads values (e.Linear own)))) (value_number reads values number)
-            ∙ ap (λ k. truth (less number k)) (value_linear reads values own));
+            let v = linear_value values new_sum in
+            value_binary reads values op.Subtract (e.Linear new_sum)
+            (e.Binary op.Less (e.Number number) (e.Linear new_sum))
+            ∙ ap (λ k. subtract k (value reads values (e.Binary op.Less (e.Number number) (e.Linear new_sum)))) (value_linear reads values new_sum)
+            ∙ ap (subtract v) (value_binary reads values op.Less (e.Number number) (e.Linear new_sum)
+            ∙ ap (λ k. truth (less k (value reads values (e.Linear new_sum)))) (value_number reads values number)
+            ∙ ap (λ k. truth (less number k)) (value_linear reads values new_sum));
         none = λ reads values.
-            loads_binary reads values op.Subtract (e.Linear own) (e.Binary op.Less (e.Number number) (e.Linear own))
-            ∙ ap (λ l. l ++ loads reads values (e.Binary op.Less (e.Number number) (e.Linear own))) (leaf-linear (e.Linear own) own refl reads values)
-            ∙ loads_binary reads values op.Less (e.Number number) (e.Linear own)
-            ∙ ap (λ l. l ++ loads reads values (e.Linear own)) (leaf-number (e.Number number) number refl reads values)
-            ∙ leaf-linear (e.Linear own) own refl reads values;
+            loads_binary reads values op.Subtract (e.Linear new_sum)
+            (e.Binary op.Less (e.Number number) (e.Linear new_sum))
+            ∙ ap (λ l. l ++ loads reads values (e.Binary op.Less (e.Number number) (e.Linear new_sum))) (leaf-linear (e.Linear new_sum) new_sum refl reads values)
+            ∙ loads_binary reads values op.Less (e.Number number) (e.Linear new_sum)
+            ∙ ap (λ l. l ++ loads reads values (e.Linear new_sum))
+            (leaf-number (e.Number number) number refl reads values)
+            ∙ leaf-linear (e.Linear new_sum) new_sum refl reads values;
       })
 
 -- ---- clamps
 
-module _ (own : Linear) (range : LevelRange) (number : ℕ) (small : number < 2 ^ 32) where
-  pub greater-up : (made : Expr) → level number ≤ range.low + 1 → IsSteppedUp own number made → IsGreater own range number made
-  greater-up made l up = record {
+module _ (new_sum : Linear) (range : LevelRange) (number : ℕ) (small : number < 2 ^ 32) where
+  pub greater-up : (expression : Expr) → level number ≤ range.low + 1 → IsSteppedUp new_sum number expression → IsGreater new_sum range number expression
+  greater-up expression l up = record {
     value_is = λ reads values lies.
-        let v = linear_value values own in
+        let v = linear_value values new_sum in
         let low = lies.low in
-        up.value_is reads values ∙ up-maximum v number (sum-word values own) small (omega (arith, l, low));
+        up.value_is reads values ∙ up-maximum v number (sum-word values new_sum) small (omega (arith, l, low));
     none = up.none;
   }
 
-  pub greater-down : (next : Linear) (made : Expr) → level number ≤ range.low + 1 → range.high < 4294967295 → IsMore own 1 next → IsSteppedDown next number made
-      → IsGreater own range number made
-  greater-down next made l h more down = record {
+  pub greater-down : (next : Linear) (expression : Expr) → level number ≤ range.low + 1 → range.high < 4294967295 → IsMore new_sum 1 next → IsSteppedDown next number expression
+      → IsGreater new_sum range number expression
+  greater-down next expression l h more down = record {
     value_is = λ reads values lies.
-        let v = linear_value values own in
+        let v = linear_value values new_sum in
         let low = lies.low in
         let high = lies.high in
         down.value_is reads values ∙ ap (λ k. subtract k (truth (less number k))) (more values)
-        ∙ down-maximum v number (sum-word values own) small (omega (arith, l, low)) (omega (arith, h, high));
+        ∙ down-maximum v number (sum-word values new_sum) small (omega (arith, l, low)) (omega (arith, h, high));
     none = down.none;
   }
 
-  pub lesser-down : (made : Expr) → range.high ≤ level number + 1 → IsSteppedDown own number made → IsLesser own range number made
-  lesser-down made l down = record {
+  pub lesser-down : (expression : Expr) → range.high ≤ level number + 1 → IsSteppedDown new_sum number expression → IsLesser new_sum range number expression
+  lesser-down expression l down = record {
     value_is = λ reads values lies.
-        let v = linear_value values own in
+        let v = linear_value values new_sum in
         let high = lies.high in
-        down.value_is reads values ∙ down-minimum v number (sum-word values own) small (omega (arith, l, high));
+        down.value_is reads values ∙ down-minimum v number (sum-word values new_sum) small (omega (arith, l, high));
     none = down.none;
   }
 
-  pub lesser-up : (before : Linear) (made : Expr) → range.high ≤ level number + 1 → 1 ≤ range.low → IsMore own 4294967295 before
-      → IsSteppedUp before number made
-      → IsLesser own range number made
-  lesser-up before made l low more up = record {
+  pub lesser-up : (before : Linear) (expression : Expr) → range.high ≤ level number + 1 → 1 ≤ range.low → IsMore new_sum 4294967295 before
+      → IsSteppedUp before number expression
+      → IsLesser new_sum range number expression
+  lesser-up before expression l low more up = record {
     value_is = λ reads values lies.
-        let v = linear_value values own in
+        let v = linear_value values new_sum in
         let high = lies.high in
         let least = lies.low in
         up.value_is reads values ∙ ap (λ k. add k (truth (less k number))) (more values)
-        ∙ up-minimum v number (sum-word values own) small (omega (arith, l, high)) (omega (arith, low, least));
+        ∙ up-minimum v number (sum-word values new_sum) small (omega (arith, l, high)) (omega (arith, low, least));
     none = up.none;
   }
 
 -- ---- as operations
 
-pub greater-tested : (o : Operation) (a b : Ranged) (own : Linear) (number : ℕ) (found : Option Expr) → o ≡ op.Maximum → a.e ≡ e.Linear own
-    → b.e ≡ e.Number number → IfSome found (IsGreater own a.range number) → IfSome found (IsTested o a b)
-greater-tested o a b own number None eo ea eb is = tt
-greater-tested o a b own number (Some made) eo ea eb is = record {
+pub greater-tested : (o : Operation) (a b : Ranged) (new_sum : Linear) (number : ℕ) (expression : Option Expr) → o ≡ op.Maximum → a.e ≡ e.Linear new_sum
+    → b.e ≡ e.Number number → IfSome expression (IsGreater new_sum a.range number) → IfSome expression (IsTested o a b)
+greater-tested o a b new_sum number None eo ea eb is = tt
+greater-tested o a b new_sum number (Some made) eo ea eb is = record {
   value_is = λ reads values lies.
-      let v = ap (λ x. value reads values x) ea ∙ value_linear reads values own in
+      let v = ap (λ x. value reads values x) ea ∙ value_linear reads values new_sum in
       let w = ap (λ x. value reads values x) eb ∙ value_number reads values number in
       is.value_is reads values (subst (λ n. LiesIn a.range n) v lies)
       ∙ sym (ap (λ k. word.applied k (value reads values a.e) (value reads values b.e)) eo ∙ ap (λ n. maximum n (value reads values b.e)) v
-      ∙ ap (maximum (linear_value values own)) w);
+      ∙ ap (maximum (linear_value values new_sum)) w);
   none = is.none;
-  first_none = leaf-linear a.e own ea;
+  first_none = leaf-linear a.e new_sum ea;
   second_none = leaf-number b.e number eb;
 }
 
-pub lesser-tested : (o : Operation) (a b : Ranged) (own : Linear) (number : ℕ) (found : Option Expr) → o ≡ op.Minimum → a.e ≡ e.Linear own
-    → b.e ≡ e.Number number → IfSome found (IsLesser own a.range number) → IfSome found (IsTested o a b)
-lesser-tested o a b own number None eo ea eb is = tt
-lesser-tested o a b own number (Some made) eo ea eb is = record {
+pub lesser-tested : (o : Operation) (a b : Ranged) (new_sum : Linear) (number : ℕ) (expression : Option Expr) → o ≡ op.Minimum → a.e ≡ e.Linear new_sum
+    → b.e ≡ e.Number number → IfSome expression (IsLesser new_sum a.range number) → IfSome expression (IsTested o a b)
+lesser-tested o a b new_sum number None eo ea eb is = tt
+lesser-tested o a b new_sum number (Some made) eo ea eb is = record {
   value_is = λ reads values lies.
-      let v = ap (λ x. value reads values x) ea ∙ value_linear reads values own in
+      let v = ap (λ x. value reads values x) ea ∙ value_linear reads values new_sum in
       let w = ap (λ x. value reads values x) eb ∙ value_number reads values number in
       is.value_is reads values (subst (λ n. LiesIn a.range n) v lies)
       ∙ sym (ap (λ k. word.applied k (value reads values a.e) (value reads values b.e)) eo ∙ ap (λ n. minimum n (value reads values b.e)) v
-      ∙ ap (minimum (linear_value values own)) w);
+      ∙ ap (minimum (linear_value values new_sum)) w);
   none = is.none;
-  first_none = leaf-linear a.e own ea;
+  first_none = leaf-linear a.e new_sum ea;
   second_none = leaf-number b.e number eb;
 }

@@ -19,23 +19,23 @@ AreBytesAt places reads points = AllByRecursion (λ (point : Point). IsByte plac
 
 -- An expression comes to the same as another one, and loads the same points, where loop variables are below their bounds and bytes are loaded
 -- where there are bytes.
-pub record IsSame (places : Places) (bounds : List Bound) (own made : Expr) : Type 0 where
-  pub value_is : (reads : Reads) (values : Values) → AreBelow bounds values → AreBytesAt places reads (loads reads values own)
-      → value reads values made ≡ value reads values own
-  pub loads_are : (reads : Reads) (values : Values) → AreBelow bounds values → AreBytesAt places reads (loads reads values own)
-      → loads reads values made ≡ loads reads values own
+pub record IsSame (places : Places) (bounds : List Bound) (expression new_expression : Expr) : Type 0 where
+  pub value_is : (reads : Reads) (values : Values) → AreBelow bounds values → AreBytesAt places reads (loads reads values expression)
+      → value reads values new_expression ≡ value reads values expression
+  pub loads_are : (reads : Reads) (values : Values) → AreBelow bounds values → AreBytesAt places reads (loads reads values expression)
+      → loads reads values new_expression ≡ loads reads values expression
 
 -- and lies in a range, and is a word, if so
-pub record IsRanged (places : Places) (bounds : List Bound) (own : Expr) (made : Ranged) : Type 0 where
-  pub same : IsSame places bounds own made.e
-  pub lies : (reads : Reads) (values : Values) → AreBelow bounds values → AreBytesAt places reads (loads reads values own)
-      → LiesIn made.range (value reads values own)
-  pub word : (reads : Reads) (values : Values) → AreBelow bounds values → AreBytesAt places reads (loads reads values own)
-      → made.is_word ≡ true → value reads values own < 2 ^ 32
+pub record IsRanged (places : Places) (bounds : List Bound) (expression : Expr) (ranged : Ranged) : Type 0 where
+  pub same : IsSame places bounds expression ranged.e
+  pub lies : (reads : Reads) (values : Values) → AreBelow bounds values → AreBytesAt places reads (loads reads values expression)
+      → LiesIn ranged.range (value reads values expression)
+  pub word : (reads : Reads) (values : Values) → AreBelow bounds values → AreBytesAt places reads (loads reads values expression)
+      → ranged.is_word ≡ true → value reads values expression < 2 ^ 32
 
 -- a store writes the same value at the same point there
-pub record IsSameStore (places : Places) (bounds : List Bound) (own made : Store) : Type 0 where
-  pub func_is : made.func ≡ own.func
-  pub column : IsSame places bounds own.x made.x
-  pub row : IsSame places bounds own.y made.y
-  pub pixel : IsSame places bounds own.value made.value
+pub record IsSameStore (places : Places) (bounds : List Bound) (store new_store : Store) : Type 0 where
+  pub func_is : new_store.func ≡ store.func
+  pub column : IsSame places bounds store.x new_store.x
+  pub row : IsSame places bounds store.y new_store.y
+  pub pixel : IsSame places bounds store.value new_store.value

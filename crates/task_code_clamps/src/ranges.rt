@@ -66,11 +66,11 @@ fn up_from(first: u32, most: u64) -> LevelRange
 }
 
 /// That of a sum, where loop variables stay below their bounds.
-pub fn of_sum(own: &Linear, bounds: &[Bound]) -> LevelRange
-    ensures { (values : Values) → AreBelow bounds.now values → LiesIn result (linear_value values own.now) }
+pub fn of_sum(new_sum: &Linear, bounds: &[Bound]) -> LevelRange
+    ensures { (values : Values) → AreBelow bounds.now values → LiesIn result (linear_value values new_sum.now) }
 {
-    match most_of(own.terms.as_slice(), bounds) {
-        Some(most) => up_from(own.number, most),
+    match most_of(new_sum.terms.as_slice(), bounds) {
+        Some(most) => up_from(new_sum.number, most),
         None => any(),
     }
 }

@@ -72,9 +72,9 @@ byte-in text m c (suc (suc (suc zero))) are l =
     (c + 3) are in omega (arith, b0, b1, b2, b3)
 byte-in text m c (suc (suc (suc (suc q)))) are l = absurd (omega (arith, l))
 
-module _ (w : World) (m : List ℕ) (l : length m ≡ w.size) (group : LaneGroup) (n k : ℕ) (lies : SlotLies group k) (place : BufferLayout)
-    (bytes : place.pixels ≡ pixels.Bytes) (x y pixel : ℕ → ℕ)
-    (can : (i : ℕ) → i < n → LoadsAt w place m (x i) (y i) (pixel i)) where
+module _ (w : World) (m : List ℕ) (l : length m ≡ w.size) (group : LaneGroup) (n k : ℕ) (lies : SlotLies group k) (layout : BufferLayout)
+    (bytes : layout.pixels ≡ pixels.Bytes) (x y pixel : ℕ → ℕ)
+    (can : (i : ℕ) → i < n → LoadsAt w layout m (x i) (y i) (pixel i)) where
   abbrev g : ℕ
   g = registers group
 
@@ -85,7 +85,7 @@ module _ (w : World) (m : List ℕ) (l : length m ≡ w.size) (group : LaneGroup
   u = spare group
 
   abbrev spot : ℕ → ℕ
-  spot i = address place w.hart (x i) (y i)
+  spot i = address layout w.hart (x i) (y i)
 
   holds : (i : ℕ) → i < n → number_in w.text m Byte (spot i) ≡ pixel i
   holds i b = subst (λ p. number_in w.text m (load_size (load_op p)) (spot i) ≡ pixel i) bytes (can i b).holds
@@ -163,7 +163,7 @@ module _ (w : World) (m : List ℕ) (l : length m ≡ w.size) (group : LaneGroup
       ap (λ z. word_at i / 2 ^ z % 256) (shift-count (spot i)) ∙ byte-in w.text m (a i) (spot i % 4) c.are_bytes q ∙ ap (number_in w.text m Byte)
       (same-rest (spot i)) ∙ holds i b
 
-  -- what stands in the midst of it: numbers in the slot, how many bits lie before each byte in the scratch group
+  -- what is in the midst of it: numbers in the slot, how many bits lie before each byte in the scratch group
   record Halfway (is : List Insn) (f v : ℕ → ℕ) : Type 0 where
     after : ℕ → ℕ
     line : Line w is f m after m

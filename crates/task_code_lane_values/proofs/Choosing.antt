@@ -78,7 +78,7 @@ choice-as group k c a b lk lc la lb r q s t c0 c1 c2 er eq es et x y = record {
       (slot-lies group b lb).is_group has hc ha hb);
 }
 
--- ---- by which part stands in group k, and which after it
+-- ---- by which part is in group k, and which after it
 
 module _ (group : LaneGroup) (k : ℕ) (c0 c1 : List ℕ) where
   pub by-condition : Chooses c0 c1 group k k (k + 1) (k + 2) → ComputesThree c0 c1 group k (λ c a b. if c == 0 then b else a)

@@ -98,29 +98,29 @@ module _ (w : World) (m : List ℕ) (l : length m ≡ w.size) (group : LaneGroup
 -- ---- scalars
 
 -- a number or a form is one that a register holds or gets
-pub scalar-held : (scope : List Held) (own : VectorLanes) (most s : ℕ) (c0 c1 : List ℕ) (says : ℕ → Values → ℕ) → ((hart : ℕ) (values : Values)
+pub scalar-held : (scope : List Held) (lanes : VectorLanes) (most s : ℕ) (c0 c1 : List ℕ) (says : ℕ → Values → ℕ) → ((hart : ℕ) (values : Values)
     → says hart values < 2 ^ 32)
-    → MakesHeld c0 c1 most scope address_register s says → MakesScalar c0 c1 scope own s Nothing (λ hart reads values. says hart (with own.counter 0 values))
-scalar-held scope own most s c0 c1 says small x = record {
+    → MakesHeld c0 c1 most scope address_register s says → MakesScalar c0 c1 scope lanes s Nothing (λ hart reads values. says hart (with lanes.counter 0 values))
+scalar-held scope lanes most s c0 c1 says small x = record {
   insns = x.insns;
   emits = x.emits;
   source = x.source;
   does = λ w m values reads f l holders knows may.
-      let a = x.does w m w.hart (with own.counter 0 values) f l holders (working-free scope address_register holders (inl (omega arith, omega arith))) knows in
+      let a = x.does w m w.hart (with lanes.counter 0 values) f l holders (working-free scope address_register holders (inl (omega arith, omega arith))) knows in
       record {
         after = a.after;
         line = a.line;
         value = a.value;
-        small = small w.hart (with own.counter 0 values);
+        small = small w.hart (with lanes.counter 0 values);
         keeps = λ q k. let d = below-apart first_value address_register q (inl refl) k in a.others q d.0 d.1.0 d.1.1;
       };
 }
 
-pub scalar-as : (scope : List Held) (own : VectorLanes) (s : ℕ) (c0 c1 : List ℕ) (may : World → List ℕ → Reads → Values → Type 0) (says other : ℕ → Reads
+pub scalar-as : (scope : List Held) (lanes : VectorLanes) (s : ℕ) (c0 c1 : List ℕ) (may : World → List ℕ → Reads → Values → Type 0) (says other : ℕ → Reads
     → Values → ℕ)
-    → ((hart : ℕ) (reads : Reads) (values : Values) → says hart reads values ≡ other hart reads values) → MakesScalar c0 c1 scope own s may says
-    → MakesScalar c0 c1 scope own s may other
-scalar-as scope own s c0 c1 may says other same x = record {
+    → ((hart : ℕ) (reads : Reads) (values : Values) → says hart reads values ≡ other hart reads values) → MakesScalar c0 c1 scope lanes s may says
+    → MakesScalar c0 c1 scope lanes s may other
+scalar-as scope lanes s c0 c1 may says other same x = record {
   insns = x.insns;
   emits = x.emits;
   source = x.source;
@@ -133,65 +133,67 @@ scalar-as scope own s c0 c1 may says other same x = record {
 -- ---- one part after another
 
 -- the same of what has as much of memory
-pub each-as : (places : Places) (scope : List Held) (own : VectorLanes) (k : ℕ) (c0 c1 : List ℕ) (may other : World → List ℕ → Reads → Values → ℕ → Type 0)
+pub each-as : (places : Places) (scope : List Held) (lanes : VectorLanes) (k : ℕ) (c0 c1 : List ℕ) (may other : World → List ℕ → Reads → Values → ℕ → Type 0)
     (says : Reads → Values → ℕ → ℕ)
     → ((w : World) (m : List ℕ) (reads : Reads) (values : Values) (n : ℕ) → 1 ≤ n → ((i : ℕ) → i < n → other w m reads values i) → (i : ℕ) → i < n
     → may w m reads values i)
-    → MakesEach c0 c1 places scope own k may says → MakesEach c0 c1 places scope own k other says
-each-as places scope own k c0 c1 may other says can a = record {
+    → MakesEach c0 c1 places scope lanes k may says → MakesEach c0 c1 places scope lanes k other says
+each-as places scope lanes k c0 c1 may other says can a = record {
   insns = a.insns;
   emits = a.emits;
   does = λ w m values reads n f l are holders knows has some few all. a.does w m values reads n f l are holders knows has some few
       (can w m reads values n some all);
 }
 
-module _ (places : Places) (scope : List Held) (own : VectorLanes) (k : ℕ) (in-stack : k < slots own.group) where
+module _ (places : Places) (scope : List Held) (vector_lanes : VectorLanes) (k : ℕ)
+    (in-stack : k < slots vector_lanes.group) where
   abbrev MayEach : Type 1
   MayEach = World → List ℕ → Reads → Values → ℕ → Type 0
 
   abbrev MayOnce : Type 1
   MayOnce = World → List ℕ → Reads → Values → Type 0
 
-  known : (hart : ℕ) (values : Values) (j : ℕ) (f g : ℕ → ℕ) → AreHolders scope → ((q : ℕ) → IsUnder own.group j q → g q ≡ f q)
+  known : (hart : ℕ) (values : Values) (j : ℕ) (f g : ℕ → ℕ) → AreHolders scope → ((q : ℕ) → IsUnder vector_lanes.group j q → g q ≡ f q)
       → Knows hart scope values f → Knows hart scope values g
-  known hart values j f g holders same knows = knows-still hart scope values f g (λ q h. same q (kept-under own.group j scope q holders h)) knows
+  known hart values j f g holders same knows = knows-still hart scope values f g (λ q h. same q (kept-under vector_lanes.group j scope q holders h)) knows
 
   -- all lanes are a scalar
-  pub each-spread : (s : ℕ) (c0 c1 c2 : List ℕ) (mb : MayOnce) (xb : Reads → Values → ℕ) → MakesScalar c0 c1 scope own s mb
+  pub each-spread : (s : ℕ) (c0 c1 c2 : List ℕ) (mb : MayOnce) (xb : Reads → Values → ℕ) → MakesScalar c0 c1 scope vector_lanes s mb
       (λ hart reads values. xb reads values)
-      → Emits c1 c2 (Vector (v.MoveVx (slot own.group k) s) ∷ [])
-      → MakesEach c0 c2 places scope own k (λ w m reads values i. mb w m reads values) (λ reads values i. xb reads values)
+      → Emits c1 c2 (Vector (v.MoveVx (slot vector_lanes.group k) s) ∷ [])
+      → MakesEach c0 c2 places scope vector_lanes k (λ w m reads values i. mb w m reads values) (λ reads values i. xb reads values)
   each-spread s c0 c1 c2 mb xb x z = record {
-    insns = x.insns ++ (Vector (v.MoveVx (slot own.group k) s) ∷ []);
+    insns = x.insns ++ (Vector (v.MoveVx (slot vector_lanes.group k) s) ∷ []);
     emits = emits_then x.emits z;
     does = λ w m values reads n f l are holders knows has some few may.
         let p = x.does w m values reads f l holders knows (may 0 (omega (arith, some))) in
-        let hp = lanes-scalar w m l own.group n f p.after p.keeps has in
-        let lies = slot-lies own.group k in-stack in
+        let hp = lanes-scalar w m l vector_lanes.group n f p.after p.keeps has in
+        let lies = slot-lies vector_lanes.group k in-stack in
         let c = xb reads values in
         let small = p.small in
         let e = p.value in
-        let t = left-of w m l own.group n (Vector (v.MoveVx (slot own.group k) s) ∷ []) p.after k (λ i. c) (λ i b. small)
-        (rows.last w m l own.group n k lies (rows.writes w m l own.group n (λ i. c) (λ i. p.after s % 2 ^ 32) hp
-        (vector.move-vx w p.after m l (registers own.group) hp.configured (slot own.group k) s lies.is_group x.source.0) (λ i b. omega (arith, e, small)))) in
+        let t = left-of w m l vector_lanes.group n (Vector (v.MoveVx (slot vector_lanes.group k) s) ∷ []) p.after k (λ i. c) (λ i b. small)
+        (rows.last w m l vector_lanes.group n k lies (rows.writes w m l vector_lanes.group n (λ i. c)
+        (λ i. p.after s % 2 ^ 32) hp
+        (vector.move-vx w p.after m l (registers vector_lanes.group) hp.configured (slot vector_lanes.group k) s lies.is_group x.source.0) (λ i b. omega (arith, e, small)))) in
         record {
           after = t.after;
-          line = line-then w x.insns (Vector (v.MoveVx (slot own.group k) s) ∷ []) f p.after t.after m m m p.line t.line;
+          line = line-then w x.insns (Vector (v.MoveVx (slot vector_lanes.group k) s) ∷ []) f p.after t.after m m m p.line t.line;
           value = t.value;
           small = t.small;
-          keeps = λ q u. t.keeps q u ∙ p.keeps q (under-below own.group k q u);
+          keeps = λ q u. t.keeps q u ∙ p.keeps q (under-below vector_lanes.group k q u);
         };
   }
 
-  pub each-one : (c0 c1 c2 : List ℕ) (ma : MayEach) (xa : Reads → Values → ℕ → ℕ) (says : ℕ → ℕ) → MakesEach c0 c1 places scope own k ma xa
-      → ComputesOne c1 c2 own.group k says
-      → MakesEach c0 c2 places scope own k ma (λ reads values i. says (xa reads values i))
+  pub each-one : (c0 c1 c2 : List ℕ) (ma : MayEach) (xa : Reads → Values → ℕ → ℕ) (says : ℕ → ℕ) → MakesEach c0 c1 places scope vector_lanes k ma xa
+      → ComputesOne c1 c2 vector_lanes.group k says
+      → MakesEach c0 c2 places scope vector_lanes k ma (λ reads values i. says (xa reads values i))
   each-one c0 c1 c2 ma xa says x z = record {
     insns = x.insns ++ z.insns;
     emits = emits_then x.emits z.emits;
     does = λ w m values reads n f l are holders knows has some few may.
         let p = x.does w m values reads n f l are holders knows has some few may in
-        let hp = lanes-under w m l own.group n k f p.after p.keeps has in
+        let hp = lanes-under w m l vector_lanes.group n k f p.after p.keeps has in
         let t = z.does w m n p.after (xa reads values) l hp p.value p.small in
         record {
           after = t.after;
@@ -205,22 +207,22 @@ module _ (places : Places) (scope : List Held) (own : VectorLanes) (k : ℕ) (in
   -- an operation on lanes and a scalar
   pub each-by : (s : ℕ) (c0 c1 c2 c3 : List ℕ) (ma : MayEach) (mb : MayOnce) (xa : Reads → Values → ℕ → ℕ) (xb : Reads → Values → ℕ) (fits : ℕ → Type 0)
       (says : ℕ → ℕ → ℕ)
-      → MakesEach c0 c1 places scope own k ma xa → MakesScalar c1 c2 scope own s mb (λ hart reads values. xb reads values)
-      → ComputesBy c2 c3 own.group k s fits says
+      → MakesEach c0 c1 places scope vector_lanes k ma xa → MakesScalar c1 c2 scope vector_lanes s mb (λ hart reads values. xb reads values)
+      → ComputesBy c2 c3 vector_lanes.group k s fits says
       → ((reads : Reads) (values : Values) → xb reads values < 2 ^ 32 → fits (xb reads values))
-      → MakesEach c0 c3 places scope own k (λ w m reads values i. ma w m reads values i × mb w m reads values) (λ reads values i. says (xa reads values i)
+      → MakesEach c0 c3 places scope vector_lanes k (λ w m reads values i. ma w m reads values i × mb w m reads values) (λ reads values i. says (xa reads values i)
       (xb reads values))
   each-by s c0 c1 c2 c3 ma mb xa xb fits says x y z fit = record {
     insns = x.insns ++ (y.insns ++ z.insns);
     emits = emits_then x.emits (emits_then y.emits z.emits);
     does = λ w m values reads n f l are holders knows has some few may.
         let p = x.does w m values reads n f l are holders knows has some few (λ i b. (may i b).0) in
-        let kp = known w.hart (with own.counter 0 values) k f p.after holders p.keeps knows in
-        let hp = lanes-under w m l own.group n k f p.after p.keeps has in
+        let kp = known w.hart (with vector_lanes.counter 0 values) k f p.after holders p.keeps knows in
+        let hp = lanes-under w m l vector_lanes.group n k f p.after p.keeps has in
         let q = y.does w m values reads p.after l holders kp ((may 0 (omega (arith, some))).1) in
-        let hq = lanes-scalar w m l own.group n p.after q.after q.keeps hp in
-        let t = z.does w m n q.after (xa reads values) (xb reads values) l hq (λ i b. q.keeps (lane (slot own.group k) i) (lane-below
-        (slot own.group k) i) ∙ p.value i b) p.small q.value
+        let hq = lanes-scalar w m l vector_lanes.group n p.after q.after q.keeps hp in
+        let t = z.does w m n q.after (xa reads values) (xb reads values) l hq (λ i b. q.keeps (lane (slot vector_lanes.group k) i) (lane-below
+        (slot vector_lanes.group k) i) ∙ p.value i b) p.small q.value
         q.small (fit reads values q.small) in
         record {
           after = t.after;
@@ -228,26 +230,26 @@ module _ (places : Places) (scope : List Held) (own : VectorLanes) (k : ℕ) (in
               t.line);
           value = t.value;
           small = t.small;
-          keeps = λ u h. t.keeps u h ∙ q.keeps u (under-below own.group k u h) ∙ p.keeps u h;
+          keeps = λ u h. t.keeps u h ∙ q.keeps u (under-below vector_lanes.group k u h) ∙ p.keeps u h;
         };
   }
 
   -- an operation on two groups
-  pub each-two : (c0 c1 c2 c3 : List ℕ) (ma mb : MayEach) (xa xb : Reads → Values → ℕ → ℕ) (says : ℕ → ℕ → ℕ) → MakesEach c0 c1 places scope own k ma xa
-      → MakesEach c1 c2 places scope own (k + 1) mb xb → ComputesTwo c2 c3 own.group k says
-      → MakesEach c0 c3 places scope own k (λ w m reads values i. ma w m reads values i × mb w m reads values i) (λ reads values i. says
+  pub each-two : (c0 c1 c2 c3 : List ℕ) (ma mb : MayEach) (xa xb : Reads → Values → ℕ → ℕ) (says : ℕ → ℕ → ℕ) → MakesEach c0 c1 places scope vector_lanes k ma xa
+      → MakesEach c1 c2 places scope vector_lanes (k + 1) mb xb → ComputesTwo c2 c3 vector_lanes.group k says
+      → MakesEach c0 c3 places scope vector_lanes k (λ w m reads values i. ma w m reads values i × mb w m reads values i) (λ reads values i. says
       (xa reads values i) (xb reads values i))
   each-two c0 c1 c2 c3 ma mb xa xb says x y z = record {
     insns = x.insns ++ (y.insns ++ z.insns);
     emits = emits_then x.emits (emits_then y.emits z.emits);
     does = λ w m values reads n f l are holders knows has some few may.
         let p = x.does w m values reads n f l are holders knows has some few (λ i b. (may i b).0) in
-        let kp = known w.hart (with own.counter 0 values) k f p.after holders p.keeps knows in
-        let hp = lanes-under w m l own.group n k f p.after p.keeps has in
+        let kp = known w.hart (with vector_lanes.counter 0 values) k f p.after holders p.keeps knows in
+        let hp = lanes-under w m l vector_lanes.group n k f p.after p.keeps has in
         let q = y.does w m values reads n p.after l are holders kp hp some few (λ i b. (may i b).1) in
-        let hq = lanes-under w m l own.group n (k + 1) p.after q.after q.keeps hp in
-        let t = z.does w m n q.after (xa reads values) (xb reads values) l hq (λ i b. q.keeps (lane (slot own.group k) i)
-        (slot-under own.group k i n in-stack few b) ∙ p.value i b) q.value
+        let hq = lanes-under w m l vector_lanes.group n (k + 1) p.after q.after q.keeps hp in
+        let t = z.does w m n q.after (xa reads values) (xb reads values) l hq (λ i b. q.keeps (lane (slot vector_lanes.group k) i)
+        (slot-under vector_lanes.group k i n in-stack few b) ∙ p.value i b) q.value
         p.small q.small in
         record {
           after = t.after;
@@ -255,36 +257,36 @@ module _ (places : Places) (scope : List Held) (own : VectorLanes) (k : ℕ) (in
               t.line);
           value = t.value;
           small = t.small;
-          keeps = λ u h. t.keeps u h ∙ q.keeps u (under-next own.group k u in-stack h) ∙ p.keeps u h;
+          keeps = λ u h. t.keeps u h ∙ q.keeps u (under-next vector_lanes.group k u in-stack h) ∙ p.keeps u h;
         };
   }
 
   -- an operation on three groups
-  pub each-three : k + 2 < slots own.group → (c0 c1 c2 c3 c4 : List ℕ) (mc ma mb : MayEach) (xc xa xb : Reads → Values → ℕ → ℕ) (says : ℕ → ℕ → ℕ → ℕ)
-      → MakesEach c0 c1 places scope own k mc xc
-      → MakesEach c1 c2 places scope own (k + 1) ma xa → MakesEach c2 c3 places scope own (k + 2) mb xb → ComputesThree c3 c4 own.group k says
-      → MakesEach c0 c4 places scope own k (λ w m reads values i. mc w m reads values i × (ma w m reads values i × mb w m reads values i))
+  pub each-three : k + 2 < slots vector_lanes.group → (c0 c1 c2 c3 c4 : List ℕ) (mc ma mb : MayEach) (xc xa xb : Reads → Values → ℕ → ℕ) (says : ℕ → ℕ → ℕ → ℕ)
+      → MakesEach c0 c1 places scope vector_lanes k mc xc
+      → MakesEach c1 c2 places scope vector_lanes (k + 1) ma xa → MakesEach c2 c3 places scope vector_lanes (k + 2) mb xb → ComputesThree c3 c4 vector_lanes.group k says
+      → MakesEach c0 c4 places scope vector_lanes k (λ w m reads values i. mc w m reads values i × (ma w m reads values i × mb w m reads values i))
       (λ reads values i. says (xc reads values i) (xa reads values i) (xb reads values i))
   each-three room c0 c1 c2 c3 c4 mc ma mb xc xa xb says o x y z = record {
     insns = o.insns ++ (x.insns ++ (y.insns ++ z.insns));
     emits = emits_then o.emits (emits_then x.emits (emits_then y.emits z.emits));
     does = λ w m values reads n f l are holders knows has some few may.
-        let first = with own.counter 0 values in
-        let in-next : k + 1 < slots own.group = omega (arith, room) in
+        let first = with vector_lanes.counter 0 values in
+        let in-next : k + 1 < slots vector_lanes.group = omega (arith, room) in
         let s = o.does w m values reads n f l are holders knows has some few (λ i b. (may i b).0) in
         let ks = known w.hart first k f s.after holders s.keeps knows in
-        let hs = lanes-under w m l own.group n k f s.after s.keeps has in
+        let hs = lanes-under w m l vector_lanes.group n k f s.after s.keeps has in
         let p = x.does w m values reads n s.after l are holders ks hs some few (λ i b. (may i b).1.0) in
         let kp = known w.hart first (k + 1) s.after p.after holders p.keeps ks in
-        let hp = lanes-under w m l own.group n (k + 1) s.after p.after p.keeps hs in
+        let hp = lanes-under w m l vector_lanes.group n (k + 1) s.after p.after p.keeps hs in
         let q = y.does w m values reads n p.after l are holders kp hp some few (λ i b. (may i b).1.1) in
-        let hq = lanes-under w m l own.group n (k + 2) p.after q.after q.keeps hp in
-        let up : (u : ℕ) → IsUnder own.group (k + 1) u → IsUnder own.group (k + 2) u = (λ u h. under-two own.group k u in-next h) in
-        let ec : (i : ℕ) → i < n → q.after (lane (slot own.group k) i) ≡ xc reads values i =
-        (λ i b. let h = slot-under own.group k i n in-stack few b in q.keeps (lane (slot own.group k) i) (up (lane (slot own.group k) i) h) ∙ p.keeps
-        (lane (slot own.group k) i) h ∙ s.value i b) in
-        let ex : (i : ℕ) → i < n → q.after (lane (slot own.group (k + 1)) i) ≡ xa reads values i =
-        (λ i b. q.keeps (lane (slot own.group (k + 1)) i) (slot-under-two own.group k i n in-next few b) ∙ p.value i b) in
+        let hq = lanes-under w m l vector_lanes.group n (k + 2) p.after q.after q.keeps hp in
+        let up : (u : ℕ) → IsUnder vector_lanes.group (k + 1) u → IsUnder vector_lanes.group (k + 2) u = (λ u h. under-two vector_lanes.group k u in-next h) in
+        let ec : (i : ℕ) → i < n → q.after (lane (slot vector_lanes.group k) i) ≡ xc reads values i =
+        (λ i b. let h = slot-under vector_lanes.group k i n in-stack few b in q.keeps (lane (slot vector_lanes.group k) i) (up (lane (slot vector_lanes.group k) i) h) ∙ p.keeps
+        (lane (slot vector_lanes.group k) i) h ∙ s.value i b) in
+        let ex : (i : ℕ) → i < n → q.after (lane (slot vector_lanes.group (k + 1)) i) ≡ xa reads values i =
+        (λ i b. q.keeps (lane (slot vector_lanes.group (k + 1)) i) (slot-under-two vector_lanes.group k i n in-next few b) ∙ p.value i b) in
         let t = z.does w m n q.after (xc reads values) (xa reads values) (xb reads values) l hq ec ex q.value s.small p.small q.small in
         record {
           after = t.after;
@@ -293,6 +295,6 @@ module _ (places : Places) (scope : List Held) (own : VectorLanes) (k : ℕ) (in
               q.line t.line));
           value = t.value;
           small = t.small;
-          keeps = λ u h. let h1 = under-next own.group k u in-stack h in t.keeps u h ∙ q.keeps u (up u h1) ∙ p.keeps u h1 ∙ s.keeps u h;
+          keeps = λ u h. let h1 = under-next vector_lanes.group k u in-stack h in t.keeps u h ∙ q.keeps u (up u h1) ∙ p.keeps u h1 ∙ s.keeps u h;
         };
   }

@@ -55,11 +55,12 @@ pub swapped-subtract : IsComputedBy op.Subtract vxs.Vrsub
 unfolding word.subtract
 swapped-subtract x c lx lc = refl
 
-pub by-as-is : (o other : Operation) (own : ArithmeticVxOp) → o ≡ other → IsBy other own → IsBy o own
-by-as-is o other own e is = subst (λ z. IsBy z own) (sym e) is
+pub by-as-is : (o other : Operation) (arithmetic_vx_op : ArithmeticVxOp) → o ≡ other → IsBy other arithmetic_vx_op
+    → IsBy o arithmetic_vx_op
+by-as-is o other arithmetic_vx_op e is = subst (λ z. IsBy z arithmetic_vx_op) (sym e) is
 
-pub swapped-as-is : (o other : Operation) (own : ArithmeticVxOp) → o ≡ other → IsComputedBy other own → IsComputedBy o own
-swapped-as-is o other own e is = subst (λ z. IsComputedBy z own) (sym e) is
+pub swapped-as-is : (o other : Operation) (arithmetic_vx_op : ArithmeticVxOp) → o ≡ other → IsComputedBy other arithmetic_vx_op → IsComputedBy o arithmetic_vx_op
+swapped-as-is o other arithmetic_vx_op e is = subst (λ z. IsComputedBy z arithmetic_vx_op) (sym e) is
 
 -- ---- two groups
 
@@ -169,13 +170,13 @@ module _ (group : LaneGroup) (k : ℕ) (in-stack : k < slots group) where
     }
 
   module _ (o : Operation) (s : ℕ) (low : s < 32) (c0 c1 : List ℕ) where
-    pub second-arithmetic : (own : ArithmeticVxOp) → IsBy o own → Emits c0 c1 (Vector (v.ArithmeticVx own r r s true) ∷ [])
+    pub second-arithmetic : (arithmetic_vx_op : ArithmeticVxOp) → IsBy o arithmetic_vx_op → Emits c0 c1 (Vector (v.ArithmeticVx arithmetic_vx_op r r s true) ∷ [])
         → ComputesBy c0 c1 group k s AnyWord (word.applied o)
-    second-arithmetic own is x = by-arithmetic s low c0 c1 (word.applied o) (λ x c lx lc. applied-below o x c lx lc) own is x
+    second-arithmetic arithmetic_vx_op is x = by-arithmetic s low c0 c1 (word.applied o) (λ x c lx lc. applied-below o x c lx lc) arithmetic_vx_op is x
 
-    pub first-arithmetic : (own : ArithmeticVxOp) → IsComputedBy o own → Emits c0 c1 (Vector (v.ArithmeticVx own r r s true) ∷ [])
+    pub first-arithmetic : (arithmetic_vx_op : ArithmeticVxOp) → IsComputedBy o arithmetic_vx_op → Emits c0 c1 (Vector (v.ArithmeticVx arithmetic_vx_op r r s true) ∷ [])
         → ComputesBy c0 c1 group k s AnyWord (λ x c. word.applied o c x)
-    first-arithmetic own is x = by-arithmetic s low c0 c1 (λ x c. word.applied o c x) (λ x c lx lc. applied-below o c x lc lx) own is x
+    first-arithmetic arithmetic_vx_op is x = by-arithmetic s low c0 c1 (λ x c. word.applied o c x) (λ x c lx lc. applied-below o c x lc lx) arithmetic_vx_op is x
 
     pub second-product : o ≡ op.Multiply → Emits c0 c1 (Vector (v.MultiplyVx multiplies.Vmul r r s true) ∷ []) → ComputesBy c0 c1 group k s AnyWord
         (word.applied o)
@@ -193,13 +194,13 @@ module _ (group : LaneGroup) (k : ℕ) (in-stack : k < slots group) where
         (λ x c lx lc. let g : x * c ≡ c * x = omega arith in ap (λ n. n % 2 ^ 32) g) x)
 
     -- as the emitters call them
-    pub second-by : (a : ℕ) → a ≡ r → (own : ArithmeticVxOp) → IsBy o own → Emits c0 c1 (Vector (v.ArithmeticVx own a a s true) ∷ [])
+    pub second-by : (a : ℕ) → a ≡ r → (arithmetic_vx_op : ArithmeticVxOp) → IsBy o arithmetic_vx_op → Emits c0 c1 (Vector (v.ArithmeticVx arithmetic_vx_op a a s true) ∷ [])
         → ComputesBy c0 c1 group k s AnyWord (word.applied o)
-    second-by a ea own is x = second-arithmetic own is (subst (λ z. Emits c0 c1 (Vector (v.ArithmeticVx own z z s true) ∷ [])) ea x)
+    second-by a ea arithmetic_vx_op is x = second-arithmetic arithmetic_vx_op is (subst (λ z. Emits c0 c1 (Vector (v.ArithmeticVx arithmetic_vx_op z z s true) ∷ [])) ea x)
 
-    pub first-by : (a : ℕ) → a ≡ r → (own : ArithmeticVxOp) → IsComputedBy o own → Emits c0 c1 (Vector (v.ArithmeticVx own a a s true) ∷ [])
+    pub first-by : (a : ℕ) → a ≡ r → (arithmetic_vx_op : ArithmeticVxOp) → IsComputedBy o arithmetic_vx_op → Emits c0 c1 (Vector (v.ArithmeticVx arithmetic_vx_op a a s true) ∷ [])
         → ComputesBy c0 c1 group k s AnyWord (λ x c. word.applied o c x)
-    first-by a ea own is x = first-arithmetic own is (subst (λ z. Emits c0 c1 (Vector (v.ArithmeticVx own z z s true) ∷ [])) ea x)
+    first-by a ea arithmetic_vx_op is x = first-arithmetic arithmetic_vx_op is (subst (λ z. Emits c0 c1 (Vector (v.ArithmeticVx arithmetic_vx_op z z s true) ∷ [])) ea x)
 
     pub second-times : (a : ℕ) → a ≡ r → o ≡ op.Multiply → Emits c0 c1 (Vector (v.MultiplyVx multiplies.Vmul a a s true) ∷ [])
         → ComputesBy c0 c1 group k s AnyWord (word.applied o)

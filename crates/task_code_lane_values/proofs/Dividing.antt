@@ -118,7 +118,7 @@ module _ (w : World) (m : List ℕ) (l : length m ≡ w.size) (group : LaneGroup
       (lanes_sign r u ++ (lanes_swapped r u ++ ((Vector (v.MultiplyVx multiplies.Vremu r r s true) ∷ []) ++ lanes_swapped r u)))
       ++ ((Vector (v.ArithmeticVx vxs.Vand u u s true) ∷ []) ++ (Vector (v.ArithmeticVv vvs.Vadd r r u true) ∷ []))
 
-  -- what stands before the divisor is added where a lane is negative
+  -- what is before the divisor is added where a lane is negative
   record Rests (is : List Insn) (s c : ℕ) (t : ℕ → Bool) (f v : ℕ → ℕ) : Type 0 where
     after : ℕ → ℕ
     line : Line w is f m after m

@@ -49,7 +49,7 @@ use Rattle.task_code_lanes.proofs.Slots.{slot-lies}
 use Rattle.task_code_lanes.proofs.Rows as rows
 use Rattle.task_code_lane_values.specs.declared.vectorized.VectorLanes.{VectorLanes}
 use Rattle.task_code_lane_values.specs.Leaving.{MakesDistances, MakesLanes, distance}
-use Rattle.task_code_lane_values.specs.inner.Parts.{IsSteady, LoadsAlong, LoadsFrom, MakesEach, MakesScalar, MakesSteady}
+use Rattle.task_code_lane_values.specs.inner.Parts.{IsLoopInvariant, LoadsAlong, LoadsFrom, MakesEach, MakesScalar, MakesInvariant}
 use Rattle.task_code_lane_values.specs.inner.Parts.{Nothing, AnyWord, ComputesOne, ComputesBy, ComputesTwo, MakesRowPointer}
 use Rattle.task_code_lane_values.proofs.Arms.{May, each-of, lanes-of, load-has, load-first, load-second, load-value}
 use Rattle.task_code_lane_values.proofs.Composing.{each-one, each-by, each-two, left-of, scalar-as}
@@ -110,17 +110,18 @@ number-reaches p hart x y low =
 
 -- ---- pointers to a column of the first iteration and a row
 
-module _ (places : Places) (scope : List Held) (own : VectorLanes) (place : BufferLayout) (x : Linear) (y : Expr) where
+module _ (places : Places) (scope : List Held) (vector_lanes : VectorLanes) (layout : BufferLayout) (x : Linear)
+    (y : Expr) where
   abbrev spot : ℕ → Reads → Values → ℕ
-  spot hart reads values = address place hart (linear_value (with own.counter 0 values) x) (value reads (with own.counter 0 values) y) % 2 ^ 32
+  spot hart reads values = address layout hart (linear_value (with vector_lanes.counter 0 values) x) (value reads (with vector_lanes.counter 0 values) y) % 2 ^ 32
 
-  pub pointer-sum : (row : Linear) (form start : AffineForm) (most s : ℕ) (c0 c1 : List ℕ) → IsSum y row → IsPoint place x row form → IsAt own.counter 0 form start
-      → MakesHeld c0 c1 most scope address_register s (λ hart values. form_value hart values start) → MakesRowPointer c0 c1 places scope own s place x y
+  pub pointer-sum : (row : Linear) (form start : AffineForm) (most s : ℕ) (c0 c1 : List ℕ) → IsSum y row → IsPoint layout x row form → IsAt vector_lanes.counter 0 form start
+      → MakesHeld c0 c1 most scope address_register s (λ hart values. form_value hart values start) → MakesRowPointer c0 c1 places scope vector_lanes s layout x y
   pointer-sum row form start most s c0 c1 sum point at p =
-      let a = scalar-as scope own s c0 c1 Nothing (λ hart reads values. form_value hart (with own.counter 0 values) form) spot
-      (λ hart reads values. point.value hart (with own.counter 0 values)
-      ∙ ap (λ n. address place hart (linear_value (with own.counter 0 values) x) n % 2 ^ 32) (sym (sum.value_is reads (with own.counter 0 values))))
-      (pointer-scalar scope own form start most s c0 c1 at p) in
+      let a = scalar-as scope vector_lanes s c0 c1 Nothing (λ hart reads values. form_value hart (with vector_lanes.counter 0 values) form) spot
+      (λ hart reads values. point.value hart (with vector_lanes.counter 0 values)
+      ∙ ap (λ n. address layout hart (linear_value (with vector_lanes.counter 0 values) x) n % 2 ^ 32) (sym (sum.value_is reads (with vector_lanes.counter 0 values))))
+      (pointer-scalar scope vector_lanes form start most s c0 c1 at p) in
       record {
         insns = a.insns;
         emits = a.emits;
@@ -129,17 +130,17 @@ module _ (places : Places) (scope : List Held) (own : VectorLanes) (place : Buff
       }
 
   pub pointer-register : (zero : Linear) (form start : AffineForm) (bytes row most t b : ℕ) (c0 c1 c2 c3 c4 : List ℕ) → ((values : Values)
-      → linear_value values zero ≡ 0) → bytes ≡ pixel_bytes place.pixels
-      → row ≡ word.multiply bytes place.width → IsPoint place x zero form → IsAt own.counter 0 form start → MakesSteady c0 c1 places scope own t y
+      → linear_value values zero ≡ 0) → bytes ≡ pixel_bytes layout.pixels
+      → row ≡ word.multiply bytes layout.width → IsPoint layout x zero form → IsAt vector_lanes.counter 0 form start → MakesInvariant c0 c1 places scope vector_lanes t y
       → Makes c1 c2 3 first_value (λ f. (f t * row) % 2 ^ 32) → MakesHeld c2 c3 most scope address_register b (λ hart values. form_value hart values start)
-      → Emits c3 c4 (Alu alus.Add address_register b first_value ∷ []) → MakesRowPointer c0 c4 places scope own address_register place x y
+      → Emits c3 c4 (Alu alus.Add address_register b first_value ∷ []) → MakesRowPointer c0 c4 places scope vector_lanes address_register layout x y
   unfolding word.multiply
   pointer-register zero form start bytes row most t b c0 c1 c2 c3 c4 none eb er point at s p q z = record {
     insns = s.insns ++ (p.insns ++ (q.insns ++ (Alu alus.Add address_register b first_value ∷ [])));
     emits = emits_then s.emits (emits_then p.emits (emits_then q.emits z));
     source = (omega arith, ((λ g. omega (arith, g)), (λ g. omega (arith, g))));
     does = λ w m values reads f l holders knows may.
-        let first = with own.counter 0 values in
+        let first = with vector_lanes.counter 0 values in
         let add = Alu alus.Add address_register b first_value ∷ [] in
         let i1 = s.does w m values reads f l holders knows may in
         let k1 = knows-still w.hart scope first f i1.after (λ n h. i1.keeps n (kept-below scope n 20 (omega arith) holders h)) knows in
@@ -154,12 +155,12 @@ module _ (places : Places) (scope : List Held) (own : VectorLanes) (place : Buff
         (omega arith) q.source.0 (omega arith) refl refl in
         let xv = linear_value first x in
         let yv = value reads first y in
-        let efv : form_value w.hart first start ≡ address place w.hart xv 0 % 2 ^ 32 = at.value w.hart 0 values ∙ point.value w.hart first ∙ ap
-        (λ n. address place w.hart xv n % 2 ^ 32) (none first) in
+        let efv : form_value w.hart first start ≡ address layout w.hart xv 0 % 2 ^ 32 = at.value w.hart 0 values ∙ point.value w.hart first ∙ ap
+        (λ n. address layout w.hart xv n % 2 ^ 32) (none first) in
         let is : (i3.after b + i3.after first_value) % 2 ^ 32 ≡ spot w.hart reads values =
-        ap (λ n. (n + i3.after first_value) % 2 ^ 32) (i3.value ∙ efv) ∙ ap (λ n. (address place w.hart xv 0 % 2 ^ 32 + n) % 2 ^ 32) (e20 ∙ ap (λ n.
+        ap (λ n. (n + i3.after first_value) % 2 ^ 32) (i3.value ∙ efv) ∙ ap (λ n. (address layout w.hart xv 0 % 2 ^ 32 + n) % 2 ^ 32) (e20 ∙ ap (λ n.
         (n * row) % 2 ^ 32) i1.value ∙ ap (λ n. (yv * n) % 2 ^ 32) er)
-        ∙ row-number 0 bytes xv yv w.hart place (sym eb) in
+        ∙ row-number 0 bytes xv yv w.hart layout (sym eb) in
         record {
           after = i4.after;
           line = line-then w s.insns (p.insns ++ (q.insns ++ add)) f i1.after i4.after m m m i1.line (line-then w p.insns
@@ -189,14 +190,14 @@ times-four-made group k in-stack c0 c1 z = record {
       (y * 4) % 2 ^ 32) (hx i b))));
 }
 
-pub offsets-words : (group : LaneGroup) (k : ℕ) → k < slots group → (own : Pixels) (a : ℕ) (c0 c1 : List ℕ) → own ≡ pixels.Words → a ≡ slot group k
-    → Emits c0 c1 (Vector (v.ShiftVi shifts.Vsll a a 2 true) ∷ []) → ComputesOne c0 c1 group k (λ x. (x * pixel_bytes own) % 2 ^ 32)
-offsets-words group k in-stack own a c0 c1 is ea z =
+pub offsets-words : (group : LaneGroup) (k : ℕ) → k < slots group → (own_pixels : Pixels) (a : ℕ) (c0 c1 : List ℕ) → own_pixels ≡ pixels.Words → a ≡ slot group k
+    → Emits c0 c1 (Vector (v.ShiftVi shifts.Vsll a a 2 true) ∷ []) → ComputesOne c0 c1 group k (λ x. (x * pixel_bytes own_pixels) % 2 ^ 32)
+offsets-words group k in-stack own_pixels a c0 c1 is ea z =
     subst (λ p. ComputesOne c0 c1 group k (λ x. (x * pixel_bytes p) % 2 ^ 32)) (sym is)
     (times-four-made group k in-stack c0 c1 (subst (λ y. Emits c0 c1 (Vector (v.ShiftVi shifts.Vsll y y 2 true) ∷ [])) ea z))
 
-pub offsets-bytes : (group : LaneGroup) (k : ℕ) (own : Pixels) (c : List ℕ) → own ≡ pixels.Bytes → ComputesOne c c group k (λ x. (x * pixel_bytes own) % 2 ^ 32)
-offsets-bytes group k own c is = subst (λ p. ComputesOne c c group k (λ x. (x * pixel_bytes p) % 2 ^ 32)) (sym is) (record {
+pub offsets-bytes : (group : LaneGroup) (k : ℕ) (own_pixels : Pixels) (c : List ℕ) → own_pixels ≡ pixels.Bytes → ComputesOne c c group k (λ x. (x * pixel_bytes own_pixels) % 2 ^ 32)
+offsets-bytes group k own_pixels c is = subst (λ p. ComputesOne c c group k (λ x. (x * pixel_bytes p) % 2 ^ 32)) (sym is) (record {
   insns = [];
   emits = emits-none c;
   does = λ w m n f x l has hx lx.
@@ -211,171 +212,177 @@ offsets-bytes group k own c is = subst (λ p. ComputesOne c c group k (λ x. (x 
 
 -- ---- how far points lie from the first one
 
-module _ (places : Places) (scope : List Held) (own : VectorLanes) (k : ℕ) (place : BufferLayout) (x y : Expr) where
-  -- distances are numbers in lanes
-  pub distances-each : (c0 c1 : List ℕ) → MakesDistances c0 c1 places scope own k place x y
-      → MakesEach c0 c1 places scope own k
-      (λ w m reads values i. AllByRecursion (Loads w places m reads) (loads reads (with own.counter i values) x)
-      × AllByRecursion (Loads w places m reads) (loads reads (with own.counter i values) y))
-      (λ reads values i. distance place (value reads (with own.counter i values) x) (value reads (with own.counter i values) y))
-  distances-each c0 c1 a = record {
-    insns = a.insns;
-    emits = a.emits;
-    does = λ w m values reads n f l are holders knows has some few may.
-        a.does w m values reads n f l are holders knows has some few (λ i lt. (may i lt).0) (λ i lt. (may i lt).1);
-  }
+module _ (places : Places) (scope : List Held) (vector_lanes : VectorLanes) (k : ℕ) (layout : BufferLayout) (x y : Expr)
+  where
+    -- distances are numbers in lanes
+    pub distances-each : (c0 c1 : List ℕ) → MakesDistances c0 c1 places scope vector_lanes k layout x y
+        → MakesEach c0 c1 places scope vector_lanes k
+        (λ w m reads values i. AllByRecursion (Loads w places m reads)
+        (loads reads (with vector_lanes.counter i values) x)
+        × AllByRecursion (Loads w places m reads) (loads reads (with vector_lanes.counter i values) y))
+        (λ reads values i. distance layout (value reads (with vector_lanes.counter i values) x) (value reads (with vector_lanes.counter i values) y))
+    distances-each c0 c1 a = record {
+      insns = a.insns;
+      emits = a.emits;
+      does = λ w m values reads n f l are holders knows has some few may.
+          a.does w m values reads n f l are holders knows has some few (λ i lt. (may i lt).0) (λ i lt. (may i lt).1);
+    }
 
-  -- from columns and rows in lanes
-  pub distances-made : (s : ℕ) (c0 c1 c2 c3 c4 c5 c6 : List ℕ) → k + 1 < slots own.group
-      → MakesScalar c2 c3 scope own s Nothing (λ hart reads values. place.width)
-      → ComputesBy c3 c4 own.group (k + 1) s AnyWord (word.applied op.Multiply) → ComputesTwo c4 c5 own.group k (word.applied op.Add)
-      → ComputesOne c5 c6 own.group k (λ x. (x * pixel_bytes place.pixels) % 2 ^ 32)
-      → MakesLanes c0 c1 places scope own k x → MakesLanes c1 c2 places scope own (k + 1) y → MakesDistances c0 c6 places scope own k place x y
-  unfolding word.add word.multiply
-  distances-made s c0 c1 c2 c3 c4 c5 c6 next width product plus four first second =
-      let in-stack : k < slots own.group = omega (arith, next) in
-      let MayOf : Expr → World → List ℕ → Reads → Values → ℕ → Type 0 = May places scope own k in-stack in
-      let vx : Reads → Values → ℕ → ℕ = (λ reads values i. value reads (with own.counter i values) x) in
-      let vy : Reads → Values → ℕ → ℕ = (λ reads values i. value reads (with own.counter i values) y) in
-      let scaled = each-by places scope own (k + 1) next s c1 c2 c3 c4 (MayOf y) Nothing vy (λ reads values. place.width) AnyWord (word.applied op.Multiply)
-      (each-of places scope own k in-stack c1 c2 (k + 1) y second) width product (λ reads values small. tt) in
-      let numbers = each-two places scope own k in-stack c0 c1 c4 c5 (MayOf x) (λ w m reads values i. MayOf y w m reads values i × Nothing w m reads
-      values) vx
-      (λ reads values i. word.applied op.Multiply (vy reads values i) place.width) (word.applied op.Add)
-      (each-of places scope own k in-stack c0 c1 k x first) scaled plus in
-      let a = each-one places scope own k in-stack c0 c5 c6 (λ w m reads values i. MayOf x w m reads values i ×
-      (MayOf y w m reads values i × Nothing w m reads values))
-      (λ reads values i. word.applied op.Add (vx reads values i) (word.applied op.Multiply (vy reads values i) place.width)) (λ n.
-      (n * pixel_bytes place.pixels) % 2 ^ 32) numbers four in
-      record {
-        insns = a.insns;
-        emits = a.emits;
-        does = λ w m values reads n f l are holders knows has some few may-x may-y.
-            a.does w m values reads n f l are holders knows has some few (λ i lt. (may-x i lt, (may-y i lt, tt)));
-      }
+    -- from columns and rows in lanes
+    pub distances-made : (s : ℕ) (c0 c1 c2 c3 c4 c5 c6 : List ℕ) → k + 1 < slots vector_lanes.group
+        → MakesScalar c2 c3 scope vector_lanes s Nothing (λ hart reads values. layout.width)
+        → ComputesBy c3 c4 vector_lanes.group (k + 1) s AnyWord (word.applied op.Multiply) → ComputesTwo c4 c5 vector_lanes.group k (word.applied op.Add)
+        → ComputesOne c5 c6 vector_lanes.group k (λ x. (x * pixel_bytes layout.pixels) % 2 ^ 32)
+        → MakesLanes c0 c1 places scope vector_lanes k x → MakesLanes c1 c2 places scope vector_lanes (k + 1) y → MakesDistances c0 c6 places scope vector_lanes k layout x y
+    unfolding word.add word.multiply
+    distances-made s c0 c1 c2 c3 c4 c5 c6 next width product plus four first second =
+        let in-stack : k < slots vector_lanes.group = omega (arith, next) in
+        let MayOf : Expr → World → List ℕ → Reads → Values → ℕ → Type 0 = May places scope vector_lanes k in-stack in
+        let vx : Reads → Values → ℕ → ℕ = (λ reads values i. value reads (with vector_lanes.counter i values) x) in
+        let vy : Reads → Values → ℕ → ℕ = (λ reads values i. value reads (with vector_lanes.counter i values) y) in
+        let scaled = each-by places scope vector_lanes (k + 1) next s c1 c2 c3 c4 (MayOf y) Nothing vy (λ reads values. layout.width) AnyWord (word.applied op.Multiply)
+        (each-of places scope vector_lanes k in-stack c1 c2 (k + 1) y second) width product (λ reads values small. tt) in
+        let numbers = each-two places scope vector_lanes k in-stack c0 c1 c4 c5 (MayOf x) (λ w m reads values i. MayOf y w m reads values i × Nothing w m reads
+        values) vx
+        (λ reads values i. word.applied op.Multiply (vy reads values i) layout.width) (word.applied op.Add)
+        (each-of places scope vector_lanes k in-stack c0 c1 k x first) scaled plus in
+        let a = each-one places scope vector_lanes k in-stack c0 c5 c6 (λ w m reads values i. MayOf x w m reads values i ×
+        (MayOf y w m reads values i × Nothing w m reads values))
+        (λ reads values i. word.applied op.Add (vx reads values i) (word.applied op.Multiply (vy reads values i) layout.width)) (λ n.
+        (n * pixel_bytes layout.pixels) % 2 ^ 32) numbers four in
+        record {
+          insns = a.insns;
+          emits = a.emits;
+          does = λ w m values reads n f l are holders knows has some few may-x may-y.
+              a.does w m values reads n f l are holders knows has some few (λ i lt. (may-x i lt, (may-y i lt, tt)));
+        }
 
-module _ (places : Places) (scope : List Held) (own : VectorLanes) (k : ℕ) (in-stack : k < slots own.group) (source : Source) (place : BufferLayout)
-    (ep : place ≡ place_of places source)
+module _ (places : Places) (scope : List Held) (vector_lanes : VectorLanes) (k : ℕ) (in-stack : k < slots vector_lanes.group) (source : Source) (layout : BufferLayout)
+    (ep : layout ≡ place_of places source)
   where
     abbrev Left : List ℕ → List ℕ → ℕ → Expr → Type 0
-    Left c0 c1 j x = MakesLanes c0 c1 places scope own j x
+    Left c0 c1 j x = MakesLanes c0 c1 places scope vector_lanes j x
 
     abbrev At : ℕ → Values → Expr → Reads → ℕ
-    At i values x reads = value reads (with own.counter i values) x
+    At i values x reads = value reads (with vector_lanes.counter i values) x
 
     abbrev HasPoint : Expr → Expr → World → List ℕ → Reads → Values → ℕ → Type 0
     HasPoint x y w m reads values i =
-        LoadsAt w (place_of places source) m (value reads (with own.counter i values) x) (value reads (with own.counter i values) y)
-        (reads source (value reads (with own.counter i values) x) (value reads (with own.counter i values) y))
+        LoadsAt w (place_of places source) m (value reads (with vector_lanes.counter i values) x) (value reads (with vector_lanes.counter i values) y)
+        (reads source (value reads (with vector_lanes.counter i values) x)
+        (value reads (with vector_lanes.counter i values) y))
 
     -- columns in lanes, of a row that all iterations have
-    pub gather-made : (zero : Linear) (b : ℕ) (c1 c2 c3 c4 : List ℕ) (y : Expr) → ((values : Values) → linear_value values zero ≡ 0) → IsSteady own.counter y
-        → ComputesOne c1 c2 own.group k (λ x. (x * pixel_bytes place.pixels) % 2 ^ 32) → MakesRowPointer c2 c3 places scope own b place zero y
-        → LoadsFrom c3 c4 own.group k b place.pixels
+    pub gather-made : (zero : Linear) (b : ℕ) (c1 c2 c3 c4 : List ℕ) (y : Expr) → ((values : Values) → linear_value values zero ≡ 0) → IsLoopInvariant vector_lanes.counter y
+        → ComputesOne c1 c2 vector_lanes.group k (λ x. (x * pixel_bytes layout.pixels) % 2 ^ 32) → MakesRowPointer c2 c3 places scope vector_lanes b layout zero y
+        → LoadsFrom c3 c4 vector_lanes.group k b layout.pixels
         → (c0 : List ℕ) (x : Expr) → Left c0 c1 k x → Left c0 c4 k (e.Load source x y)
-    gather-made zero b c1 c2 c3 c4 y none steady t p z c0 x first =
-        let pointer : ℕ → Reads → Values → ℕ = (λ hart reads values. address place hart (linear_value (with own.counter 0 values) zero) (value reads
-        (with own.counter 0 values) y) % 2 ^ 32) in
+    gather-made zero b c1 c2 c3 c4 y none loop_invariant t p z c0 x first =
+        let pointer : ℕ → Reads → Values → ℕ = (λ hart reads values. address layout hart (linear_value (with vector_lanes.counter 0 values) zero) (value reads
+        (with vector_lanes.counter 0 values) y) % 2 ^ 32) in
         let mb : World → List ℕ → Reads → Values → Type 0 = (λ w m reads values. AllByRecursion (Loads w places m reads) (loads reads
-        (with own.counter 0 values) y)) in
-        lanes-of places scope own k in-stack c0 c4 (e.Load source x y)
-        (λ w m reads values i. May places scope own k in-stack x w m reads values i × (mb w m reads values × HasPoint x y w m reads values i))
-        (λ reads values i. reads source (value reads (with own.counter i values) x) (value reads (with own.counter i values) y))
+        (with vector_lanes.counter 0 values) y)) in
+        lanes-of places scope vector_lanes k in-stack c0 c4 (e.Load source x y)
+        (λ w m reads values i. May places scope vector_lanes k in-stack x w m reads values i × (mb w m reads values × HasPoint x y w m reads values i))
+        (λ reads values i. reads source (value reads (with vector_lanes.counter i values) x) (value reads (with vector_lanes.counter i values) y))
         (λ w m reads values n some all i lt. (
-          load-first places scope own k in-stack source x y w m reads values i (all i lt),
+          load-first places scope vector_lanes k in-stack source x y w m reads values i (all i lt),
           (
-            load-second places scope own k in-stack source x y w m reads values 0 (all 0 (omega (arith, some))),
-            load-has places scope own k in-stack source
+            load-second places scope vector_lanes k in-stack source x y w m reads values 0
+                (all 0 (omega (arith, some))),
+            load-has places scope vector_lanes k in-stack source
                 x y w m reads values i (all i lt),
           ),
         ))
-        (λ reads values i. sym (load-value places scope own k in-stack source x y reads values i))
-        (each-gathered places scope own k in-stack source place ep (λ reads values i. value reads (with own.counter i values) x)
-        (λ reads values i. value reads (with own.counter i values) y)
-        b c0 c2 c3 c4 (May places scope own k in-stack x) mb (λ reads values i. (value reads (with own.counter i values) x * pixel_bytes place.pixels) % 2
+        (λ reads values i. sym (load-value places scope vector_lanes k in-stack source x y reads values i))
+        (each-gathered places scope vector_lanes k in-stack source layout ep (λ reads values i. value reads (with vector_lanes.counter i values) x)
+        (λ reads values i. value reads (with vector_lanes.counter i values) y)
+        b c0 c2 c3 c4 (May places scope vector_lanes k in-stack x) mb (λ reads values i. (value reads (with vector_lanes.counter i values) x * pixel_bytes layout.pixels) % 2
         ^ 32) pointer
         (λ hart reads values i low.
-        let xv = value reads (with own.counter i values) x in
-        ap (λ c. (address place hart c (value reads (with own.counter 0 values) y) % 2 ^ 32 + (xv * pixel_bytes place.pixels) % 2 ^ 32) % 2 ^ 32) (none
-        (with own.counter 0 values))
-        ∙ ap (λ r. (address place hart 0 r % 2 ^ 32 + (xv * pixel_bytes place.pixels) % 2 ^ 32) % 2 ^ 32) (sym (steady reads values i))
-        ∙ column-reaches place hart xv (value reads (with own.counter i values) y) low)
-        (each-one places scope own k in-stack c0 c1 c2 (May places scope own k in-stack x) (λ reads values i. value reads (with own.counter i values) x)
-        (λ n. (n * pixel_bytes place.pixels) % 2 ^ 32)
-        (each-of places scope own k in-stack c0 c1 k x first) t) p z)
+        let xv = value reads (with vector_lanes.counter i values) x in
+        ap (λ c. (address layout hart c (value reads (with vector_lanes.counter 0 values) y) % 2 ^ 32 + (xv * pixel_bytes layout.pixels) % 2 ^ 32) % 2 ^ 32) (none
+        (with vector_lanes.counter 0 values))
+        ∙ ap (λ r. (address layout hart 0 r % 2 ^ 32 + (xv * pixel_bytes layout.pixels) % 2 ^ 32) % 2 ^ 32) (sym (loop_invariant reads values i))
+        ∙ column-reaches layout hart xv (value reads (with vector_lanes.counter i values) y) low)
+        (each-one places scope vector_lanes k in-stack c0 c1 c2 (May places scope vector_lanes k in-stack x) (λ reads values i. value reads (with vector_lanes.counter i values) x)
+        (λ n. (n * pixel_bytes layout.pixels) % 2 ^ 32)
+        (each-of places scope vector_lanes k in-stack c0 c1 k x first) t) p z)
 
     -- columns that go on by one, of such a row
     pub row-made : (column : Linear) (b stride : ℕ) (c0 c1 c2 : List ℕ) (x y : Expr) → IsSum x column
-        → stride ≡ strides own.counter column.terms % 2 ^ 32 → stride ≡ 1 → IsSteady own.counter y
-        → MakesRowPointer c0 c1 places scope own b place column y → LoadsAlong c1 c2 own.group k b place.pixels
+        → stride ≡ strides vector_lanes.counter column.terms % 2 ^ 32 → stride ≡ 1
+        → IsLoopInvariant vector_lanes.counter y
+        → MakesRowPointer c0 c1 places scope vector_lanes b layout column y
+        → LoadsAlong c1 c2 vector_lanes.group k b layout.pixels
         → Left c0 c2 k (e.Load source x y)
-    row-made column b stride c0 c1 c2 x y sum es one steady p z =
-        let pointer : ℕ → Reads → Values → ℕ = (λ hart reads values. address place hart (linear_value (with own.counter 0 values) column) (value reads
-        (with own.counter 0 values) y) % 2 ^ 32) in
+    row-made column b stride c0 c1 c2 x y sum es one loop_invariant p z =
+        let pointer : ℕ → Reads → Values → ℕ = (λ hart reads values. address layout hart (linear_value (with vector_lanes.counter 0 values) column) (value reads
+        (with vector_lanes.counter 0 values) y) % 2 ^ 32) in
         let mb : World → List ℕ → Reads → Values → Type 0 = (λ w m reads values. AllByRecursion (Loads w places m reads) (loads reads
-        (with own.counter 0 values) y)) in
-        let e1 : 1 ≡ strides own.counter column.terms % 2 ^ 32 = sym one ∙ es in
-        let goes : (values : Values) (i : ℕ) → linear_value (with own.counter i values) column ≡ (linear_value
-        (with own.counter 0 values) column + i) % 2 ^ 32 =
+        (with vector_lanes.counter 0 values) y)) in
+        let e1 : 1 ≡ strides vector_lanes.counter column.terms % 2 ^ 32 = sym one ∙ es in
+        let goes : (values : Values) (i : ℕ) → linear_value (with vector_lanes.counter i values) column ≡ (linear_value
+        (with vector_lanes.counter 0 values) column + i) % 2 ^ 32 =
         (λ values i.
-        let a = column.number + sum_of values (others_of own.counter column.terms) in
+        let a = column.number + sum_of values (others_of vector_lanes.counter column.terms) in
         let g : (a + i * 1) % 2 ^ 32 ≡ ((a + 0 * 1) % 2 ^ 32 + i) % 2 ^ 32 = omega arith in
-        linear-with own.counter i 1 values column e1 ∙ g ∙ ap (λ n. (n + i) % 2 ^ 32) (sym (linear-with own.counter 0 1 values column e1))) in
-        lanes-of places scope own k in-stack c0 c2 (e.Load source x y)
+        linear-with vector_lanes.counter i 1 values column e1 ∙ g ∙ ap (λ n. (n + i) % 2 ^ 32) (sym (linear-with vector_lanes.counter 0 1 values column e1))) in
+        lanes-of places scope vector_lanes k in-stack c0 c2 (e.Load source x y)
         (λ w m reads values i. mb w m reads values × HasPoint x y w m reads values i)
-        (λ reads values i. reads source (value reads (with own.counter i values) x) (value reads (with own.counter i values) y))
+        (λ reads values i. reads source (value reads (with vector_lanes.counter i values) x) (value reads (with vector_lanes.counter i values) y))
         (λ w m reads values n some all i lt. (
-          load-second places scope own k in-stack source x y w m reads values 0 (all 0 (omega (arith, some))),
-          load-has places scope own k in-stack source x
+          load-second places scope vector_lanes k in-stack source x y w m reads values 0 (all 0 (omega (arith, some))),
+          load-has places scope vector_lanes k in-stack source x
               y w m reads values i (all i lt),
         ))
-        (λ reads values i. sym (load-value places scope own k in-stack source x y reads values i))
-        (each-dense places scope own k in-stack source place ep (λ reads values i. value reads (with own.counter i values) x)
-        (λ reads values i. value reads (with own.counter i values) y)
+        (λ reads values i. sym (load-value places scope vector_lanes k in-stack source x y reads values i))
+        (each-dense places scope vector_lanes k in-stack source layout ep (λ reads values i. value reads (with vector_lanes.counter i values) x)
+        (λ reads values i. value reads (with vector_lanes.counter i values) y)
         b c0 c1 c2 mb pointer
         (λ hart reads values i low.
-        ap (λ r. (address place hart (linear_value (with own.counter 0 values) column) r % 2 ^ 32 + i * pixel_bytes place.pixels) % 2 ^ 32) (sym
-        (steady reads values i))
-        ∙ row-reaches place hart (linear_value (with own.counter 0 values) column) (value reads (with own.counter i values) x) (value reads
-        (with own.counter i values) y) i
-        (sum.value_is reads (with own.counter i values) ∙ goes values i) low) p z)
+        ap (λ r. (address layout hart (linear_value (with vector_lanes.counter 0 values) column) r % 2 ^ 32 + i * pixel_bytes layout.pixels) % 2 ^ 32) (sym
+        (loop_invariant reads values i))
+        ∙ row-reaches layout hart (linear_value (with vector_lanes.counter 0 values) column) (value reads (with vector_lanes.counter i values) x) (value reads
+        (with vector_lanes.counter i values) y) i
+        (sum.value_is reads (with vector_lanes.counter i values) ∙ goes values i) low) p z)
 
     -- columns and rows in lanes
     pub scattered-made : (zero : Linear) (form start : AffineForm) (most b : ℕ) (c6 c7 c8 : List ℕ) → ((values : Values) → linear_value values zero ≡ 0)
-        → IsPoint place zero zero form → IsAt own.counter 0 form start
+        → IsPoint layout zero zero form → IsAt vector_lanes.counter 0 form start
         → MakesHeld c6 c7 most scope address_register b (λ hart values. form_value hart values start)
-        → LoadsFrom c7 c8 own.group k b place.pixels
-        → (c0 : List ℕ) (x y : Expr) → MakesDistances c0 c6 places scope own k place x y → Left c0 c8 k (e.Load source x y)
+        → LoadsFrom c7 c8 vector_lanes.group k b layout.pixels
+        → (c0 : List ℕ) (x y : Expr) → MakesDistances c0 c6 places scope vector_lanes k layout x y → Left c0 c8 k (e.Load source x y)
     scattered-made zero form start most b c6 c7 c8 none point at p z c0 x y far =
-        let MayOf : Expr → World → List ℕ → Reads → Values → ℕ → Type 0 = May places scope own k in-stack in
-        let pointer : ℕ → Reads → Values → ℕ = (λ hart reads values. form_value hart (with own.counter 0 values) form) in
-        let vx : Reads → Values → ℕ → ℕ = (λ reads values i. value reads (with own.counter i values) x) in
-        let vy : Reads → Values → ℕ → ℕ = (λ reads values i. value reads (with own.counter i values) y) in
-        lanes-of places scope own k in-stack c0 c8 (e.Load source x y)
+        let MayOf : Expr → World → List ℕ → Reads → Values → ℕ → Type 0 = May places scope vector_lanes k in-stack in
+        let pointer : ℕ → Reads → Values → ℕ = (λ hart reads values. form_value hart (with vector_lanes.counter 0 values) form) in
+        let vx : Reads → Values → ℕ → ℕ = (λ reads values i. value reads (with vector_lanes.counter i values) x) in
+        let vy : Reads → Values → ℕ → ℕ = (λ reads values i. value reads (with vector_lanes.counter i values) y) in
+        lanes-of places scope vector_lanes k in-stack c0 c8 (e.Load source x y)
         (λ w m reads values i. (MayOf x w m reads values i × MayOf y w m reads values i) × (Nothing w m reads values × HasPoint x y w m reads values i))
-        (λ reads values i. reads source (value reads (with own.counter i values) x) (value reads (with own.counter i values) y))
+        (λ reads values i. reads source (value reads (with vector_lanes.counter i values) x) (value reads (with vector_lanes.counter i values) y))
         (λ w m reads values n some all i lt. (
           (
-            load-first places scope own k in-stack source x y w m reads values i (all i lt),
-            load-second places scope own k in-stack source x y w m reads
+            load-first places scope vector_lanes k in-stack source x y w m reads values i (all i lt),
+            load-second places scope vector_lanes k in-stack source x y w m reads
                 values i (all i lt),
           ),
-          (tt, load-has places scope own k in-stack source x y w m reads values i (all i lt)),
+          (tt, load-has places scope vector_lanes k in-stack source x y w m reads values i (all i lt)),
         ))
-        (λ reads values i. sym (load-value places scope own k in-stack source x y reads values i))
-        (each-gathered places scope own k in-stack source place ep vx vy
+        (λ reads values i. sym (load-value places scope vector_lanes k in-stack source x y reads values i))
+        (each-gathered places scope vector_lanes k in-stack source layout ep vx vy
         b c0 c6 c7 c8 (λ w m reads values i. MayOf x w m reads values i × MayOf y w m reads values i) Nothing
-        (λ reads values i. distance place (vx reads values i) (vy reads values i)) pointer
+        (λ reads values i. distance layout (vx reads values i) (vy reads values i)) pointer
         (λ hart reads values i low.
-        let zv = linear_value (with own.counter 0 values) zero in
-        let o = distance place (vx reads values i) (vy reads values i) in
-        ap (λ n. (n + o) % 2 ^ 32) (point.value hart (with own.counter 0 values) ∙ ap (λ c. address place hart c zv % 2 ^ 32) (none (with own.counter 0 values))
-        ∙ ap (λ r. address place hart 0 r % 2 ^ 32) (none (with own.counter 0 values)))
-        ∙ number-reaches place hart (vx reads values i) (vy reads values i) low)
-        (distances-each places scope own k place x y c0 c6 far) (pointer-scalar scope own form start most b c6 c7 at p) z)
+        let zv = linear_value (with vector_lanes.counter 0 values) zero in
+        let o = distance layout (vx reads values i) (vy reads values i) in
+        ap (λ n. (n + o) % 2 ^ 32) (point.value hart (with vector_lanes.counter 0 values) ∙ ap (λ c. address layout hart c zv % 2 ^ 32) (none (with vector_lanes.counter 0 values))
+        ∙ ap (λ r. address layout hart 0 r % 2 ^ 32) (none (with vector_lanes.counter 0 values)))
+        ∙ number-reaches layout hart (vx reads values i) (vy reads values i) low)
+        (distances-each places scope vector_lanes k layout x y c0 c6 far) (pointer-scalar scope vector_lanes form start most b c6 c7 at p) z)
 
     -- as the emitters call them
-    pub row-as : (column : Linear) (b : ℕ) (c0 c1 c2 : List ℕ) (x y : Expr) → IsSum x column → strides own.counter column.terms % 2 ^ 32 ≡ 1
-        → IsSteady own.counter y
-        → MakesRowPointer c0 c1 places scope own b place column y → LoadsAlong c1 c2 own.group k b place.pixels → Left c0 c2 k (e.Load source x y)
-    row-as column b c0 c1 c2 x y sum one steady p z = row-made column b (strides own.counter column.terms % 2 ^ 32) c0 c1 c2 x y sum refl one steady p z
+    pub row-as : (column : Linear) (b : ℕ) (c0 c1 c2 : List ℕ) (x y : Expr) → IsSum x column → strides vector_lanes.counter column.terms % 2 ^ 32 ≡ 1
+        → IsLoopInvariant vector_lanes.counter y
+        → MakesRowPointer c0 c1 places scope vector_lanes b layout column y → LoadsAlong c1 c2 vector_lanes.group k b layout.pixels → Left c0 c2 k (e.Load source x y)
+    row-as column b c0 c1 c2 x y sum one loop_invariant p z = row-made column b (strides vector_lanes.counter column.terms % 2 ^ 32) c0 c1 c2 x y sum refl one loop_invariant p z

@@ -36,7 +36,7 @@ none-behind : {A : Type 0} (l : List A) → l ++ [] ≡ l
 none-behind [] = refl
 none-behind (x ∷ l) = ap (λ k. x ∷ k) (none-behind l)
 
--- a list stands among others, before and behind which more stand
+-- a list is among others, before and after which more stand
 among : (all points more front back : List Point) → all ≡ front ++ (more ++ back) → StandAmong more points → StandAmong all points
 among all points more front back is inner = record {
   before = front ++ inner.before;
@@ -153,19 +153,20 @@ slot-under groups.One s k i n l few b = inr (inr (omega arith, omega (arith, l, 
 slot-under groups.Two s k i n l few b = inr (inr (omega arith, omega (arith, l, few, b)))
 slot-under groups.Four s k i n l few b = inr (inr (omega arith, omega (arith, l, few, b)))
 
-pub value-still : (own : VectorLanes) (reads : Reads) (values : Values) (n : ℕ) (f g : ℕ → ℕ) (s k : ℕ) (x : Expr) → s < k → n ≤ 4 * registers own.group
-    → ((q : ℕ) → IsUnder own.group k q → g q ≡ f q) → HoldsValue own reads values n f s x → HoldsValue own reads values n g s x
-value-still own reads values n f g s k x l few same h = record {
-  value_is = λ i b. same (lane (slot own.group s) i) (slot-under own.group s k i n l few b) ∙ h.value_is i b;
+pub value-still : (vector_lanes : VectorLanes) (reads : Reads) (values : Values) (n : ℕ) (f g : ℕ → ℕ) (s k : ℕ) (x : Expr) → s < k → n ≤ 4 * registers vector_lanes.group
+    → ((q : ℕ) → IsUnder vector_lanes.group k q → g q ≡ f q) → HoldsValue vector_lanes reads values n f s x → HoldsValue vector_lanes reads values n g s x
+value-still vector_lanes reads values n f g s k x l few same h = record {
+  value_is = λ i b. same (lane (slot vector_lanes.group s) i) (slot-under vector_lanes.group s k i n l few b) ∙
+      h.value_is i b;
   small = h.small;
 }
 
-pub kept-still : (own : VectorLanes) (kept : List Kept) (reads : Reads) (values : Values) (n : ℕ) (f g : ℕ → ℕ) (k : ℕ) → AreBelow kept k
-    → n ≤ 4 * registers own.group → ((q : ℕ) → IsUnder own.group k q → g q ≡ f q) → HoldsKept own kept reads values n f → HoldsKept own kept reads values n g
-kept-still own [] reads values n f g k below few same h = tt
-kept-still own (t ∷ kept) reads values n f g k below few same h = (
-  value-still own reads values n f g t.slot k t.e.now below.0 few same h.0,
-  kept-still own kept reads values n f g k below.1 few same h.1,
+pub kept-still : (vector_lanes : VectorLanes) (kept : List Kept) (reads : Reads) (values : Values) (n : ℕ) (f g : ℕ → ℕ) (k : ℕ) → AreBelow kept k
+    → n ≤ 4 * registers vector_lanes.group → ((q : ℕ) → IsUnder vector_lanes.group k q → g q ≡ f q) → HoldsKept vector_lanes kept reads values n f → HoldsKept vector_lanes kept reads values n g
+kept-still vector_lanes [] reads values n f g k below few same h = tt
+kept-still vector_lanes (t ∷ kept) reads values n f g k below few same h = (
+  value-still vector_lanes reads values n f g t.slot k t.e.now below.0 few same h.0,
+  kept-still vector_lanes kept reads values n f g k below.1 few same h.1,
 )
 
 pub below-up : (kept : List Kept) (k next : ℕ) → k ≤ next → AreBelow kept k → AreBelow kept next
@@ -177,12 +178,13 @@ kept-low [] x s k below is = absurd is
 kept-low (t ∷ kept) x s k below (inl is) = subst (λ z. z < k) (sym is.0) below.0
 kept-low (t ∷ kept) x s k below (inr is) = kept-low kept x s k below.1 is
 
-pub kept-holds : (own : VectorLanes) (kept : List Kept) (x : Expr) (s : ℕ) (reads : Reads) (values : Values) (n : ℕ) (f : ℕ → ℕ) → IsKeptAt kept x s
-    → HoldsKept own kept reads values n f → HoldsValue own reads values n f s x
-kept-holds own [] x s reads values n f is h = absurd is
-kept-holds own (t ∷ kept) x s reads values n f (inl is) h =
-    subst (λ z. HoldsValue own reads values n f z x) (sym is.0) (subst (HoldsValue own reads values n f t.slot) is.1 h.0)
-kept-holds own (t ∷ kept) x s reads values n f (inr is) h = kept-holds own kept x s reads values n f is h.1
+pub kept-holds : (vector_lanes : VectorLanes) (kept : List Kept) (x : Expr) (s : ℕ) (reads : Reads) (values : Values) (n : ℕ) (f : ℕ → ℕ) → IsKeptAt kept x s
+    → HoldsKept vector_lanes kept reads values n f → HoldsValue vector_lanes reads values n f s x
+kept-holds vector_lanes [] x s reads values n f is h = absurd is
+kept-holds vector_lanes (t ∷ kept) x s reads values n f (inl is) h =
+    subst (λ z. HoldsValue vector_lanes reads values n f z x) (sym is.0) (subst (HoldsValue vector_lanes reads values n f t.slot) is.1 h.0)
+kept-holds vector_lanes (t ∷ kept) x s reads values n f (inr is) h = kept-holds vector_lanes kept x s reads values n f
+    is h.1
 
 pub begins-still : (site : LaneSite) (w : World) (m : List ℕ) (values : Values) (n : ℕ) (f g : ℕ → ℕ) (k : ℕ)
     → ((q : ℕ) → IsUnder site.lanes.group k q → g q ≡ f q) → Begins site w m values n f → Begins site w m values n g

@@ -41,7 +41,7 @@ use Rattle.task_code_lane_values.specs.declared.kept.Kept.{Kept}
 use Rattle.task_code_lane_values.specs.declared.operations.VectorComparison.{VectorComparison}
 use Rattle.task_code_lane_values.specs.declared.vectorized.LaneSite.{LaneSite}
 use Rattle.task_code_lane_values.specs.Leaving.{IsUnder}
-use Rattle.task_code_lane_values.specs.inner.Parts.{IsComparedBy, IsSteady, IsVectorComparison, MakesSteady}
+use Rattle.task_code_lane_values.specs.inner.Parts.{IsComparedBy, IsLoopInvariant, IsVectorComparison, MakesInvariant}
 use Rattle.task_code_lane_values.specs.inner.Sharing.{AreBelow, Begins, HoldsKept, HoldsMask, HoldsValue, Leads, MakesMask, MakesOperand, MayLoad}
 use Rattle.task_code_lane_values.proofs.Composing.{lane-below, lanes-scalar, left-of, under-below}
 use Rattle.task_code_lane_values.proofs.Keeping.{begins-still, kept-still, under-up, value-still}
@@ -49,15 +49,15 @@ use Rattle.task_code_lane_values.proofs.Operands.{operand-as}
 
 -- ---- comparisons of lanes
 
-module _ (o other : Operation) (own : VectorComparison) (i : CompareVvOp) (e : o ≡ other) where
-  pub in-order : own ≡ record { instruction = i; is_swapped = false }
-      → ((x y : ℕ) → x < 2 ^ 32 → y < 2 ^ 32 → one_if (compare_vv i 32 x y) ≡ word.applied other x y) → IsVectorComparison o own
+module _ (o other : Operation) (vector_comparison : VectorComparison) (i : CompareVvOp) (e : o ≡ other) where
+  pub in-order : vector_comparison ≡ record { instruction = i; is_swapped = false }
+      → ((x y : ℕ) → x < 2 ^ 32 → y < 2 ^ 32 → one_if (compare_vv i 32 x y) ≡ word.applied other x y) → IsVectorComparison o vector_comparison
   in-order eo same x y lx ly =
       ap (λ (z : VectorComparison). one_if (if z.is_swapped then compare_vv z.instruction 32 y x else compare_vv z.instruction 32 x y)) eo
       ∙ same x y lx ly ∙ ap (λ z. word.applied z x y) (sym e)
 
-  pub swapped : own ≡ record { instruction = i; is_swapped = true }
-      → ((x y : ℕ) → x < 2 ^ 32 → y < 2 ^ 32 → one_if (compare_vv i 32 y x) ≡ word.applied other x y) → IsVectorComparison o own
+  pub swapped : vector_comparison ≡ record { instruction = i; is_swapped = true }
+      → ((x y : ℕ) → x < 2 ^ 32 → y < 2 ^ 32 → one_if (compare_vv i 32 y x) ≡ word.applied other x y) → IsVectorComparison o vector_comparison
   swapped eo same x y lx ly =
       ap (λ (z : VectorComparison). one_if (if z.is_swapped then compare_vv z.instruction 32 y x else compare_vv z.instruction 32 x y)) eo
       ∙ same x y lx ly ∙ ap (λ z. word.applied z x y) (sym e)
@@ -90,7 +90,7 @@ flag-is false = refl
 flag-of : (t : Bool) (n : ℕ) → one_if t ≡ n → one_if t ≡ one_if (not (n == 0))
 flag-of t n is = flag-is t ∙ ap (λ z. one_if (not (z == 0))) is
 
--- what stays stands in front of the mask
+-- what stays is in front of the mask
 mask-above : (group : LaneGroup) (k q : ℕ) → k < slots group → IsUnder group k q → q < lane 32 0
 mask-above group k q l (inl h) = let a = h.0 in omega (arith, a)
 mask-above group k q l (inr (inl (inl is))) = omega (arith, is)
@@ -149,10 +149,10 @@ module _ (site : LaneSite) (kept : List Kept) where
 
   -- of a comparison with a scalar
   pub scalar-mask : (o : Operation) (own : CompareVxOp) → IsComparedBy o own → (k s r c : ℕ) (a b p q x : Expr) (c0 c1 c2 c3 : List ℕ) → k < slots group
-      → x ≡ e.Binary o a b → p ≡ a → q ≡ b → IsSteady site.lanes.counter q → MakesOperand c0 c1 site kept k s p
-      → MakesSteady c1 c2 site.places.now site.scope.now site.lanes c q → r ≡ slot group s → Emits c2 c3 (Vector (v.CompareVx own 0 r c true) ∷ [])
+      → x ≡ e.Binary o a b → p ≡ a → q ≡ b → IsLoopInvariant site.lanes.counter q → MakesOperand c0 c1 site kept k s p
+      → MakesInvariant c1 c2 site.places.now site.scope.now site.lanes c q → r ≡ slot group s → Emits c2 c3 (Vector (v.CompareVx own 0 r c true) ∷ [])
       → MakesMask c0 c3 site kept k x
-  scalar-mask o own is k s r c a b p q x c0 c1 c2 c3 in-stack eo ep eq steady given-first given-second er z =
+  scalar-mask o own is k s r c a b p q x c0 c1 c2 c3 in-stack eo ep eq loop_invariant given-first given-second er z =
       subst (MakesMask c0 c3 site kept k) (sym eo) (record {
         insns = first.insns ++ (second.insns ++ (Vector (v.CompareVx own 0 (slot group s) c true) ∷ []));
         emits = emits_then first.emits (emits_then second.emits (subst (λ z. Emits c2 c3 (Vector (v.CompareVx own 0 z c true) ∷ [])) er z));
@@ -191,11 +191,11 @@ module _ (site : LaneSite) (kept : List Kept) where
       first : MakesOperand c0 c1 site kept k s a
       first = operand-as site kept k s p a c0 c1 ep given-first
 
-      second : MakesSteady c1 c2 site.places.now site.scope.now site.lanes c b
-      second = subst (MakesSteady c1 c2 site.places.now site.scope.now site.lanes c) eq given-second
+      second : MakesInvariant c1 c2 site.places.now site.scope.now site.lanes c b
+      second = subst (MakesInvariant c1 c2 site.places.now site.scope.now site.lanes c) eq given-second
 
-      still : IsSteady site.lanes.counter b
-      still = subst (IsSteady site.lanes.counter) eq steady
+      still : IsLoopInvariant site.lanes.counter b
+      still = subst (IsLoopInvariant site.lanes.counter) eq loop_invariant
 
   -- of a comparison of lanes, which may be swapped
   pub lanes-mask : (o : Operation) (own : VectorComparison) (turned : Bool) → own.is_swapped ≡ turned → IsVectorComparison o own → (k s next t rs rt : ℕ)

@@ -29,7 +29,7 @@ use Rattle.task_code_lanes.proofs.Rows as rows
 use Rattle.task_code_lane_values.specs.declared.kept.Kept.{Kept}
 use Rattle.task_code_lane_values.specs.declared.vectorized.LaneSite.{LaneSite}
 use Rattle.task_code_lane_values.specs.Leaving.{LeavesLanes, MakesLanes}
-use Rattle.task_code_lane_values.specs.inner.Parts.{AnyWord, ComputesBy, ComputesOne, IsSteady, MakesScalar, MakesSteady, Nothing, operation_rows}
+use Rattle.task_code_lane_values.specs.inner.Parts.{AnyWord, ComputesBy, ComputesOne, IsLoopInvariant, MakesScalar, MakesInvariant, Nothing, operation_rows}
 use Rattle.task_code_lane_values.specs.inner.Sharing.{AreBelow, Begins, HoldsKept, HoldsValue, IsKeptAt, IsSmallerPart, Leads, MakesOperand, MayLoad}
 use Rattle.task_code_lane_values.proofs.Composing.{lane-below, lanes-scalar, left-of, under-below}
 use Rattle.task_code_lane_values.proofs.Computing.{rows-leave}
@@ -148,27 +148,27 @@ module _ (site : LaneSite) (kept : List Kept) where
           (subst (AllByRecursion (Loads w site.places.now m reads)) (loads_binary reads (at i values) o a b) (may i l))
 
   pub second-operand : (k s : ℕ) (x a b p q : Expr) (o : Operation) (c0 c1 c2 c3 : List ℕ) → x ≡ e.Binary o a b → p ≡ a → q ≡ b
-      → IsSteady site.lanes.counter q → MakesOperand c0 c1 site kept k k p → MakesSteady c1 c2 site.places.now site.scope.now site.lanes s q
+      → IsLoopInvariant site.lanes.counter q → MakesOperand c0 c1 site kept k k p → MakesInvariant c1 c2 site.places.now site.scope.now site.lanes s q
       → ComputesBy c2 c3 site.lanes.group k s AnyWord (word.applied o) → MakesOperand c0 c3 site kept k k x
-  second-operand k s x a b p q o c0 c1 c2 c3 eo ep eq steady first second z =
-      let still = subst (IsSteady site.lanes.counter) eq steady in
+  second-operand k s x a b p q o c0 c1 c2 c3 eo ep eq loop_invariant first second z =
+      let still = subst (IsLoopInvariant site.lanes.counter) eq loop_invariant in
       subst (MakesOperand c0 c3 site kept k k) (sym eo)
       (operand-by k s (e.Binary o a b) a c0 c1 c2 c3
       (λ w m reads values. AllByRecursion (Loads w site.places.now m reads) (loads reads (at 0 values) b)) (λ reads values. value reads (at 0 values) b) AnyWord
-      (word.applied o) (operand-as k k p a c0 c1 ep first) (subst (MakesSteady c1 c2 site.places.now site.scope.now site.lanes s) eq second) z
+      (word.applied o) (operand-as k k p a c0 c1 ep first) (subst (MakesInvariant c1 c2 site.places.now site.scope.now site.lanes s) eq second) z
       (λ reads values small. tt) (λ w m reads values n may. (parts-may o a b w m reads values n may).0)
       (λ w m reads values n some may. (parts-may o a b w m reads values n may).1 0 (omega (arith, some)))
       (λ reads values i. ap (word.applied o (value reads (at i values) a)) (sym (still reads values i)) ∙ sym (value_binary reads (at i values) o a b)))
 
   pub first-operand : (k s : ℕ) (x a b p q : Expr) (o : Operation) (c0 c1 c2 c3 : List ℕ) → x ≡ e.Binary o a b → p ≡ a → q ≡ b
-      → IsSteady site.lanes.counter p → MakesOperand c0 c1 site kept k k q → MakesSteady c1 c2 site.places.now site.scope.now site.lanes s p
+      → IsLoopInvariant site.lanes.counter p → MakesOperand c0 c1 site kept k k q → MakesInvariant c1 c2 site.places.now site.scope.now site.lanes s p
       → ComputesBy c2 c3 site.lanes.group k s AnyWord (λ y c. word.applied o c y) → MakesOperand c0 c3 site kept k k x
-  first-operand k s x a b p q o c0 c1 c2 c3 eo ep eq steady second first z =
-      let still = subst (IsSteady site.lanes.counter) ep steady in
+  first-operand k s x a b p q o c0 c1 c2 c3 eo ep eq loop_invariant second first z =
+      let still = subst (IsLoopInvariant site.lanes.counter) ep loop_invariant in
       subst (MakesOperand c0 c3 site kept k k) (sym eo)
       (operand-by k s (e.Binary o a b) b c0 c1 c2 c3
       (λ w m reads values. AllByRecursion (Loads w site.places.now m reads) (loads reads (at 0 values) a)) (λ reads values. value reads (at 0 values) a) AnyWord
-      (λ y c. word.applied o c y) (operand-as k k q b c0 c1 eq second) (subst (MakesSteady c1 c2 site.places.now site.scope.now site.lanes s) ep first) z
+      (λ y c. word.applied o c y) (operand-as k k q b c0 c1 eq second) (subst (MakesInvariant c1 c2 site.places.now site.scope.now site.lanes s) ep first) z
       (λ reads values small. tt) (λ w m reads values n may. (parts-may o a b w m reads values n may).1)
       (λ w m reads values n some may. (parts-may o a b w m reads values n may).0 0 (omega (arith, some)))
       (λ reads values i. ap (λ y. word.applied o y (value reads (at i values) b)) (sym (still reads values i)) ∙ sym (value_binary reads (at i values) o a b)))
@@ -280,18 +280,18 @@ module _ (site : LaneSite) (kept : List Kept) where
 
 -- ---- a part first, which stays
 
-pub kept-first : (site : LaneSite) (kept more : List Kept) (own : Kept) (inner : LaneSite) (d k next : ℕ) (x part : Expr) (c0 c1 c2 : List ℕ) → AreBelow kept k
-    → d ≤ k → next ≡ k + 1 → own.e.now ≡ part → own.slot ≡ k → more ≡ own ∷ kept → inner ≡ site → IsSmallerPart x part → MakesOperand c0 c1 site kept k k part
+pub kept-first : (site : LaneSite) (kept more : List Kept) (own_kept : Kept) (inner : LaneSite) (d k next : ℕ) (x part : Expr) (c0 c1 c2 : List ℕ) → AreBelow kept k
+    → d ≤ k → next ≡ k + 1 → own_kept.e.now ≡ part → own_kept.slot ≡ k → more ≡ own_kept ∷ kept → inner ≡ site → IsSmallerPart x part → MakesOperand c0 c1 site kept k k part
     → MakesOperand c1 c2 inner more d d x → MakesOperand c0 c2 site kept d d x
-kept-first site kept more own inner d k next x part c0 c1 c2 below dk en ep es em ei is first given = record {
+kept-first site kept more own_kept inner d k next x part c0 c1 c2 below dk en ep es em ei is first given = record {
   insns = first.insns ++ second.insns;
   emits = emits_then first.emits second.emits;
   low = omega arith;
   does = λ w m values reads n f b held may.
       let p = first.does w m values reads n f b held (part-may site w m reads values n x part is.0 may) in
       let h = kept-still site.lanes kept reads values n f p.after k below b.few p.keeps held in
-      let holds : HoldsValue site.lanes reads values n p.after own.slot own.e.now =
-      subst (λ z. HoldsValue site.lanes reads values n p.after z own.e.now) (sym es) (subst (HoldsValue site.lanes reads values n p.after k) (sym ep) p.so) in
+      let holds : HoldsValue site.lanes reads values n p.after own_kept.slot own_kept.e.now =
+      subst (λ z. HoldsValue site.lanes reads values n p.after z own_kept.e.now) (sym es) (subst (HoldsValue site.lanes reads values n p.after k) (sym ep) p.so) in
       let r = second.does w m values reads n p.after (begins-still site w m values n f p.after k p.keeps b) (holds, h) may in
       record {
         after = r.after;
@@ -301,8 +301,8 @@ kept-first site kept more own inner d k next x part c0 c1 c2 below dk en ep es e
       };
 }
   where
-    second : MakesOperand c1 c2 site (own ∷ kept) d d x
-    second = subst (λ z. MakesOperand c1 c2 z (own ∷ kept) d d x) ei (subst (λ z. MakesOperand c1 c2 inner z d d x) em given)
+    second : MakesOperand c1 c2 site (own_kept ∷ kept) d d x
+    second = subst (λ z. MakesOperand c1 c2 z (own_kept ∷ kept) d d x) ei (subst (λ z. MakesOperand c1 c2 inner z d d x) em given)
 
 -- ---- the whole
 

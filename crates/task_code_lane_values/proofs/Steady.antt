@@ -15,25 +15,26 @@ use Rattle.loop_ir.specs.Expressions.{value, sum_of}
 use Rattle.task_code_registers.specs.Strides.{strides, others_of}
 use Rattle.task_code_registers.proofs.Striding.{linear-with}
 use Rattle.task_code_values.proofs.Evaluating.{value_number, value_linear, value_binary, value_divide, value_remainder, value_select, value_load}
-use Rattle.task_code_lane_values.specs.inner.Parts.{IsSteady}
+use Rattle.task_code_lane_values.specs.inner.Parts.{IsLoopInvariant}
 
 module _ (counter : Counter) where
-  steady-as : (own x : Expr) → own ≡ x → IsSteady counter x → IsSteady counter own
-  steady-as own x eo is = subst (IsSteady counter) (sym eo) is
+  loop_invariant-as : (expression x : Expr) → expression ≡ x → IsLoopInvariant counter x
+      → IsLoopInvariant counter expression
+  loop_invariant-as expression x eo is = subst (IsLoopInvariant counter) (sym eo) is
 
-  part-as : (a x : Expr) → x ≡ a → IsSteady counter x → IsSteady counter a
-  part-as a x ex is = subst (IsSteady counter) ex is
+  part-as : (a x : Expr) → x ≡ a → IsLoopInvariant counter x → IsLoopInvariant counter a
+  part-as a x ex is = subst (IsLoopInvariant counter) ex is
 
-  pub steady-number : (own : Expr) (n : ℕ) → own ≡ e.Number n → IsSteady counter own
-  steady-number own n eo =
-      steady-as own (e.Number n) eo (λ reads values i. value_number reads (with counter i values) n ∙ sym (value_number reads (with counter 0 values) n))
+  pub loop_invariant-number : (expression : Expr) (n : ℕ) → expression ≡ e.Number n → IsLoopInvariant counter expression
+  loop_invariant-number expression n eo =
+      loop_invariant-as expression (e.Number n) eo (λ reads values i. value_number reads (with counter i values) n ∙ sym (value_number reads (with counter 0 values) n))
 
-  pub steady-linear : (own : Expr) (sum : Linear) (terms : List Term) (stride : ℕ) (t : Bool) → own ≡ e.Linear sum → terms ≡ sum.terms
-      → stride ≡ strides counter terms % 2 ^ 32 → t ≡ (stride == 0) → t ≡ true → IsSteady counter own
-  steady-linear own sum terms stride t eo et es test is =
+  pub loop_invariant-linear : (expression : Expr) (sum : Linear) (terms : List Term) (stride : ℕ) (t : Bool) → expression ≡ e.Linear sum → terms ≡ sum.terms
+      → stride ≡ strides counter terms % 2 ^ 32 → t ≡ (stride == 0) → t ≡ true → IsLoopInvariant counter expression
+  loop_invariant-linear expression sum terms stride t eo et es test is =
       let z : stride ≡ 0 = eqb-true stride 0 (sym test ∙ is) in
       let e0 : 0 ≡ strides counter sum.terms % 2 ^ 32 = sym z ∙ es ∙ ap (λ ts. strides counter ts % 2 ^ 32) et in
-      steady-as own (e.Linear sum) eo
+      loop_invariant-as expression (e.Linear sum) eo
       (λ reads values i.
       let a = sum.number + sum_of values (others_of counter sum.terms) in
       let g : a + i * 0 ≡ a + 0 * 0 = omega arith in
@@ -41,38 +42,39 @@ module _ (counter : Counter) where
       (linear-with counter 0 0 values sum e0)
       ∙ sym (value_linear reads (with counter 0 values) sum))
 
-  pub steady-binary : (own : Expr) (o : Operation) (a b x y : Expr) → own ≡ e.Binary o a b → x ≡ a → y ≡ b → IsSteady counter x → IsSteady counter y
-      → IsSteady counter own
-  steady-binary own o a b x y eo ex ey sx sy =
+  pub loop_invariant-binary : (expression : Expr) (o : Operation) (a b x y : Expr) → expression ≡ e.Binary o a b → x ≡ a → y ≡ b → IsLoopInvariant counter x → IsLoopInvariant counter y
+      → IsLoopInvariant counter expression
+  loop_invariant-binary expression o a b x y eo ex ey sx sy =
       let ia = part-as a x ex sx in
       let ib = part-as b y ey sy in
-      steady-as own (e.Binary o a b) eo
+      loop_invariant-as expression (e.Binary o a b) eo
       (λ reads values i.
       value_binary reads (with counter i values) o a b ∙ ap (λ n. word.applied o n (value reads (with counter i values) b)) (ia reads values i)
       ∙ ap (word.applied o (value reads (with counter 0 values) a)) (ib reads values i) ∙ sym (value_binary reads (with counter 0 values) o a b))
 
-  pub steady-divide : (own a x : Expr) (c : ℕ) → own ≡ e.Divide a c → x ≡ a → IsSteady counter x → IsSteady counter own
-  steady-divide own a x c eo ex sx =
+  pub loop_invariant-divide : (expression a x : Expr) (c : ℕ) → expression ≡ e.Divide a c → x ≡ a
+      → IsLoopInvariant counter x → IsLoopInvariant counter expression
+  loop_invariant-divide expression a x c eo ex sx =
       let ia = part-as a x ex sx in
-      steady-as own (e.Divide a c) eo
+      loop_invariant-as expression (e.Divide a c) eo
       (λ reads values i. value_divide reads (with counter i values) a c ∙ ap (λ n. word.divide n c) (ia reads values i) ∙ sym (value_divide reads
       (with counter 0 values) a c))
 
-  pub steady-remainder : (own a x : Expr) (c : ℕ) → own ≡ e.Remainder a c → x ≡ a → IsSteady counter x → IsSteady counter own
-  steady-remainder own a x c eo ex sx =
+  pub loop_invariant-remainder : (expression a x : Expr) (c : ℕ) → expression ≡ e.Remainder a c → x ≡ a → IsLoopInvariant counter x → IsLoopInvariant counter expression
+  loop_invariant-remainder expression a x c eo ex sx =
       let ia = part-as a x ex sx in
-      steady-as own (e.Remainder a c) eo
+      loop_invariant-as expression (e.Remainder a c) eo
       (λ reads values i.
       value_remainder reads (with counter i values) a c ∙ ap (λ n. word.remainder n c) (ia reads values i) ∙ sym (value_remainder reads
       (with counter 0 values) a c))
 
-  pub steady-select : (own c a b z x y : Expr) → own ≡ e.Select c a b → z ≡ c → x ≡ a → y ≡ b → IsSteady counter z → IsSteady counter x
-      → IsSteady counter y → IsSteady counter own
-  steady-select own c a b z x y eo ez ex ey sz sx sy =
+  pub loop_invariant-select : (expression c a b z x y : Expr) → expression ≡ e.Select c a b → z ≡ c → x ≡ a → y ≡ b → IsLoopInvariant counter z → IsLoopInvariant counter x
+      → IsLoopInvariant counter y → IsLoopInvariant counter expression
+  loop_invariant-select expression c a b z x y eo ez ex ey sz sx sy =
       let ic = part-as c z ez sz in
       let ia = part-as a x ex sx in
       let ib = part-as b y ey sy in
-      steady-as own (e.Select c a b) eo
+      loop_invariant-as expression (e.Select c a b) eo
       (λ reads values i.
       let at = with counter i values in
       let first = with counter 0 values in
@@ -80,12 +82,12 @@ module _ (counter : Counter) where
       ∙ ap (λ n. if value reads first c == 0 then n else value reads at a) (ib reads values i)
       ∙ ap (λ n. if value reads first c == 0 then value reads first b else n) (ia reads values i) ∙ sym (value_select reads first c a b))
 
-  pub steady-load : (own : Expr) (source : Source) (a b x y : Expr) → own ≡ e.Load source a b → x ≡ a → y ≡ b → IsSteady counter x → IsSteady counter y
-      → IsSteady counter own
-  steady-load own source a b x y eo ex ey sx sy =
+  pub loop_invariant-load : (expression : Expr) (source : Source) (a b x y : Expr) → expression ≡ e.Load source a b → x ≡ a → y ≡ b → IsLoopInvariant counter x → IsLoopInvariant counter y
+      → IsLoopInvariant counter expression
+  loop_invariant-load expression source a b x y eo ex ey sx sy =
       let ia = part-as a x ex sx in
       let ib = part-as b y ey sy in
-      steady-as own (e.Load source a b) eo
+      loop_invariant-as expression (e.Load source a b) eo
       (λ reads values i.
       value_load reads (with counter i values) source a b ∙ ap (λ n. reads source n (value reads (with counter i values) b)) (ia reads values i)
       ∙ ap (reads source (value reads (with counter 0 values) a)) (ib reads values i) ∙ sym (value_load reads (with counter 0 values) source a b))

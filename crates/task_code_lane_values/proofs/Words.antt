@@ -29,11 +29,11 @@ use Rattle.task_code_lane_values.proofs.Composing.{left-of}
 
 -- ---- words from a register on
 
-module _ (w : World) (m : List ℕ) (l : length m ≡ w.size) (group : LaneGroup) (n k : ℕ) (lies : SlotLies group k) (place : BufferLayout)
-    (words : place.pixels ≡ pixels.Words) (x y pixel : ℕ → ℕ)
-    (can : (i : ℕ) → i < n → LoadsAt w place m (x i) (y i) (pixel i)) where
+module _ (w : World) (m : List ℕ) (l : length m ≡ w.size) (group : LaneGroup) (n k : ℕ) (lies : SlotLies group k) (layout : BufferLayout)
+    (words : layout.pixels ≡ pixels.Words) (x y pixel : ℕ → ℕ)
+    (can : (i : ℕ) → i < n → LoadsAt w layout m (x i) (y i) (pixel i)) where
   abbrev spot : ℕ → ℕ
-  spot i = address place w.hart (x i) (y i)
+  spot i = address layout w.hart (x i) (y i)
 
   readable : (i : ℕ) → i < n → Readable w Word (spot i)
   readable i b = subst (λ p. Readable w (load_size (load_op p)) (spot i)) words (can i b).may

@@ -28,7 +28,7 @@ IsUnder group k q =
     ((q < first_value) × ((q < scratch) ⊎ (address_register < q)))
     ⊎ (((q ≡ vl_number) ⊎ (q ≡ vtype_number)) ⊎ ((lane (slot group 0) 0 ≤ q) × (q < lane (slot group k) 0)))
 
--- straight code that leaves these words in group k, one for each of so many iterations, and memory as it was
+-- straight code that leaves these words in group k, one for each of this many iterations, and memory as it was
 pub record LeavesLanes (world : World) (memory : List ℕ) (insns : List Insn) (f : ℕ → ℕ) (group : LaneGroup) (k count : ℕ) (v : ℕ → ℕ) : Type 0 where
   pub after : ℕ → ℕ
   pub line : Line world insns f memory after memory
@@ -36,27 +36,27 @@ pub record LeavesLanes (world : World) (memory : List ℕ) (insns : List Insn) (
   pub small : (i : ℕ) → i < count → v i < 2 ^ 32
   pub keeps : (q : ℕ) → IsUnder group k q → after q ≡ f q
 
--- Appended code leaves an expression's values in so many iterations as lanes are configured for, from what registers hold in the first of them,
--- wherever memory holds what each iteration loads.
-pub record MakesLanes (old new : List ℕ) (places : Places) (scope : List Held) (own : VectorLanes) (k : ℕ) (e : Expr) : Type 0 where
+-- Appended code leaves an expression's values in this many iterations as lanes are configured for, from what registers
+-- hold in the first of them, wherever memory holds what each iteration loads.
+pub record MakesLanes (old new : List ℕ) (places : Places) (scope : List Held) (lanes : VectorLanes) (k : ℕ) (e : Expr) : Type 0 where
   pub insns : List Insn
   pub emits : Emits old new insns
   pub does : (world : World) (memory : List ℕ) (values : Values) (reads : Reads) (count : ℕ) (f : ℕ → ℕ) → length memory ≡ world.size → ArePlaces places
-      → AreHolders scope → Knows world.hart scope (with own.counter 0 values) f → HasLanes own.group count f → 1 ≤ count → count ≤ 4 * registers own.group
-      → ((i : ℕ) → i < count → AllByRecursion (Loads world places memory reads) (loads reads (with own.counter i values) e))
-      → LeavesLanes world memory insns f own.group k count (λ i. value reads (with own.counter i values) e)
+      → AreHolders scope → Knows world.hart scope (with lanes.counter 0 values) f → HasLanes lanes.group count f → 1 ≤ count → count ≤ 4 * registers lanes.group
+      → ((i : ℕ) → i < count → AllByRecursion (Loads world places memory reads) (loads reads (with lanes.counter i values) e))
+      → LeavesLanes world memory insns f lanes.group k count (λ i. value reads (with lanes.counter i values) e)
 
 -- how many bytes after a buffer's first pixel the point at x and y lies, modulo 2 ^ 32
 abbrev pub distance : BufferLayout → ℕ → ℕ → ℕ
-distance place x y = ((x + (y * place.width) % 2 ^ 32) % 2 ^ 32 * pixel_bytes place.pixels) % 2 ^ 32
+distance layout x y = ((x + (y * layout.width) % 2 ^ 32) % 2 ^ 32 * pixel_bytes layout.pixels) % 2 ^ 32
 
 -- Appended code leaves these distances of points at two expressions, as it leaves the values of an expression.
-pub record MakesDistances (old new : List ℕ) (places : Places) (scope : List Held) (own : VectorLanes) (k : ℕ) (place : BufferLayout) (x y : Expr) : Type 0 where
+pub record MakesDistances (old new : List ℕ) (places : Places) (scope : List Held) (lanes : VectorLanes) (k : ℕ) (layout : BufferLayout) (x y : Expr) : Type 0 where
   pub insns : List Insn
   pub emits : Emits old new insns
   pub does : (world : World) (memory : List ℕ) (values : Values) (reads : Reads) (count : ℕ) (f : ℕ → ℕ) → length memory ≡ world.size → ArePlaces places
-      → AreHolders scope → Knows world.hart scope (with own.counter 0 values) f → HasLanes own.group count f → 1 ≤ count → count ≤ 4 * registers own.group
-      → ((i : ℕ) → i < count → AllByRecursion (Loads world places memory reads) (loads reads (with own.counter i values) x))
-      → ((i : ℕ) → i < count → AllByRecursion (Loads world places memory reads) (loads reads (with own.counter i values) y))
-      → LeavesLanes world memory insns f own.group k count
-      (λ i. distance place (value reads (with own.counter i values) x) (value reads (with own.counter i values) y))
+      → AreHolders scope → Knows world.hart scope (with lanes.counter 0 values) f → HasLanes lanes.group count f → 1 ≤ count → count ≤ 4 * registers lanes.group
+      → ((i : ℕ) → i < count → AllByRecursion (Loads world places memory reads) (loads reads (with lanes.counter i values) x))
+      → ((i : ℕ) → i < count → AllByRecursion (Loads world places memory reads) (loads reads (with lanes.counter i values) y))
+      → LeavesLanes world memory insns f lanes.group k count
+      (λ i. distance layout (value reads (with lanes.counter i values) x) (value reads (with lanes.counter i values) y))

@@ -4,7 +4,7 @@
 ghost use Rattle.std.specs.Prelude.{◌≡◌, ◌∷◌, IfOk, IfSome, true};
 ghost use Rattle.task_code_lane_values.specs.inner.Sharing.{IsAnyPart, IsKeptAt, IsSmallerPart};
 
-use crate::scalars::is_steady;
+use crate::scalars::is_loop_invariant;
 use crate::vectorized::LaneSite;
 use halide_pipeline::Source;
 use loop_ir::expressions::{Counter, Expr};
@@ -110,12 +110,12 @@ pub(crate) fn slot_of(kept: &[Kept<'_>], e: &Expr) -> Option<u8>
 pub(crate) fn with_kept<'a>(
     alloc: Global,
     kept: &[Kept<'a>],
-    own: Kept<'a>,
+    own_kept: Kept<'a>,
 ) -> Result<Vec<Kept<'a>>, AllocError>
-    ensures { IfOk result (λ made. made.items ≡ own.entry ∷ kept.now) }
+    ensures { IfOk result (λ made. made.items ≡ own_kept.entry ∷ kept.now) }
 {
     let mut made = Vec::new(alloc);
-    made.push(own)?;
+    made.push(own_kept)?;
     made.extend_from_slice(kept)?;
     Ok(made)
 }
@@ -169,33 +169,33 @@ fn has(whole: &Expr, part: &Expr) -> bool {
 
 /// Whether an expression's values are worth a group: those of a load, unless all iterations have it in common.
 fn is_worth(e: &Expr, counter: Counter) -> bool {
-    has_load(e) && !is_steady(e, counter)
+    has_load(e) && !is_loop_invariant(e, counter)
 }
 
 /// The first part of an expression, a whole one before its own parts, that another one has too and that doesn't stay.
-fn part_of_both<'a>(own: &Sharing<'_>, e: &'a Expr, other: &Expr) -> Option<&'a Expr>
+fn part_of_both<'a>(sharing: &Sharing<'_>, e: &'a Expr, other: &Expr) -> Option<&'a Expr>
     ensures { IfSome result (λ part. IsAnyPart e.now part.now) }
 {
-    if slot_of(own.kept, e).is_some() {
+    if slot_of(sharing.kept, e).is_some() {
         return None;
     }
-    if is_worth(e, own.site.lanes.counter) && has(other, e) {
+    if is_worth(e, sharing.site.lanes.counter) && has(other, e) {
         return Some(e);
     }
     match e {
         Expr::Number(_) => None,
         Expr::Linear(_) => None,
-        Expr::Binary(_, a, b) => match part_of_both(own, a.get(), other) {
+        Expr::Binary(_, a, b) => match part_of_both(sharing, a.get(), other) {
             Some(found) => Some(found),
-            None => part_of_both(own, b.get(), other),
+            None => part_of_both(sharing, b.get(), other),
         },
-        Expr::Divide(a, _) => part_of_both(own, a.get(), other),
-        Expr::Remainder(a, _) => part_of_both(own, a.get(), other),
-        Expr::Select(c, a, b) => match part_of_both(own, c.get(), other) {
+        Expr::Divide(a, _) => part_of_both(sharing, a.get(), other),
+        Expr::Remainder(a, _) => part_of_both(sharing, a.get(), other),
+        Expr::Select(c, a, b) => match part_of_both(sharing, c.get(), other) {
             Some(found) => Some(found),
-            None => match part_of_both(own, a.get(), other) {
+            None => match part_of_both(sharing, a.get(), other) {
                 Some(found) => Some(found),
-                None => part_of_both(own, b.get(), other),
+                None => part_of_both(sharing, b.get(), other),
             },
         },
         Expr::Load(_, _, _) => None,
@@ -203,29 +203,29 @@ fn part_of_both<'a>(own: &Sharing<'_>, e: &'a Expr, other: &Expr) -> Option<&'a 
 }
 
 /// The same, where looking for it takes few comparisons.
-fn common<'a>(own: &Sharing<'_>, e: &'a Expr, other: &Expr) -> Option<&'a Expr>
+fn common<'a>(sharing: &Sharing<'_>, e: &'a Expr, other: &Expr) -> Option<&'a Expr>
     ensures { IfSome result (λ part. IsAnyPart e.now part.now) }
 {
     if parts_of(e).saturating_mul(parts_of(other)) > MOST_PAIRS {
         return None;
     }
-    part_of_both(own, e, other)
+    part_of_both(sharing, e, other)
 }
 
 /// A part that more than one operand of an expression has and that doesn't stay, where one more may.
-pub(crate) fn common_part<'a>(own: &Sharing<'_>, e: &'a Expr) -> Option<&'a Expr>
+pub(crate) fn common_part<'a>(sharing: &Sharing<'_>, e: &'a Expr) -> Option<&'a Expr>
     ensures { IfSome result (λ part. IsSmallerPart e.now part.now) }
 {
-    if own.kept.len() >= own.most {
+    if sharing.kept.len() >= sharing.most {
         return None;
     }
     match e {
-        Expr::Binary(_, a, b) => common(own, a.get(), b.get()),
-        Expr::Select(c, a, b) => match common(own, c.get(), a.get()) {
+        Expr::Binary(_, a, b) => common(sharing, a.get(), b.get()),
+        Expr::Select(c, a, b) => match common(sharing, c.get(), a.get()) {
             Some(found) => Some(found),
-            None => match common(own, c.get(), b.get()) {
+            None => match common(sharing, c.get(), b.get()) {
                 Some(found) => Some(found),
-                None => common(own, a.get(), b.get()),
+                None => common(sharing, a.get(), b.get()),
             },
         },
         _ => None,

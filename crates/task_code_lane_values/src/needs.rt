@@ -44,7 +44,7 @@ pub(crate) enum First {
     Other,
 }
 
-/// How many groups the parts of a choice take, if so many are left.
+/// How many groups the parts of a choice take, if this many are left.
 #[derive(Clone, Copy, Debug)]
 struct ChoiceGroups {
     condition: u8,
@@ -62,7 +62,7 @@ impl ChoiceGroups {
         }
     }
 
-    /// Which one is made first: the condition, where so many groups suffice for it.
+    /// Which one is made first: the condition, where this many groups suffice for it.
     fn first(self, left: u8) -> First {
         let one = self.with_first(First::One);
         let other = self.with_first(First::Other);
@@ -156,9 +156,9 @@ fn groups_from(group: LaneGroup, k: u8) -> u8 {
 
 /// Whether the second of two operands is made first: where it takes more groups than there are after that of the first
 /// one, and more than that does.
-pub(crate) fn is_swapped(first: &Expr, second: &Expr, own: VectorLanes, k: u8) -> bool {
-    let last = need(second, own.counter).groups;
-    groups_from(own.group, k) <= last && need(first, own.counter).groups < last
+pub(crate) fn is_swapped(first: &Expr, second: &Expr, lanes: VectorLanes, k: u8) -> bool {
+    let last = need(second, lanes.counter).groups;
+    groups_from(lanes.group, k) <= last && need(first, lanes.counter).groups < last
 }
 
 /// Which part of a choice is made first from a group on.
@@ -166,13 +166,13 @@ pub(crate) fn first_of_choice(
     condition: &Expr,
     one: &Expr,
     other: &Expr,
-    own: VectorLanes,
+    lanes: VectorLanes,
     k: u8,
 ) -> First {
     let parts = ChoiceGroups {
-        condition: need(condition, own.counter).groups,
-        one: need(one, own.counter).groups,
-        other: need(other, own.counter).groups,
+        condition: need(condition, lanes.counter).groups,
+        one: need(one, lanes.counter).groups,
+        other: need(other, lanes.counter).groups,
     };
-    parts.first(groups_from(own.group, k))
+    parts.first(groups_from(lanes.group, k))
 }

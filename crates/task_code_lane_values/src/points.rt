@@ -8,11 +8,11 @@ ghost use Rattle.task_code_values.specs.Operands.{IsSum};
 ghost use Rattle.task_code_lanes.specs.Groups.{slots};
 ghost use Rattle.task_code_scalar.specs.declared.layouts.Places.{Places as AllPlaces};
 ghost use Rattle.task_code_lane_values.specs.Leaving.{MakesDistances, MakesLanes};
-ghost use Rattle.task_code_lane_values.specs.inner.Parts.{IsSteady, MakesPoint, MakesRowPointer};
+ghost use Rattle.task_code_lane_values.specs.inner.Parts.{IsLoopInvariant, MakesPoint, MakesRowPointer};
 
 use crate::loads::{emit_along, emit_from, emit_offsets, emit_strided};
 use crate::operations::{emit_by, emit_two};
-use crate::scalars::{emit_form_operand, emit_literal, emit_steady};
+use crate::scalars::{emit_form_operand, emit_invariant, emit_literal};
 use crate::sums::emit_steps;
 use crate::vectorized::{LaneSite, VectorLanes};
 use halide_pipeline::{Operation, Source, words};
@@ -39,7 +39,6 @@ pub(crate) struct PointSums {
     pub y: Linear,
 }
 
-/// Written out, so that a check sees a call wherever one is dropped, and not the drops of its parts.
 impl Drop for PointSums {
     fn drop(self) {
         let PointSums { x, y } = self;
@@ -113,26 +112,26 @@ fn emit_row_pointer(
     alloc: Global,
     code: &mut Vec<u32>,
     site: &LaneSite<'_>,
-    place: &BufferLayout,
+    layout: &BufferLayout,
     x: &Linear,
     y: &Expr,
 ) -> Result<u8, CodeFault>
     ensures { IfOk result (λ s. MakesRowPointer code.old.items code.new.items site.now.places.now
-        site.now.scope.now site.now.lanes s place.now x.now y.now) }
+        site.now.scope.now site.now.lanes s layout.now x.now y.now) }
 {
     match sum_of(alloc, y)? {
         Some(row) => {
-            let form = point_form(alloc, place, x, &row)?;
+            let form = point_form(alloc, layout, x, &row)?;
             let start = at_value(alloc, &form, site.lanes.counter, 0)?;
             let s = emit_form_operand(alloc, code, site.scope, &start)?;
             Ok(s)
         }
         None => {
-            let row = words::multiply(bytes_of(place.pixels), place.width);
+            let row = words::multiply(bytes_of(layout.pixels), layout.width);
             let zero = Linear::of_number(alloc, 0);
-            let form = point_form(alloc, place, x, &zero)?;
+            let form = point_form(alloc, layout, x, &zero)?;
             let start = at_value(alloc, &form, site.lanes.counter, 0)?;
-            let t = emit_steady(alloc, code, site, y)?;
+            let t = emit_invariant(alloc, code, site, y)?;
             emit_times(code, FIRST_VALUE, t, row)?;
             let b = emit_form_operand(alloc, code, site.scope, &start)?;
             alu(code, AluOp::Add, ADDRESS, b, FIRST_VALUE)?;
@@ -147,13 +146,13 @@ pub(crate) fn dense_column(
     e: &Expr,
     counter: Counter,
 ) -> Result<Option<Linear>, AllocError>
-    ensures { IfOk result (λ found. IfSome found (λ own. IsSum e.now own × (strides counter own.terms % 2 ^ 32 ≡ 1))) }
+    ensures { IfOk result (λ found. IfSome found (λ sum. IsSum e.now sum × (strides counter sum.terms % 2 ^ 32 ≡ 1))) }
 {
     match sum_of(alloc, e)? {
         None => Ok(None),
-        Some(own) => {
-            if stride_of(own.terms.as_slice(), counter) == 1 {
-                Ok(Some(own))
+        Some(sum) => {
+            if stride_of(sum.terms.as_slice(), counter) == 1 {
+                Ok(Some(sum))
             } else {
                 Ok(None)
             }
@@ -172,7 +171,7 @@ pub(crate) fn emit_row(
 ) -> Result<(), CodeFault>
     requires slot { k < slots site.now.lanes.group }
     requires stride { strides site.now.lanes.counter column.now.terms % 2 ^ 32 ≡ 1 }
-    requires row { IsSteady site.now.lanes.counter row.now.y.now }
+    requires row { IsLoopInvariant site.now.lanes.counter row.now.y.now }
     ensures { OnOk result ((x : Exprs) → IsSum x column.now
         → MakesLanes code.old.items code.new.items site.now.places.now site.now.scope.now site.now.lanes k
         (loaded row.now.source x row.now.y.now)) }
@@ -192,7 +191,7 @@ pub(crate) fn emit_gather(
     k: u8,
 ) -> Result<(), CodeFault>
     requires slot { k < slots site.now.lanes.group }
-    requires row { IsSteady site.now.lanes.counter row.now.y.now }
+    requires row { IsLoopInvariant site.now.lanes.counter row.now.y.now }
     ensures { OnOk result ((before : List ℕ) (x : Exprs) → MakesLanes before code.old.items site.now.places.now
         site.now.scope.now site.now.lanes k x
         → MakesLanes before code.new.items site.now.places.now site.now.scope.now site.now.lanes k
@@ -214,20 +213,20 @@ pub(crate) fn emit_distances(
     alloc: Global,
     code: &mut Vec<u32>,
     scope: &[Held],
-    own: VectorLanes,
-    place: &BufferLayout,
+    lanes: VectorLanes,
+    layout: &BufferLayout,
     k: u8,
 ) -> Result<(), CodeFault>
-    requires { k + 1 < slots own.group }
+    requires { k + 1 < slots lanes.group }
     ensures { OnOk result ((places : AllPlaces) (before middle : List ℕ) (x y : Exprs)
-        → MakesLanes before middle places scope.now own k x
-        → MakesLanes middle code.old.items places scope.now own (k + 1) y
-        → MakesDistances before code.new.items places scope.now own k place.now x y) }
+        → MakesLanes before middle places scope.now lanes k x
+        → MakesLanes middle code.old.items places scope.now lanes (k + 1) y
+        → MakesDistances before code.new.items places scope.now lanes k layout.now x y) }
 {
-    let s = emit_literal(alloc, code, scope, own, place.width)?;
-    emit_by(code, own.group, Operation::Multiply, k + 1, s)?;
-    emit_two(code, own.group, Operation::Add, k)?;
-    emit_offsets(code, own.group, place.pixels, k)?;
+    let s = emit_literal(alloc, code, scope, lanes, layout.width)?;
+    emit_by(code, lanes.group, Operation::Multiply, k + 1, s)?;
+    emit_two(code, lanes.group, Operation::Add, k)?;
+    emit_offsets(code, lanes.group, layout.pixels, k)?;
     Ok(())
 }
 

@@ -5,7 +5,7 @@ ghost use Rattle.task_code_registers.specs.Emitting.{sum_words};
 ghost use Rattle.task_code_registers.specs.Registers.{address_register};
 ghost use Rattle.task_code_registers.specs.Scopes.{form_value};
 ghost use Rattle.task_code_values.specs.Making.{MakesHeld};
-ghost use Rattle.task_code_lane_values.specs.inner.Parts.{IsSteady, MakesScalar, MakesSteady, Nothing};
+ghost use Rattle.task_code_lane_values.specs.inner.Parts.{IsLoopInvariant, MakesScalar, MakesInvariant, Nothing};
 
 use crate::vectorized::{LaneSite, VectorLanes};
 use loop_ir::expressions::{Counter, Expr};
@@ -24,55 +24,59 @@ use task_code_values::sites::Site;
 const STACK: u32 = 12;
 
 /// Whether an expression has one value in all iterations, as far as its sums tell.
-pub fn is_steady(e: &Expr, counter: Counter) -> bool
-    ensures { result ≡ true → IsSteady counter e.now }
+pub fn is_loop_invariant(e: &Expr, counter: Counter) -> bool
+    ensures { result ≡ true → IsLoopInvariant counter e.now }
 {
     match e {
         Expr::Number(_) => true,
         Expr::Linear(own) => stride_of(own.terms.as_slice(), counter) == 0,
-        Expr::Binary(_, a, b) => is_steady(a.get(), counter) && is_steady(b.get(), counter),
-        Expr::Divide(a, _) => is_steady(a.get(), counter),
-        Expr::Remainder(a, _) => is_steady(a.get(), counter),
+        Expr::Binary(_, a, b) => is_loop_invariant(a.get(), counter)
+            && is_loop_invariant(b.get(), counter),
+        Expr::Divide(a, _) => is_loop_invariant(a.get(), counter),
+        Expr::Remainder(a, _) => is_loop_invariant(a.get(), counter),
         Expr::Select(c, a, b) => {
-            is_steady(c.get(), counter)
-                && (is_steady(a.get(), counter) && is_steady(b.get(), counter))
+            is_loop_invariant(c.get(), counter)
+                && (is_loop_invariant(a.get(), counter) && is_loop_invariant(b.get(), counter))
         }
-        Expr::Load(_, x, y) => is_steady(x.get(), counter) && is_steady(y.get(), counter),
+        Expr::Load(_, x, y) => is_loop_invariant(x.get(), counter)
+            && is_loop_invariant(y.get(), counter),
     }
 }
 
-/// The same of one that the scalar stack has room for, where so many, the expression itself, its first operand and so
+/// The same of one that the scalar stack has room for, where this many, the expression itself, its first operand and so
 /// on, are known to have several: it asks where none is.
-pub(crate) fn known_steady(e: &Expr, counter: Counter, known: u32) -> bool
-    ensures { result ≡ true → IsSteady counter e.now }
+pub(crate) fn is_invariant_scalar(e: &Expr, counter: Counter, known: u32) -> bool
+    ensures { result ≡ true → IsLoopInvariant counter e.now }
 {
-    known == 0 && is_steady(e, counter) && need(e) <= STACK
+    known == 0 && is_loop_invariant(e, counter) && need(e) <= STACK
 }
 
-/// Whether what stands beside its first operand has several.
+/// Whether what is beside its first operand has several.
 fn others_move(e: &Expr, counter: Counter) -> bool {
     match e {
         Expr::Number(_) => false,
-        Expr::Linear(_) => !is_steady(e, counter),
-        Expr::Binary(_, _, b) => !is_steady(b.get(), counter),
+        Expr::Linear(_) => !is_loop_invariant(e, counter),
+        Expr::Binary(_, _, b) => !is_loop_invariant(b.get(), counter),
         Expr::Divide(_, _) => false,
         Expr::Remainder(_, _) => false,
-        Expr::Select(_, a, b) => { !is_steady(a.get(), counter) || !is_steady(b.get(), counter) }
-        Expr::Load(_, _, y) => !is_steady(y.get(), counter),
+        Expr::Select(_, a, b) => {
+            !is_loop_invariant(a.get(), counter) || !is_loop_invariant(b.get(), counter)
+        }
+        Expr::Load(_, _, y) => !is_loop_invariant(y.get(), counter),
     }
 }
 
 /// How many expressions have several values: the expression itself, its first operand, the first operand of that one
 /// and so on. It spares questions, and is no promise.
-pub(crate) fn moving(e: &Expr, counter: Counter) -> u32 {
+pub(crate) fn varying(e: &Expr, counter: Counter) -> u32 {
     let first = match e {
         Expr::Number(_) => 0,
         Expr::Linear(_) => 0,
-        Expr::Binary(_, a, _) => moving(a.get(), counter),
-        Expr::Divide(a, _) => moving(a.get(), counter),
-        Expr::Remainder(a, _) => moving(a.get(), counter),
-        Expr::Select(c, _, _) => moving(c.get(), counter),
-        Expr::Load(_, x, _) => moving(x.get(), counter),
+        Expr::Binary(_, a, _) => varying(a.get(), counter),
+        Expr::Divide(a, _) => varying(a.get(), counter),
+        Expr::Remainder(a, _) => varying(a.get(), counter),
+        Expr::Select(c, _, _) => varying(c.get(), counter),
+        Expr::Load(_, x, _) => varying(x.get(), counter),
     };
     if first > 0 || others_move(e, counter) {
         first.saturating_add(1)
@@ -81,21 +85,25 @@ pub(crate) fn moving(e: &Expr, counter: Counter) -> u32 {
     }
 }
 
-/// How many they are of its first operand, where so many of the expression itself are known; it counts where none is.
-pub(crate) fn first_moving(e: &Expr, counter: Counter, known: u32) -> u32 {
-    let own = if known > 0 { known } else { moving(e, counter) };
+/// How many they are of its first operand, where this many of the expression itself are known; it counts where none is.
+pub(crate) fn first_varying(e: &Expr, counter: Counter, known: u32) -> u32 {
+    let own = if known > 0 {
+        known
+    } else {
+        varying(e, counter)
+    };
     own.saturating_sub(1)
 }
 
 /// Appends what leaves an expression's value of the first iteration in a register, where none holds it; which one
 /// it is.
-pub(crate) fn emit_steady(
+pub(crate) fn emit_invariant(
     alloc: Global,
     code: &mut Vec<u32>,
     site: &LaneSite<'_>,
     e: &Expr,
 ) -> Result<u8, CodeFault>
-    ensures { IfOk result (λ s. MakesSteady code.old.items code.new.items site.now.places.now
+    ensures { IfOk result (λ s. MakesInvariant code.old.items code.new.items site.now.places.now
         site.now.scope.now site.now.lanes s e.now) }
 {
     if need(e) > STACK {
@@ -114,11 +122,11 @@ pub(crate) fn emit_literal(
     alloc: Global,
     code: &mut Vec<u32>,
     scope: &[Held],
-    own: VectorLanes,
+    lanes: VectorLanes,
     number: u32,
 ) -> Result<u8, AllocError>
     ensures { IfOk result (λ s. MakesScalar code.old.items code.new.items
-        scope.now own s Nothing (λ hart reads values. number)) }
+        scope.now lanes s Nothing (λ hart reads values. number)) }
 {
     let s = emit_number_operand(alloc, code, scope, number, ADDRESS)?;
     Ok(s)

@@ -11,7 +11,7 @@ use crate::operations::{
     emit_operation, emit_quotient, emit_remainder, emit_shifted, emit_swapped, takes_first,
     takes_second,
 };
-use crate::scalars::{emit_literal, emit_steady, known_steady};
+use crate::scalars::{emit_invariant, emit_literal, is_invariant_scalar};
 use crate::values::emit_lanes;
 use crate::vectorized::LaneSite;
 use loop_ir::expressions::Expr;
@@ -53,27 +53,28 @@ fn free_behind(group: LaneGroup, s: u8, k: u8) -> Result<u8, CodeFault>
 fn emit_operand(
     alloc: Global,
     code: &mut Vec<u32>,
-    own: &Sharing<'_>,
+    sharing: &Sharing<'_>,
     e: &Expr,
     k: u8,
 ) -> Result<u8, CodeFault>
-    requires { AreBelow own.now.kept.now k × (k < slots own.now.site.lanes.group) }
-    ensures { IfOk result (λ s. MakesOperand code.old.items code.new.items own.now.site own.now.kept.now k s e.now) }
+    requires { AreBelow sharing.now.kept.now k × (k < slots sharing.now.site.lanes.group) }
+    ensures { IfOk result (λ s. MakesOperand code.old.items code.new.items sharing.now.site sharing.now.kept.now k s
+        e.now) }
 {
-    if let Some(slot) = slot_of(own.kept, e) {
+    if let Some(slot) = slot_of(sharing.kept, e) {
         return Ok(slot);
     }
-    if known_steady(e, own.site.lanes.counter, 0) {
-        emit_lanes(alloc, code, &own.site, e, k)?;
+    if is_invariant_scalar(e, sharing.site.lanes.counter, 0) {
+        emit_lanes(alloc, code, &sharing.site, e, k)?;
         return Ok(k);
     }
     let room = Room { target: k, free: k };
     match e {
-        Expr::Binary(_, _, _) => emit_combined(alloc, code, own, e, room)?,
-        Expr::Select(_, _, _) => emit_combined(alloc, code, own, e, room)?,
-        Expr::Divide(_, _) => emit_quotients(alloc, code, own, e, k)?,
-        Expr::Remainder(_, _) => emit_remainders(alloc, code, own, e, k)?,
-        _ => emit_lanes(alloc, code, &own.site, e, k)?,
+        Expr::Binary(_, _, _) => emit_combined(alloc, code, sharing, e, room)?,
+        Expr::Select(_, _, _) => emit_combined(alloc, code, sharing, e, room)?,
+        Expr::Divide(_, _) => emit_quotients(alloc, code, sharing, e, k)?,
+        Expr::Remainder(_, _) => emit_remainders(alloc, code, sharing, e, k)?,
+        _ => emit_lanes(alloc, code, &sharing.site, e, k)?,
     }
     Ok(k)
 }
@@ -83,18 +84,18 @@ fn emit_operand(
 fn emit_into(
     alloc: Global,
     code: &mut Vec<u32>,
-    own: &Sharing<'_>,
+    sharing: &Sharing<'_>,
     e: &Expr,
     k: u8,
 ) -> Result<(), CodeFault>
-    requires { AreBelow own.now.kept.now k × (k < slots own.now.site.lanes.group) }
-    ensures { OnOk result (MakesOperand code.old.items code.new.items own.now.site own.now.kept.now k k e.now) }
+    requires { AreBelow sharing.now.kept.now k × (k < slots sharing.now.site.lanes.group) }
+    ensures { OnOk result (MakesOperand code.old.items code.new.items sharing.now.site sharing.now.kept.now k k e.now) }
 {
-    let s = emit_operand(alloc, code, own, e, k)?;
+    let s = emit_operand(alloc, code, sharing, e, k)?;
     if s == k {
         return Ok(());
     }
-    let group = own.site.lanes.group;
+    let group = sharing.site.lanes.group;
     copy_lanes(code, group.slot(k), group.slot(s))?;
     Ok(())
 }
@@ -104,12 +105,12 @@ fn emit_into(
 fn emit_quotients(
     alloc: Global,
     code: &mut Vec<u32>,
-    own: &Sharing<'_>,
+    sharing: &Sharing<'_>,
     e: &Expr,
     k: u8,
 ) -> Result<(), CodeFault>
-    requires { AreBelow own.now.kept.now k × (k < slots own.now.site.lanes.group) }
-    ensures { OnOk result (MakesOperand code.old.items code.new.items own.now.site own.now.kept.now k k e.now) }
+    requires { AreBelow sharing.now.kept.now k × (k < slots sharing.now.site.lanes.group) }
+    ensures { OnOk result (MakesOperand code.old.items code.new.items sharing.now.site sharing.now.kept.now k k e.now) }
 {
     let Expr::Divide(a, divisor) = e else {
         return Err(CodeFault::TooDeep);
@@ -117,13 +118,13 @@ fn emit_quotients(
     if *divisor == 0 {
         return Err(CodeFault::TooDeep);
     }
-    let lanes = own.site.lanes;
-    emit_into(alloc, code, own, a.get(), k)?;
+    let lanes = sharing.site.lanes;
+    emit_into(alloc, code, sharing, a.get(), k)?;
     if let Some(bits) = power_of_two(*divisor) {
         emit_shifted(code, lanes.group, *divisor, bits, k)?;
         return Ok(());
     }
-    let s = emit_literal(alloc, code, own.site.scope, lanes, *divisor)?;
+    let s = emit_literal(alloc, code, sharing.site.scope, lanes, *divisor)?;
     emit_quotient(code, lanes.group, *divisor, k, s)?;
     Ok(())
 }
@@ -133,12 +134,12 @@ fn emit_quotients(
 fn emit_remainders(
     alloc: Global,
     code: &mut Vec<u32>,
-    own: &Sharing<'_>,
+    sharing: &Sharing<'_>,
     e: &Expr,
     k: u8,
 ) -> Result<(), CodeFault>
-    requires { AreBelow own.now.kept.now k × (k < slots own.now.site.lanes.group) }
-    ensures { OnOk result (MakesOperand code.old.items code.new.items own.now.site own.now.kept.now k k e.now) }
+    requires { AreBelow sharing.now.kept.now k × (k < slots sharing.now.site.lanes.group) }
+    ensures { OnOk result (MakesOperand code.old.items code.new.items sharing.now.site sharing.now.kept.now k k e.now) }
 {
     let Expr::Remainder(a, divisor) = e else {
         return Err(CodeFault::TooDeep);
@@ -146,14 +147,14 @@ fn emit_remainders(
     if *divisor == 0 {
         return Err(CodeFault::TooDeep);
     }
-    let lanes = own.site.lanes;
-    emit_into(alloc, code, own, a.get(), k)?;
+    let lanes = sharing.site.lanes;
+    emit_into(alloc, code, sharing, a.get(), k)?;
     if let Some(bits) = power_of_two(*divisor) {
-        let s = emit_literal(alloc, code, own.site.scope, lanes, *divisor - 1)?;
+        let s = emit_literal(alloc, code, sharing.site.scope, lanes, *divisor - 1)?;
         emit_masked(code, lanes.group, *divisor, bits, k, s)?;
         return Ok(());
     }
-    let s = emit_literal(alloc, code, own.site.scope, lanes, *divisor)?;
+    let s = emit_literal(alloc, code, sharing.site.scope, lanes, *divisor)?;
     emit_remainder(code, lanes.group, *divisor, k, s)?;
     Ok(())
 }
@@ -165,34 +166,34 @@ fn emit_remainders(
 fn emit_combined(
     alloc: Global,
     code: &mut Vec<u32>,
-    own: &Sharing<'_>,
+    sharing: &Sharing<'_>,
     e: &Expr,
     room: Room,
 ) -> Result<(), CodeFault>
-    requires { AreBelow own.now.kept.now room.free × (room.target ≤ room.free)
-        × (room.free < slots own.now.site.lanes.group) }
-    ensures { OnOk result (MakesOperand code.old.items code.new.items own.now.site own.now.kept.now room.target
+    requires { AreBelow sharing.now.kept.now room.free × (room.target ≤ room.free)
+        × (room.free < slots sharing.now.site.lanes.group) }
+    ensures { OnOk result (MakesOperand code.old.items code.new.items sharing.now.site sharing.now.kept.now room.target
         room.target e.now) }
 {
-    match common_part(own, e) {
+    match common_part(sharing, e) {
         None => {
             match e {
-                Expr::Select(_, _, _) => emit_choice_of(alloc, code, own, e, room)?,
-                _ => emit_operation_of(alloc, code, own, e, room)?,
+                Expr::Select(_, _, _) => emit_choice_of(alloc, code, sharing, e, room)?,
+                _ => emit_operation_of(alloc, code, sharing, e, room)?,
             }
             Ok(())
         }
         Some(part) => {
             let k = room.free;
-            if k + 1 >= own.site.lanes.group.slots() {
+            if k + 1 >= sharing.site.lanes.group.slots() {
                 return Err(CodeFault::TooDeep);
             }
-            emit_into(alloc, code, own, part, k)?;
-            let kept = with_kept(alloc, own.kept, Kept { e: part, slot: k })?;
+            emit_into(alloc, code, sharing, part, k)?;
+            let kept = with_kept(alloc, sharing.kept, Kept { e: part, slot: k })?;
             let inner = Sharing {
-                site: own.site,
+                site: sharing.site,
                 kept: kept.as_slice(),
-                most: own.most,
+                most: sharing.most,
             };
             let left = Room {
                 target: room.target,
@@ -209,37 +210,40 @@ fn emit_combined(
 fn emit_operation_of(
     alloc: Global,
     code: &mut Vec<u32>,
-    own: &Sharing<'_>,
+    sharing: &Sharing<'_>,
     e: &Expr,
     room: Room,
 ) -> Result<(), CodeFault>
-    requires { AreBelow own.now.kept.now room.free × (room.target ≤ room.free)
-        × (room.free < slots own.now.site.lanes.group) }
-    ensures { OnOk result (MakesOperand code.old.items code.new.items own.now.site own.now.kept.now room.target
+    requires { AreBelow sharing.now.kept.now room.free × (room.target ≤ room.free)
+        × (room.free < slots sharing.now.site.lanes.group) }
+    ensures { OnOk result (MakesOperand code.old.items code.new.items sharing.now.site sharing.now.kept.now room.target
         room.target e.now) }
 {
     let Expr::Binary(operation, a, b) = e else {
         return Err(CodeFault::TooDeep);
     };
-    let lanes = own.site.lanes;
+    let lanes = sharing.site.lanes;
     let k = room.free;
     let first = a.get();
     let second = b.get();
-    if takes_second(*operation) && known_steady(second, lanes.counter, 0) && room.target == k {
-        emit_into(alloc, code, own, first, k)?;
-        let c = emit_steady(alloc, code, &own.site, second)?;
+    if takes_second(*operation)
+        && is_invariant_scalar(second, lanes.counter, 0)
+        && room.target == k
+    {
+        emit_into(alloc, code, sharing, first, k)?;
+        let c = emit_invariant(alloc, code, &sharing.site, second)?;
         emit_by(code, lanes.group, *operation, k, c)?;
         return Ok(());
     }
-    if takes_first(*operation) && known_steady(first, lanes.counter, 0) && room.target == k {
-        emit_into(alloc, code, own, second, k)?;
-        let c = emit_steady(alloc, code, &own.site, first)?;
+    if takes_first(*operation) && is_invariant_scalar(first, lanes.counter, 0) && room.target == k {
+        emit_into(alloc, code, sharing, second, k)?;
+        let c = emit_invariant(alloc, code, &sharing.site, first)?;
         emit_swapped(code, lanes.group, *operation, k, c)?;
         return Ok(());
     }
-    let s = emit_operand(alloc, code, own, first, k)?;
+    let s = emit_operand(alloc, code, sharing, first, k)?;
     let next = free_behind(lanes.group, s, k)?;
-    let t = emit_operand(alloc, code, own, second, next)?;
+    let t = emit_operand(alloc, code, sharing, second, next)?;
     let target = lanes.group.slot(room.target);
     emit_operation(
         code,
@@ -256,27 +260,27 @@ fn emit_operation_of(
 fn emit_choice_of(
     alloc: Global,
     code: &mut Vec<u32>,
-    own: &Sharing<'_>,
+    sharing: &Sharing<'_>,
     e: &Expr,
     room: Room,
 ) -> Result<(), CodeFault>
-    requires { AreBelow own.now.kept.now room.free × (room.target ≤ room.free)
-        × (room.free < slots own.now.site.lanes.group) }
-    ensures { OnOk result (MakesOperand code.old.items code.new.items own.now.site own.now.kept.now room.target
+    requires { AreBelow sharing.now.kept.now room.free × (room.target ≤ room.free)
+        × (room.free < slots sharing.now.site.lanes.group) }
+    ensures { OnOk result (MakesOperand code.old.items code.new.items sharing.now.site sharing.now.kept.now room.target
         room.target e.now) }
 {
     let Expr::Select(condition, a, b) = e else {
         return Err(CodeFault::TooDeep);
     };
-    let group = own.site.lanes.group;
+    let group = sharing.site.lanes.group;
     let first = a.get();
     let second = b.get();
     let test = condition.get();
-    let s = emit_operand(alloc, code, own, first, room.free)?;
+    let s = emit_operand(alloc, code, sharing, first, room.free)?;
     let next = free_behind(group, s, room.free)?;
-    let t = emit_operand(alloc, code, own, second, next)?;
+    let t = emit_operand(alloc, code, sharing, second, next)?;
     let last = free_behind(group, t, next)?;
-    emit_mask(alloc, code, own, test, last)?;
+    emit_mask(alloc, code, sharing, test, last)?;
     let target = group.slot(room.target);
     merge(code, target, group.slot(t), group.slot(s))?;
     Ok(())
@@ -289,34 +293,34 @@ fn emit_choice_of(
 fn emit_mask(
     alloc: Global,
     code: &mut Vec<u32>,
-    own: &Sharing<'_>,
+    sharing: &Sharing<'_>,
     e: &Expr,
     k: u8,
 ) -> Result<(), CodeFault>
-    requires { AreBelow own.now.kept.now k × (k < slots own.now.site.lanes.group) }
-    ensures { OnOk result (MakesMask code.old.items code.new.items own.now.site own.now.kept.now k e.now) }
+    requires { AreBelow sharing.now.kept.now k × (k < slots sharing.now.site.lanes.group) }
+    ensures { OnOk result (MakesMask code.old.items code.new.items sharing.now.site sharing.now.kept.now k e.now) }
 {
-    if slot_of(own.kept, e).is_some() {
-        emit_nonzero(alloc, code, own, e, k)?;
+    if slot_of(sharing.kept, e).is_some() {
+        emit_nonzero(alloc, code, sharing, e, k)?;
         return Ok(());
     }
     match e {
         Expr::Binary(operation, _, b) => {
             if comparison_with(*operation).is_some()
-                && known_steady(b.get(), own.site.lanes.counter, 0)
+                && is_invariant_scalar(b.get(), sharing.site.lanes.counter, 0)
             {
-                emit_compared_with(alloc, code, own, e, k)?;
+                emit_compared_with(alloc, code, sharing, e, k)?;
                 return Ok(());
             }
             if comparison_of(*operation).is_some() {
-                emit_compared(alloc, code, own, e, k)?;
+                emit_compared(alloc, code, sharing, e, k)?;
                 return Ok(());
             }
-            emit_nonzero(alloc, code, own, e, k)?;
+            emit_nonzero(alloc, code, sharing, e, k)?;
             Ok(())
         }
         _ => {
-            emit_nonzero(alloc, code, own, e, k)?;
+            emit_nonzero(alloc, code, sharing, e, k)?;
             Ok(())
         }
     }
@@ -327,15 +331,15 @@ fn emit_mask(
 fn emit_nonzero(
     alloc: Global,
     code: &mut Vec<u32>,
-    own: &Sharing<'_>,
+    sharing: &Sharing<'_>,
     e: &Expr,
     k: u8,
 ) -> Result<(), CodeFault>
-    requires { AreBelow own.now.kept.now k × (k < slots own.now.site.lanes.group) }
-    ensures { OnOk result (MakesMask code.old.items code.new.items own.now.site own.now.kept.now k e.now) }
+    requires { AreBelow sharing.now.kept.now k × (k < slots sharing.now.site.lanes.group) }
+    ensures { OnOk result (MakesMask code.old.items code.new.items sharing.now.site sharing.now.kept.now k e.now) }
 {
-    let s = emit_operand(alloc, code, own, e, k)?;
-    test_nonzero(code, own.site.lanes.group.slot(s))?;
+    let s = emit_operand(alloc, code, sharing, e, k)?;
+    test_nonzero(code, sharing.site.lanes.group.slot(s))?;
     Ok(())
 }
 
@@ -344,12 +348,12 @@ fn emit_nonzero(
 fn emit_compared_with(
     alloc: Global,
     code: &mut Vec<u32>,
-    own: &Sharing<'_>,
+    sharing: &Sharing<'_>,
     e: &Expr,
     k: u8,
 ) -> Result<(), CodeFault>
-    requires { AreBelow own.now.kept.now k × (k < slots own.now.site.lanes.group) }
-    ensures { OnOk result (MakesMask code.old.items code.new.items own.now.site own.now.kept.now k e.now) }
+    requires { AreBelow sharing.now.kept.now k × (k < slots sharing.now.site.lanes.group) }
+    ensures { OnOk result (MakesMask code.old.items code.new.items sharing.now.site sharing.now.kept.now k e.now) }
 {
     let Expr::Binary(operation, a, b) = e else {
         return Err(CodeFault::TooDeep);
@@ -358,13 +362,13 @@ fn emit_compared_with(
         return Err(CodeFault::TooDeep);
     };
     let second = b.get();
-    if !known_steady(second, own.site.lanes.counter, 0) {
+    if !is_invariant_scalar(second, sharing.site.lanes.counter, 0) {
         return Err(CodeFault::TooDeep);
     }
     let first = a.get();
-    let s = emit_operand(alloc, code, own, first, k)?;
-    let r = emit_steady(alloc, code, &own.site, second)?;
-    comparison_by(code, by, own.site.lanes.group.slot(s), r)?;
+    let s = emit_operand(alloc, code, sharing, first, k)?;
+    let r = emit_invariant(alloc, code, &sharing.site, second)?;
+    comparison_by(code, by, sharing.site.lanes.group.slot(s), r)?;
     Ok(())
 }
 
@@ -373,12 +377,12 @@ fn emit_compared_with(
 fn emit_compared(
     alloc: Global,
     code: &mut Vec<u32>,
-    own: &Sharing<'_>,
+    sharing: &Sharing<'_>,
     e: &Expr,
     k: u8,
 ) -> Result<(), CodeFault>
-    requires { AreBelow own.now.kept.now k × (k < slots own.now.site.lanes.group) }
-    ensures { OnOk result (MakesMask code.old.items code.new.items own.now.site own.now.kept.now k e.now) }
+    requires { AreBelow sharing.now.kept.now k × (k < slots sharing.now.site.lanes.group) }
+    ensures { OnOk result (MakesMask code.old.items code.new.items sharing.now.site sharing.now.kept.now k e.now) }
 {
     let Expr::Binary(operation, a, b) = e else {
         return Err(CodeFault::TooDeep);
@@ -386,12 +390,12 @@ fn emit_compared(
     let Some(by) = comparison_of(*operation) else {
         return Err(CodeFault::TooDeep);
     };
-    let group = own.site.lanes.group;
+    let group = sharing.site.lanes.group;
     let first = a.get();
     let second = b.get();
-    let s = emit_operand(alloc, code, own, first, k)?;
+    let s = emit_operand(alloc, code, sharing, first, k)?;
     let next = free_behind(group, s, k)?;
-    let t = emit_operand(alloc, code, own, second, next)?;
+    let t = emit_operand(alloc, code, sharing, second, next)?;
     let one = group.slot(s);
     let other = group.slot(t);
     if by.is_swapped {
@@ -404,23 +408,23 @@ fn emit_compared(
 
 // ---- whole expressions
 
-/// The words that leave an expression's values in the first group, where groups suffice for so many parts that stay.
+/// The words that leave an expression's values in the first group, where groups suffice for this many parts that stay.
 fn words_keeping(
     alloc: Global,
     site: &LaneSite<'_>,
     e: &Expr,
     most: usize,
 ) -> Result<Option<Vec<u32>>, CodeFault>
-    ensures { IfOk result (λ found. IfSome found (λ made. MakesOperand [] made.items site.now [] 0 0 e.now)) }
+    ensures { IfOk result (λ found. IfSome found (λ words. MakesOperand [] words.items site.now [] 0 0 e.now)) }
 {
     let own = Sharing {
         site: *site,
         kept: &[],
         most,
     };
-    let mut made = Vec::new(alloc);
-    match emit_into(alloc, &mut made, &own, e, 0) {
-        Ok(()) => Ok(Some(made)),
+    let mut words = Vec::new(alloc);
+    match emit_into(alloc, &mut words, &own, e, 0) {
+        Ok(()) => Ok(Some(words)),
         Err(CodeFault::OutOfMemory(error)) => Err(CodeFault::OutOfMemory(error)),
         Err(CodeFault::TooLong) => Ok(None),
         Err(CodeFault::TooDeep) => Ok(None),
@@ -434,15 +438,15 @@ fn first_words(
     e: &Expr,
     ways: &[usize],
 ) -> Result<Option<Vec<u32>>, CodeFault>
-    ensures { IfOk result (λ found. IfSome found (λ made. MakesOperand [] made.items site.now [] 0 0 e.now)) }
+    ensures { IfOk result (λ new_words. IfSome new_words (λ words. MakesOperand [] words.items site.now [] 0 0 e.now)) }
 {
     match ways {
         [] => Ok(None),
         [most, others @ ..] => match words_keeping(alloc, site, e, *most)? {
-            Some(made) => Ok(Some(made)),
+            Some(words) => Ok(Some(words)),
             None => {
-                let found = first_words(alloc, site, e, others)?;
-                Ok(found)
+                let new_words = first_words(alloc, site, e, others)?;
+                Ok(new_words)
             }
         },
     }

@@ -25,20 +25,20 @@ pub(crate) fn emit_steps(
     alloc: Global,
     code: &mut Vec<u32>,
     scope: &[Held],
-    own: VectorLanes,
+    lanes: VectorLanes,
     stride: u32,
     k: u8,
 ) -> Result<(), CodeFault>
-    requires { k < slots own.group }
-    ensures { OnOk result ((places : AllPlaces) → MakesEach code.old.items code.new.items places scope.now own k
+    requires { k < slots lanes.group }
+    ensures { OnOk result ((places : AllPlaces) → MakesEach code.old.items code.new.items places scope.now lanes k
         NothingEach (λ reads values i. word.applied product i stride)) }
 {
-    lane_numbers(code, own.group.slot(k))?;
+    lane_numbers(code, lanes.group.slot(k))?;
     if stride == 1 {
         return Ok(());
     }
-    let s = emit_literal(alloc, code, scope, own, stride)?;
-    emit_by(code, own.group, Operation::Multiply, k, s)?;
+    let s = emit_literal(alloc, code, scope, lanes, stride)?;
+    emit_by(code, lanes.group, Operation::Multiply, k, s)?;
     Ok(())
 }
 
@@ -47,23 +47,23 @@ pub(crate) fn emit_sum(
     alloc: Global,
     code: &mut Vec<u32>,
     scope: &[Held],
-    own: VectorLanes,
+    lanes: VectorLanes,
     sum: &Linear,
     k: u8,
 ) -> Result<(), CodeFault>
-    requires { k < slots own.group }
-    ensures { OnOk result ((places : AllPlaces) → MakesLanes code.old.items code.new.items places scope.now own k
+    requires { k < slots lanes.group }
+    ensures { OnOk result ((places : AllPlaces) → MakesLanes code.old.items code.new.items places scope.now lanes k
         (expressions.Linear sum.now)) }
 {
-    let stride = stride_of(sum.terms.as_slice(), own.counter);
-    emit_steps(alloc, code, scope, own, stride, k)?;
+    let stride = stride_of(sum.terms.as_slice(), lanes.counter);
+    emit_steps(alloc, code, scope, lanes, stride, k)?;
     let copied = sum.copy(alloc)?;
     let form = AffineForm {
         sum: copied,
         per_hart: 0,
     };
-    let start = at_value(alloc, &form, own.counter, 0)?;
+    let start = at_value(alloc, &form, lanes.counter, 0)?;
     let s = emit_form_operand(alloc, code, scope, &start)?;
-    emit_by(code, own.group, Operation::Add, k, s)?;
+    emit_by(code, lanes.group, Operation::Add, k, s)?;
     Ok(())
 }

@@ -13,7 +13,7 @@ use crate::points::{
     BufferRow, both_sums, dense_column, emit_distances, emit_gather, emit_point, emit_row,
     emit_scattered,
 };
-use crate::scalars::{emit_literal, emit_steady, first_moving, known_steady};
+use crate::scalars::{emit_invariant, emit_literal, first_varying, is_invariant_scalar};
 use crate::sums::emit_sum;
 use crate::vectorized::LaneSite;
 use loop_ir::expressions::Expr;
@@ -29,7 +29,7 @@ use task_code_scalar::layouts::BufferLayout;
 #[derive(Clone, Copy, Debug)]
 struct Spot {
     k: u8,
-    moving: u32,
+    varying: u32,
 }
 
 /// The next group, for an expression of which nothing is known, if there is one.
@@ -40,7 +40,7 @@ fn above(group: LaneGroup, k: u8) -> Result<Spot, CodeFault>
     if k + 1 < group.slots() {
         Ok(Spot {
             k: k + 1,
-            moving: 0,
+            varying: 0,
         })
     } else {
         Err(CodeFault::TooDeep)
@@ -66,18 +66,18 @@ fn emit_results(
     let k = spot.k;
     let first = a.get();
     let second = b.get();
-    let first_stays = known_steady(first, site.lanes.counter, spot.moving);
-    let moving = u32::from(first_stays);
-    if takes_second(*operation) && known_steady(second, site.lanes.counter, moving) {
+    let first_stays = is_invariant_scalar(first, site.lanes.counter, spot.varying);
+    let varying = u32::from(first_stays);
+    if takes_second(*operation) && is_invariant_scalar(second, site.lanes.counter, varying) {
         emit_at(alloc, code, site, first, spot)?;
-        let s = emit_steady(alloc, code, site, second)?;
+        let s = emit_invariant(alloc, code, site, second)?;
         emit_by(code, site.lanes.group, *operation, k, s)?;
         return Ok(());
     }
     if takes_first(*operation) && first_stays {
-        let beside = Spot { k, moving };
+        let beside = Spot { k, varying };
         emit_at(alloc, code, site, second, beside)?;
-        let s = emit_steady(alloc, code, site, first)?;
+        let s = emit_invariant(alloc, code, site, first)?;
         emit_swapped(code, site.lanes.group, *operation, k, s)?;
         return Ok(());
     }
@@ -108,9 +108,9 @@ fn emit_both(
     if is_swapped(first, second, site.lanes, k) {
         let beside = Spot {
             k: next.k,
-            moving: spot.moving,
+            varying: spot.varying,
         };
-        emit_at(alloc, code, site, second, Spot { k, moving: 0 })?;
+        emit_at(alloc, code, site, second, Spot { k, varying: 0 })?;
         emit_at(alloc, code, site, first, beside)?;
         emit_two_swapped(code, site.lanes.group, *operation, k)?;
         return Ok(());
@@ -229,9 +229,9 @@ fn emit_one_first(
     let last = above(site.lanes.group, next.k)?;
     let beside = Spot {
         k: next.k,
-        moving: spot.moving,
+        varying: spot.varying,
     };
-    emit_at(alloc, code, site, a.get(), Spot { k, moving: 0 })?;
+    emit_at(alloc, code, site, a.get(), Spot { k, varying: 0 })?;
     emit_at(alloc, code, site, condition.get(), beside)?;
     emit_at(alloc, code, site, b.get(), last)?;
     emit_choice(code, site.lanes.group, k, next.k, k, last.k)?;
@@ -259,9 +259,9 @@ fn emit_other_first(
     let last = above(site.lanes.group, next.k)?;
     let beside = Spot {
         k: next.k,
-        moving: spot.moving,
+        varying: spot.varying,
     };
-    emit_at(alloc, code, site, b.get(), Spot { k, moving: 0 })?;
+    emit_at(alloc, code, site, b.get(), Spot { k, varying: 0 })?;
     emit_at(alloc, code, site, condition.get(), beside)?;
     emit_at(alloc, code, site, a.get(), last)?;
     emit_choice(code, site.lanes.group, k, next.k, last.k, k)?;
@@ -314,7 +314,7 @@ fn emit_pixels(
         emit_point(alloc, code, site, at, &sums, k)?;
         return Ok(());
     }
-    if known_steady(y.get(), site.lanes.counter, 0) {
+    if is_invariant_scalar(y.get(), site.lanes.counter, 0) {
         let row = BufferRow {
             source: at,
             y: y.get(),
@@ -348,13 +348,13 @@ fn emit_at(
         site.now.lanes spot.k e.now) }
 {
     let k = spot.k;
-    if known_steady(e, site.lanes.counter, spot.moving) {
-        let s = emit_steady(alloc, code, site, e)?;
+    if is_invariant_scalar(e, site.lanes.counter, spot.varying) {
+        let s = emit_invariant(alloc, code, site, e)?;
         spread(code, site.lanes.group.slot(k), s)?;
         return Ok(());
     }
-    let moving = first_moving(e, site.lanes.counter, spot.moving);
-    let within = Spot { k, moving };
+    let varying = first_varying(e, site.lanes.counter, spot.varying);
+    let within = Spot { k, varying };
     match e {
         Expr::Number(_) => Err(CodeFault::TooDeep),
         Expr::Linear(sum) => {
@@ -400,7 +400,7 @@ pub fn emit_lanes(
     ensures { OnOk result (MakesLanes code.old.items code.new.items site.now.places.now site.now.scope.now
         site.now.lanes k e.now) }
 {
-    emit_at(alloc, code, site, e, Spot { k, moving: 0 })?;
+    emit_at(alloc, code, site, e, Spot { k, varying: 0 })?;
     Ok(())
 }
 

@@ -1,4 +1,4 @@
-//! Which loop has lanes, and what stands around its code.
+//! Which loop has lanes, and what is around its code.
 
 use loop_ir::expressions::Counter;
 use task_code_lanes::groups::LaneGroup;
@@ -12,7 +12,7 @@ pub struct VectorLanes {
     pub group: LaneGroup,
 }
 
-/// What stands around code over lanes: where all buffers lie, which registers hold which forms in the first iteration,
+/// What is around code over lanes: where all buffers lie, which registers hold which forms in the first iteration,
 /// and which loop has the lanes.
 #[derive(Clone, Copy)]
 pub struct LaneSite<'a> {

@@ -23,6 +23,6 @@ byte-small text m a are =
     (rest-small _) (are (a - data_start))
 
 module _ (w : World) (m : List ℕ) (l : length m ≡ w.size) (group : LaneGroup) (n : ℕ) (k : ℕ) (lies : SlotLies group k) where
-  module _ (place : BufferLayout) (bytes : place.pixels ≡ pixels.Bytes) (x y pixel : ℕ → ℕ) (can : (i : ℕ) → i < n → LoadsAt w place m (x i) (y i) (pixel i)) where
+  module _ (layout : BufferLayout) (bytes : layout.pixels ≡ pixels.Bytes) (x y pixel : ℕ → ℕ) (can : (i : ℕ) → i < n → LoadsAt w layout m (x i) (y i) (pixel i)) where
     abbrev a : ℕ → ℕ
-    a i = place.start + place.distance * w.hart + 1 * (y i * place.width + x i)
+    a i = layout.start + layout.distance * w.hart + 1 * (y i * layout.width + x i)

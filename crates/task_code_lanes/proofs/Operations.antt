@@ -19,7 +19,7 @@ use Rattle.task_code_lanes.specs.Lanes.{flagged, compared}
 use Rattle.task_code_lanes.proofs.Slots.{SlotLies}
 use Rattle.task_code_lanes.proofs.Rows.{Writes, Lanes, Leaves, writes, writes-lanes, few-lanes, last, slot-first}
 
--- a mask bit stands where a lane of a register after v31 would
+-- a mask bit is where a lane of a register after v31 would
 pub bit-is : (i : ℕ) → bit i ≡ lane 32 i
 bit-is i = omega arith
 

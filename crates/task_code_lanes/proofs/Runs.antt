@@ -54,7 +54,7 @@ same a b t = grind (arith, nat_tests)
 is-same : (a b c d e f : ℕ) → b ≡ a → d ≡ c → f ≡ e → (a == b && (c == d && e == f)) ≡ true
 is-same a b c d e f p q r = grind (arith, nat_tests)
 
--- one of so many turns fails
+-- one of this many turns fails
 record Fails (n : ℕ) (test : ℕ → Bool) : Type 0 where
   iteration : ℕ
   below : iteration < n
@@ -117,7 +117,8 @@ module _ (other reads : Reads) (func x y : ℕ) (expected : Values → Bool) whe
       inside = with counter (whole_value whole values) values
 
       inner : Tells reads func x y expected body (with counter (whole_value whole values) values)
-      inner = told (sym (ap (λ (own : LoopLanes). own.is_one_store) (lanes_bind other counter whole extent body))
+      inner = told (sym (ap (λ (own_loop_lanes : LoopLanes). own_loop_lanes.is_one_store)
+          (lanes_bind other counter whole extent body))
           ∙ one) (with counter (whole_value whole values) values)
 
       missed : (t : Bool) → (if t then is_sound reads (all_but (point_of func x y)) all_points body (with counter (whole_value whole values) values) else true)
@@ -133,9 +134,9 @@ module _ (other reads : Reads) (func x y : ℕ) (expected : Values → Bool) whe
   by-layer : (X : Type 0) (part : X → Stmt) → ((p : X) → Told (part p)) → (l : Stmt-F X) → Told (roll-Stmt (map-Stmt X Stmt part l))
   by-layer X part told (layer.Store store) = subst Told (sym (rolls-Store store)) (at-store store)
   by-layer X part told (layer.Sequence a b) = subst Told (sym (rolls-Sequence (part a) (part b)))
-      (λ one. absurd (true≢false (sym one ∙ ap (λ (own : LoopLanes). own.is_one_store) (lanes_sequence other (part a) (part b)))))
+      (λ one. absurd (true≢false (sym one ∙ ap (λ (own_loop_lanes : LoopLanes). own_loop_lanes.is_one_store) (lanes_sequence other (part a) (part b)))))
   by-layer X part told (layer.For counter count kind a) = subst Told (sym (rolls-For counter count kind (part a)))
-      (λ one. absurd (true≢false (sym one ∙ ap (λ (own : LoopLanes). own.is_one_store) (lanes_of_loop other counter count kind (part a)))))
+      (λ one. absurd (true≢false (sym one ∙ ap (λ (own_loop_lanes : LoopLanes). own_loop_lanes.is_one_store) (lanes_of_loop other counter count kind (part a)))))
   by-layer X part told (layer.Bind counter whole extent a) = subst Told (sym (rolls-Bind counter whole extent (part a))) (at-bind counter whole extent (part a)
       (told a))
 
@@ -154,13 +155,13 @@ StoreNone own n func = (x y : ℕ) → HitBy own n func x y → ⊥
 
 -- In the buffer of each Func that is stored in runs they store nothing, or a run.
 abbrev pub StoreRuns : Setting → Values → (ℕ → Option Effect) → ℕ → Type 0
-StoreRuns own outside effects n = (func : ℕ) → own.in_runs func ≡ true → StoreNone effects n func ⊎ StoreARun (λ x y. own.run func x y outside) effects n func
+StoreRuns setting outside effects n = (func : ℕ) → setting.in_runs func ≡ true → StoreNone effects n func ⊎ StoreARun (λ x y. setting.run func x y outside) effects n func
 
-module _ (own : Setting) (outside : Values) where
+module _ (setting : Setting) (outside : Values) where
   -- other lanes that store at the same points
   pub same-runs : (a b : ℕ → Option Effect) (n m : ℕ) → ((func x y : ℕ) → HitBy b m func x y → HitBy a n func x y) → ((func x y : ℕ) → HitBy a n func x y
       → HitBy b m func x y)
-      → StoreRuns own outside a n → StoreRuns own outside b m
+      → StoreRuns setting outside a n → StoreRuns setting outside b m
   same-runs a b n m back on stored func is = elim (stored func is) [
     | inl none ↦ inl (λ x y hit. none x y (back func x y hit))
     | inr run ↦ inr (record { each = λ x y hit. run.each x y (back func x y hit); all = λ x y t. on func x y (run.all x y t) })
@@ -170,7 +171,7 @@ module _ (own : Setting) (outside : Values) where
 
   abbrev of_some : Effect → Option Effect → Effect
   of_some other None = other
-  of_some other (Some own) = own
+  of_some other (Some setting) = setting
 
   module _ (reads : Reads) (store : Store) (at : ℕ → Values) (n : ℕ) where
     abbrev pixels : ℕ → Option Effect
@@ -193,7 +194,7 @@ module _ (own : Setting) (outside : Values) where
         let e : stored_at h.lane ≡ h.stored = ap (of_some h.stored) (sym (effect_store reads store (at h.lane)) ∙ h.is) in
         record { number = h.lane; below = h.below; x_is = ap (λ (e : Effect). e.x) e ∙ h.x_is; y_is = ap (λ (e : Effect). e.y) e ∙ h.y_is }
 
-    pub pixels-are-run : 1 ≤ n → StoreRuns own outside pixels n → own.in_runs store.func ≡ true → AreRun own n store.func x y
+    pub pixels-are-run : 1 ≤ n → StoreRuns setting outside pixels n → setting.in_runs store.func ≡ true → AreRun setting n store.func x y
     pixels-are-run some stored is = elim (stored store.func is) [
       | inl none ↦ absurd (none (x 0) (y 0) (hit 0 some))
       | inr run ↦ record { values = outside; each = λ k b. run.each (x k) (y k) (hit k b); all = λ a b t. among a b (run.all a b t) }
@@ -202,24 +203,24 @@ module _ (own : Setting) (outside : Values) where
 -- ---- a loop
 
 -- a lane stores at the point
-record HitAt (own : Option Effect) (func x y : ℕ) : Type 0 where
+record HitAt (own_effect : Option Effect) (func x y : ℕ) : Type 0 where
   stored : Effect
-  is : own ≡ Some stored
+  is : own_effect ≡ Some stored
   func_is : stored.func ≡ func
   x_is : stored.x ≡ x
   y_is : stored.y ≡ y
 
-hit-at : (func x y : ℕ) (own : Option Effect) → is_at func x y own ≡ true → HitAt own func x y
+hit-at : (func x y : ℕ) (own_effect : Option Effect) → is_at func x y own_effect ≡ true → HitAt own_effect func x y
 hit-at func x y None t = absurd (true≢false (sym t))
-hit-at func x y (Some own) t =
-    let k = and_parts (func == own.func) _ t in
-    let j = and_parts (x == own.x) (y == own.y) k.1 in
-    record { stored = own; is = refl; func_is = same func own.func k.0; x_is = same x own.x j.0; y_is = same y own.y j.1 }
+hit-at func x y (Some own_effect) t =
+    let k = and_parts (func == own_effect.func) _ t in
+    let j = and_parts (x == own_effect.x) (y == own_effect.y) k.1 in
+    record { stored = own_effect; is = refl; func_is = same func own_effect.func k.0; x_is = same x own_effect.x j.0; y_is = same y own_effect.y j.1 }
 
-module _ (own : Setting) (counter : Counter) (count : ℕ) (body : Stmt) (values : Values) (sure : RunsIn own (s.For counter count Vectorized body) values)
+module _ (setting : Setting) (counter : Counter) (count : ℕ) (body : Stmt) (values : Values) (sure : RunsIn setting (s.For counter count Vectorized body) values)
     (other : Reads) (one : (loop_lanes other body).is_one_store ≡ true) (funcs : Planes) (words : AreWords funcs) where
   abbrev reads : Reads
-  reads = reads_of own.inputs funcs
+  reads = reads_of setting.inputs funcs
 
   abbrev at : ℕ → Values
   at k = with counter k values
@@ -227,32 +228,32 @@ module _ (own : Setting) (counter : Counter) (count : ℕ) (body : Stmt) (values
   abbrev effects : ℕ → Option Effect
   effects k = effect reads body (at k)
 
-  module _ (func : ℕ) (is : own.in_runs func ≡ true) where
+  module _ (func : ℕ) (is : setting.in_runs func ≡ true) where
     abbrev parts : ℕ → ℕ → Runs
-    parts x y = runs reads func x y (own.run func x y) body
+    parts x y = runs reads func x y (setting.run func x y) body
 
-    told : (x y k : ℕ) → Tells reads func x y (own.run func x y) body (at k)
-    told x y k = all-told other reads func x y (own.run func x y) body one (at k)
+    told : (x y k : ℕ) → Tells reads func x y (setting.run func x y) body (at k)
+    told x y k = all-told other reads func x y (setting.run func x y) body one (at k)
 
     missing : (x y k : ℕ) → (parts x y).misses (at k) ≡ not (is_at func x y (effects k))
-    missing x y k = runs_miss reads func x y (own.run func x y) body (at k) ∙ (told x y k).misses
+    missing x y k = runs_miss reads func x y (setting.run func x y) body (at k) ∙ (told x y k).misses
 
     is-hit : (x y : ℕ) (hit : HitBy effects count func x y) → is_at func x y (effects hit.lane) ≡ true
     is-hit x y hit = ap (is_at func x y) hit.is ∙ is-same func hit.stored.func x hit.stored.x y hit.stored.y hit.func_is hit.x_is hit.y_is
 
     -- the loop is the Func's own
-    its-own : ((x y : ℕ) → are_same (every count (λ lane. (parts x y).misses (at lane))) (not (own.run func x y values)) ≡ true)
-        → StoreARun (λ x y. own.run func x y values) effects count func
+    its-own : ((x y : ℕ) → are_same (every count (λ lane. (parts x y).misses (at lane))) (not (setting.run func x y values)) ≡ true)
+        → StoreARun (λ x y. setting.run func x y values) effects count func
     its-own facts = record {
-      each = λ x y hit. by-run x y hit (own.run func x y values) refl;
+      each = λ x y hit. by-run x y hit (setting.run func x y values) refl;
       all =
           λ x y t. found x y (one-fails count (λ lane. (parts x y).misses (at lane)) (tests x y ∙ ap not t));
     }
       where
-        tests : (x y : ℕ) → every count (λ lane. (parts x y).misses (at lane)) ≡ not (own.run func x y values)
-        tests x y = same-tests (every count (λ lane. (parts x y).misses (at lane))) (not (own.run func x y values)) (facts x y)
+        tests : (x y : ℕ) → every count (λ lane. (parts x y).misses (at lane)) ≡ not (setting.run func x y values)
+        tests x y = same-tests (every count (λ lane. (parts x y).misses (at lane))) (not (setting.run func x y values)) (facts x y)
 
-        by-run : (x y : ℕ) → HitBy effects count func x y → (t : Bool) → own.run func x y values ≡ t → own.run func x y values ≡ true
+        by-run : (x y : ℕ) → HitBy effects count func x y → (t : Bool) → setting.run func x y values ≡ t → setting.run func x y values ≡ true
         by-run x y hit true e = e
         by-run x y hit false e =
             let m = each-iteration count (λ lane. (parts x y).misses (at lane)) (tests x y ∙ ap not e) hit.lane hit.below in
@@ -270,15 +271,15 @@ module _ (own : Setting) (counter : Counter) (count : ℕ) (body : Stmt) (values
         true≢false (sym (is-hit x y hit) ∙ (told x y hit.lane).avoids a)
 
     by-counter : (t : Bool)
-        → ((x y : ℕ) → (if t then are_same (every count (λ lane. (parts x y).misses (at lane))) (not (own.run func x y values)) else every count
+        → ((x y : ℕ) → (if t then are_same (every count (λ lane. (parts x y).misses (at lane))) (not (setting.run func x y values)) else every count
         (λ iteration. (parts x y).are_runs (at iteration))) ≡ true)
-        → StoreNone effects count func ⊎ StoreARun (λ x y. own.run func x y values) effects count func
+        → StoreNone effects count func ⊎ StoreARun (λ x y. setting.run func x y values) effects count func
     by-counter true facts = inr (its-own facts)
     by-counter false facts = inl (another facts)
 
   -- the lanes of a loop in which the Func's points are stored in runs
-  pub loop-runs : StoreRuns own values effects count
+  pub loop-runs : StoreRuns setting values effects count
   loop-runs func is =
       by-counter func is (counter.func == func)
-      (λ x y. sym (ap (λ (r : Runs). r.are_runs values) (runs_for reads func x y (own.run func x y) counter count Vectorized body))
+      (λ x y. sym (ap (λ (r : Runs). r.are_runs values) (runs_for reads func x y (setting.run func x y) counter count Vectorized body))
       ∙ sure funcs words func is x y)

@@ -52,7 +52,7 @@ spare-is groups.One = record { some = omega arith; fits = omega arith; placed = 
 spare-is groups.Two = record { some = omega arith; fits = omega arith; placed = omega arith }
 spare-is groups.Four = record { some = omega arith; fits = omega arith; placed = omega arith }
 
--- the scratch group stands right below the stack
+-- the scratch group is right below the stack
 pub spare-next : (group : LaneGroup) → spare group + registers group ≡ slot group 0
 spare-next groups.One = refl
 spare-next groups.Two = refl

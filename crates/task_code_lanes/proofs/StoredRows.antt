@@ -52,21 +52,21 @@ lanes-same memory (suc n) a x y same =
 
 -- ---- addresses of a row
 
-module _ (own : Setting) (good : IsSetting own) (func n : ℕ) (few : n ≤ 16) (x y v : ℕ → ℕ)
-    (can : (k : ℕ) → k < n → own.written func (x k) (y k) ≡ true) (small : (k : ℕ) → k < n → v k < 2 ^ 32) where
+module _ (setting : Setting) (good : IsSetting setting) (func n : ℕ) (few : n ≤ 16) (x y v : ℕ → ℕ)
+    (can : (k : ℕ) → k < n → setting.written func (x k) (y k) ≡ true) (small : (k : ℕ) → k < n → v k < 2 ^ 32) where
   abbrev w : World
-  w = own.world
+  w = setting.world
 
   abbrev pub spot : ℕ → ℕ
-  spot k = address_of w own.places (func_point func (x k) (y k))
+  spot k = address_of w setting.places (func_point func (x k) (y k))
 
   abbrev pub own_effect : ℕ → Option Effect
   own_effect k = Some (record { func = func; x = x k; y = y k; pixel = v k })
 
-  pub may : (k : ℕ) → k < n → MayStore w own.places func (x k) (y k)
+  pub may : (k : ℕ) → k < n → MayStore w setting.places func (x k) (y k)
   may k b = good.laid.stores func (x k) (y k) (can k b)
 
-  pub all-writable : (own.in_runs func ≡ true → AreRun own n func x y) → AllWritable w Word n spot
+  pub all-writable : (setting.in_runs func ≡ true → AreRun setting n func x y) → AllWritable w Word n spot
   all-writable are_run = record {
     aligned = λ k b. (may k b).may.aligned;
     above = λ k b. (may k b).may.above;
@@ -75,22 +75,22 @@ module _ (own : Setting) (good : IsSetting own) (func n : ℕ) (few : n ≤ 16) 
     keeps = good.at_once n func x y can are_run;
   }
 
-  -- ---- what memory holds after so many of them
+  -- ---- what memory holds after this many of them
 
   pub record Row (k : ℕ) (memory : List ℕ) (funcs : Planes) : Type 0 where
-    pub holds : HoldsFuncs own (stored_lanes memory Word k spot v) (laid own.points own_effect k funcs)
-    pub elsewhere : (byte : ℕ) → IsElsewhere w own.places own.written byte → byte_at w.text (stored_lanes memory Word k spot v) byte
+    pub holds : HoldsFuncs setting (stored_lanes memory Word k spot v) (laid setting.points own_effect k funcs)
+    pub elsewhere : (byte : ℕ) → IsElsewhere w setting.places setting.written byte → byte_at w.text (stored_lanes memory Word k spot v) byte
         ≡ byte_at w.text memory byte
     pub are_bytes : AreBytes memory → AreBytes (stored_lanes memory Word k spot v)
 
   abbrev Holds-in : List ℕ → Planes → Type 0
-  Holds-in z p = Holds w own.places own.loaded z (reads_of own.inputs p)
+  Holds-in z p = Holds w setting.places setting.loaded z (reads_of setting.inputs p)
 
   one-more : (k : ℕ) → k < n → (memory : List ℕ) (funcs : Planes) → Row k memory funcs → Row (suc k) memory funcs
   unfolding iterated
   one-more k b memory funcs so_far =
       let m = stored_lanes memory Word k spot v in
-      let p = laid own.points own_effect k funcs in
+      let p = laid setting.points own_effect k funcs in
       let h = so_far.holds in
       let is = can k b in
       let e = sym (stored-is m (spot k) (v k)) in
@@ -98,22 +98,22 @@ module _ (own : Setting) (good : IsSetting own) (func n : ℕ) (few : n ≤ 16) 
         holds = record {
           size = ap length (sym e) ∙ size-stays m (spot k) (v k) ∙ h.size;
           are_bytes = subst AreBytes e (bytes-stay m (spot k) (v k) h.are_bytes);
-          are_words = words-put own.points func (x k) (y k) (v k) p h.are_words (small k b);
-          holds = subst (λ z. Holds-in z (laid own.points own_effect (suc k) funcs)) e
-              (stored-holds w own.places own.written own.loaded good.laid own.points own.inputs p m func (x k) (y k) (v k) is (good.have func (x k) (y k) is)
+          are_words = words-put setting.points func (x k) (y k) (v k) p h.are_words (small k b);
+          holds = subst (λ z. Holds-in z (laid setting.points own_effect (suc k) funcs)) e
+              (stored-holds w setting.places setting.written setting.loaded good.laid setting.points setting.inputs p m func (x k) (y k) (v k) is (good.have func (x k) (y k) is)
               h.size (small k b) h.holds);
         };
         elsewhere = λ byte other.
-            ap (λ z. byte_at w.text z byte) (sym e) ∙ others-stay w own.places own.written own.loaded good.laid m func (x k) (y k) (v k) byte is other
+            ap (λ z. byte_at w.text z byte) (sym e) ∙ others-stay w setting.places setting.written setting.loaded good.laid m func (x k) (y k) (v k) byte is other
             ∙ so_far.elsewhere byte other;
         are_bytes = λ are. subst AreBytes e (bytes-stay m (spot k) (v k) (so_far.are_bytes are));
       }
 
-  pub row-holds : (k : ℕ) → k ≤ n → (memory : List ℕ) (funcs : Planes) → HoldsFuncs own memory funcs → Row k memory funcs
+  pub row-holds : (k : ℕ) → k ≤ n → (memory : List ℕ) (funcs : Planes) → HoldsFuncs setting memory funcs → Row k memory funcs
   unfolding iterated
   row-holds zero few-so memory funcs holds = record { holds = holds; elsewhere = λ byte other. refl; are_bytes = λ are. are }
   row-holds (suc k) few-so memory funcs holds = one-more k few-so memory funcs (row-holds k (omega (arith, few-so)) memory funcs holds)
 
   -- every byte of one of them is written
-  pub row-touched : (k byte : ℕ) → k < n → IsOf w own.places func (x k) (y k) byte → is_in byte (touched (accesses_to Word n spot)) ≡ true
+  pub row-touched : (k byte : ℕ) → k < n → IsOf w setting.places func (x k) (y k) byte → is_in byte (touched (accesses_to Word n spot)) ≡ true
   row-touched k byte b of = in-places 0 n spot k byte (omega arith) (omega (arith, b)) of.above of.below

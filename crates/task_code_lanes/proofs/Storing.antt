@@ -27,9 +27,9 @@ same : (m n : ℕ) → (m == n) ≡ true → m ≡ n
 same m n u = grind (arith, nat_tests)
 
 -- what is stored, at the point
-pub record StoredAt (own : Option Effect) (func x y : ℕ) : Type 0 where
+pub record StoredAt (own_effect : Option Effect) (func x y : ℕ) : Type 0 where
   pub stored : Effect
-  pub is : own ≡ Some stored
+  pub is : own_effect ≡ Some stored
   pub func_is : stored.func ≡ func
   pub x_is : stored.x ≡ x
   pub y_is : stored.y ≡ y
@@ -61,16 +61,16 @@ module _ (points : Points) (inputs : Planes) (func x y : ℕ) (reads : Reads) wh
     where
       by-test : (t : Bool) → (if t then hit points inputs func x y body (with counter (whole_value whole values) values) funcs else false) ≡ true
           → StoredAt (cond t (effect (reads_of inputs funcs) body (with counter (whole_value whole values) values)) None) func x y
-      by-test true k = stores (sym (ap (λ (own : LoopLanes). own.is_one_store) (lanes_bind reads counter whole extent body))
+      by-test true k = stores (sym (ap (λ (own_loop_lanes : LoopLanes). own_loop_lanes.is_one_store) (lanes_bind reads counter whole extent body))
           ∙ is) (with counter (whole_value whole values) values) funcs k
       by-test false k = absurd (true≢false (sym k))
 
   by-layer : (X : Type 0) (part : X → Stmt) → ((p : X) → Stores (part p)) → (l : Stmt-F X) → Stores (roll-Stmt (map-Stmt X Stmt part l))
   by-layer X part stores (layer.Store store) = subst Stores (sym (rolls-Store store)) (at-store store)
   by-layer X part stores (layer.Sequence a b) = subst Stores (sym (rolls-Sequence (part a) (part b)))
-      (λ is. absurd (true≢false (sym is ∙ ap (λ (own : LoopLanes). own.is_one_store) (lanes_sequence reads (part a) (part b)))))
+      (λ is. absurd (true≢false (sym is ∙ ap (λ (own_loop_lanes : LoopLanes). own_loop_lanes.is_one_store) (lanes_sequence reads (part a) (part b)))))
   by-layer X part stores (layer.For counter count kind a) = subst Stores (sym (rolls-For counter count kind (part a)))
-      (λ is. absurd (true≢false (sym is ∙ ap (λ (own : LoopLanes). own.is_one_store) (lanes_of_loop reads counter count kind (part a)))))
+      (λ is. absurd (true≢false (sym is ∙ ap (λ (own_loop_lanes : LoopLanes). own_loop_lanes.is_one_store) (lanes_of_loop reads counter count kind (part a)))))
   by-layer X part stores (layer.Bind counter whole extent a) = subst Stores (sym (rolls-Bind counter whole extent (part a))) (at-bind counter whole extent
       (part a) (stores a))
 

@@ -2,7 +2,7 @@
 --
 -- v0 holds masks, each used before the next is made. A group is scratch, and those after it are the stack of an expression over lanes, or the
 -- pixels, addresses and lane numbers of a loop that collects its pixels. Where a group is four registers, scratch is the one that begins at v0:
--- no mask stands while it is used.
+-- no mask is while it is used.
 -- RISC-V Vector Extension 1.0, section 3.4 "Vector type register, vtype" for the bits of a configuration. What groups are for is this
 -- project's own.
 use Rattle.std.specs.Prelude.{ℕ, ◌+◌, ◌*◌, ◌==◌, if◌then◌else◌, Option, Some, None}

@@ -1,4 +1,4 @@
--- What code over lanes leaves, wherever it stands: a number for each iteration of a loop. This project's own.
+-- What code over lanes leaves, wherever it is: a number for each iteration of a loop. This project's own.
 use Rattle.std.specs.Prelude.{◌≡◌, ◌<◌, ◌≤◌, ◌⊎◌, ℕ, List}
 use Rattle.rv_insn.specs.declared.instructions.Insn.{Insn}
 use Rattle.multi_hart_laws.specs.Alone.{World}

@@ -17,7 +17,7 @@ pub enum LaneGroup {
 }
 
 impl LaneGroup {
-    /// The group with so many lanes, if there is one.
+    /// The group with this many lanes, if there is one.
     pub fn of_lanes(count: u32) -> Option<LaneGroup>
         ensures { result ≡ spec.group_of_lanes count }
     {

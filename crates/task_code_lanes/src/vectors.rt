@@ -464,7 +464,7 @@ pub fn configure_one(code: &mut Vec<u32>) -> Result<(), AllocError>
     Ok(())
 }
 
-/// Appends a configuration of so many lanes as a register says, at most as many as a group has.
+/// Appends a configuration of this many lanes as a register says, at most as many as a group has.
 pub fn configure(code: &mut Vec<u32>, group: LaneGroup, r: u8) -> Result<(), AllocError>
     requires { r < 32 }
     ensures { OnOk result (Emits code.old.items code.new.items (Vector (v.Vsetvli 0 r (spec.vtype_of group)) ∷ [])) }

@@ -18,7 +18,7 @@ use Rattle.task_code_registers.specs.Holding.{mentions, can_advance}
 use Rattle.task_code_registers.specs.Registers.{may_hold}
 use Rattle.task_code_registers.specs.Scopes.{Knows, form_value, has_variable, is_variable}
 use Rattle.task_code_registers.specs.Strides.{has_counter}
-use Rattle.task_code_registers.proofs.Striding.{form-steady}
+use Rattle.task_code_registers.proofs.Striding.{form-loop_invariant}
 use Rattle.task_code_loops.specs.Beginning.{variable, number}
 
 -- ---- loop variables are themselves
@@ -40,8 +40,8 @@ same_id-self (ids.Inner a) = itself a
 pub same_counter-self : (a : Counter) → same_counter a a ≡ true
 same_counter-self a = and_from (a.func == a.func) (same_id a.id a.id) (itself a.func) (same_id-self a.id)
 
-pub stands-at : (own : Counter) (v : ℕ) (values : Values) → with own v values own ≡ v
-stands-at own v values = ap (λ t. if t then v else values own) (same_counter-self own)
+pub stands-at : (counter : Counter) (v : ℕ) (values : Values) → with counter v values counter ≡ v
+stands-at counter v values = ap (λ t. if t then v else values counter) (same_counter-self counter)
 
 -- ---- values of forms
 
@@ -61,20 +61,23 @@ if-parts : (a b : Bool) → (if a then true else b) ≡ false → (a ≡ false) 
 if-parts true b e = absurd (true≢false e)
 if-parts false b e = (refl, e)
 
--- know the same wherever it stands
+-- know the same wherever it is
 pub knows-with : (counter : Counter) (v hart : ℕ) (scope : List Held) (values : Values) (f : ℕ → ℕ) → mentions counter scope ≡ false
     → Knows hart scope values f → Knows hart scope (with counter v values) f
 knows-with counter v hart [] values f none k = k
 knows-with counter v hart (own ∷ others) values f none k =
-    let e = if-parts (has_counter counter own.form.sum.terms) (mentions counter others) none in
-    (k.0 ∙ sym (form-steady counter v hart values own.form e.0), knows-with counter v hart others values f e.1 k.1)
+    let e = if-parts (has_counter counter own.form.sum.terms) (mentions counter others) none in (
+      k.0 ∙ sym (form-loop_invariant counter v hart values own.form e.0),
+      knows-with counter v hart others values f e.1
+          k.1,
+    )
 
 pub knows-without : (counter : Counter) (v hart : ℕ) (scope : List Held) (values : Values) (f : ℕ → ℕ) → mentions counter scope ≡ false
     → Knows hart scope (with counter v values) f → Knows hart scope values f
 knows-without counter v hart [] values f none k = k
 knows-without counter v hart (own ∷ others) values f none k =
     let e = if-parts (has_counter counter own.form.sum.terms) (mentions counter others) none in
-    (k.0 ∙ form-steady counter v hart values own.form e.0, knows-without counter v hart others values f e.1 k.1)
+    (k.0 ∙ form-loop_invariant counter v hart values own.form e.0, knows-without counter v hart others values f e.1 k.1)
 
 -- and needn't go along with it
 pub can-unmentioned : (counter : Counter) (scope : List Held) → mentions counter scope ≡ false → can_advance counter scope ≡ true
@@ -83,10 +86,10 @@ can-unmentioned counter (own ∷ others) none =
     let e = if-parts (has_counter counter own.form.sum.terms) (mentions counter others) none in
     ap (λ t. (not t || may_hold own.register) && can_advance counter others) e.0 ∙ can-unmentioned counter others e.1
 
-pub can-added : (counter : Counter) (own : Held) (others : List Held) → may_hold own.register ≡ true → can_advance counter others ≡ true
-    → can_advance counter (own ∷ others) ≡ true
-can-added counter own others may can =
-    let t = has_counter counter own.form.sum.terms in
+pub can-added : (counter : Counter) (held : Held) (others : List Held) → may_hold held.register ≡ true → can_advance counter others ≡ true
+    → can_advance counter (held ∷ others) ≡ true
+can-added counter held others may can =
+    let t = has_counter counter held.form.sum.terms in
     ap (λ m. (not t || m) && can_advance counter others) may ∙ ap (λ b. b && can_advance counter others) (either t) ∙ can
   where
     either : (t : Bool) → (not t || true) ≡ true
@@ -107,10 +110,10 @@ variable-more counter (own ∷ others) scope has = by-test (may_hold own.registe
     by-test true h = refl
     by-test false h = h
 
--- the variable itself stands there
-pub variable-there : (counter : Counter) (own : Held) (others : List Held) → may_hold own.register ≡ true → own.form ≡ variable counter
-    → has_variable (own ∷ others) counter ≡ true
-variable-there counter own others may is =
-    ap (λ m. if m && is_variable counter own.form then true else has_variable others counter) may
+-- the variable itself is there
+pub variable-there : (counter : Counter) (held : Held) (others : List Held) → may_hold held.register ≡ true → held.form ≡ variable counter
+    → has_variable (held ∷ others) counter ≡ true
+variable-there counter held others may is =
+    ap (λ m. if m && is_variable counter held.form then true else has_variable others counter) may
     ∙ ap (λ (form : AffineForm). if is_variable counter form then true else has_variable others counter) is
     ∙ ap (λ s. if s && true then true else has_variable others counter) (same_counter-self counter)

@@ -16,7 +16,7 @@ use Rattle.task_code_scalar.specs.Fitting.{total}
 use Rattle.task_code_scalar.proofs.Looping.{end-length}
 use Rattle.task_code_scalar.proofs.Spelling.{emits_then}
 use Rattle.task_code_registers.specs.declared.scopes.Held.{Held}
-use Rattle.task_code_registers.specs.Holding.{Advances, Enters, IsSteady, mentions, moving}
+use Rattle.task_code_registers.specs.Holding.{Advances, Enters, IsLoopInvariant, mentions, varying}
 use Rattle.task_code_registers.specs.Registers.{scratch, second_scratch}
 use Rattle.task_code_registers.specs.Scopes.{Knows, AreHolders, IsKept}
 use Rattle.task_code_registers.proofs.Advancing.{scopes-stay}
@@ -38,14 +38,14 @@ is-above : (a b : ℕ) → a ≡ b → nat_lt a b ≡ false
 is-above a b e = grind (arith, nat_tests, e)
 
 -- a register that stays is no scratch register
-steady-apart : (counter : Counter) (inner : List Held) (q : ℕ) → IsSteady counter inner q → (q ≢ scratch) × (q ≢ second_scratch)
-steady-apart counter [] q steady = steady
-steady-apart counter (own ∷ others) q steady = steady-apart counter others q steady.1
+loop_invariant-apart : (counter : Counter) (inner : List Held) (q : ℕ) → IsLoopInvariant counter inner q → (q ≢ scratch) × (q ≢ second_scratch)
+loop_invariant-apart counter [] q loop_invariant = loop_invariant
+loop_invariant-apart counter (own ∷ others) q loop_invariant = loop_invariant-apart counter others q loop_invariant.1
 
 -- ---- after the body
 
 module _ (begun : BegunLoop) (c0 c1 c2 c3 : List ℕ) (limit start words : ℕ) (ends : CanEnd begun)
-    (x : Advances c0 c1 (3 * moving begun.counter begun.inner.items) begun.counter begun.inner.items)
+    (x : Advances c0 c1 (3 * varying begun.counter begun.inner.items) begun.counter begun.inner.items)
     (y : MakesLimit c1 c2 begun.limit limit) (z : GoesBack c2 c3 begun.register limit words) (behind : start ≤ length c0)
     (over : words ≡ length c2 - start) where
   abbrev counter : Counter
@@ -88,7 +88,7 @@ module _ (begun : BegunLoop) (c0 c1 c2 c3 : List ℕ) (limit start words : ℕ) 
     last at s = stand-back w.text (end at body) moves z.insns (stand-back w.text at body tail s)
 
     advanced : (i : ℕ) (f : ℕ → ℕ) (memory : List ℕ) → i < count → length memory ≡ w.size → Knows hart inner (with counter i values) f
-        → Advanced w (IsSteady counter inner) (Knows hart inner (with counter (suc i) values)) count body tail i (cost i) f memory
+        → Advanced w (IsLoopInvariant counter inner) (Knows hart inner (with counter (suc i) values)) count body tail i (cost i) f memory
     advanced i f memory less size knows =
         let a = x.does w memory hart values i f size holders knows in
         let next = with counter (suc i) values in
@@ -102,7 +102,8 @@ module _ (begun : BegunLoop) (c0 c1 c2 c3 : List ℕ) (limit start words : ℕ) 
         ∙ ap (is_taken branches.Bne (a.after begun.register)) b.value ∙ test.differs hart i values a.after less a.mark in
         record {
           after = b.after;
-          keeps = λ q steady. let t = steady-apart counter inner q steady in b.others q t.0 t.1 ∙ a.keeps q steady;
+          keeps = λ q loop_invariant. let t = loop_invariant-apart counter inner q loop_invariant in b.others q t.0 t.1
+              ∙ a.keeps q loop_invariant;
           mark = knows-still hart inner next a.after b.after kept a.mark;
           again = λ more at s.
               let e : length moves + z.back_cost ≡ cost i =
@@ -129,7 +130,7 @@ module _ (begun : BegunLoop) (c0 c1 c2 c3 : List ℕ) (limit start words : ℕ) 
     insns = tail;
     emits = emits_then (emits_then x.emits y.emits) z.emits;
     short =
-        let k = moving counter inner in
+        let k = varying counter inner in
         let s = short-then x.insns y.insns (3 * k) 2 (3 * k + 2) x.short y.short (omega arith) in
         short-then moves z.insns (3 * k + 2) 2 (end_words begun) s z.short (omega arith);
     cost = cost;
@@ -148,9 +149,9 @@ module _ (begun : BegunLoop) (c0 c1 c2 c3 : List ℕ) (limit start words : ℕ) 
 
 -- ---- lengths
 
--- what makes the next iteration's numbers has so many words
+-- what makes the next iteration's numbers has this many words
 module _ (begun : BegunLoop) (c0 c1 c2 : List ℕ) (limit start count : ℕ)
-    (x : Advances c0 c1 (3 * moving begun.counter begun.inner.items) begun.counter begun.inner.items) (y : MakesLimit c1 c2 begun.limit limit)
+    (x : Advances c0 c1 (3 * varying begun.counter begun.inner.items) begun.counter begun.inner.items) (y : MakesLimit c1 c2 begun.limit limit)
     (behind : start ≤ length c0) (is : count ≡ length c2) where
   longer : (length c0 ≤ count) × (count + 2 ≤ length c0 + end_words begun)
   longer =

@@ -1,4 +1,4 @@
--- What stands after a body: limits, ways back, and all of it.
+-- What is after a body: limits, ways back, and all of it.
 use Rattle.std.proofs.Common.{◌≡◌, ℕ, ◌+◌, ◌*◌, ◌<◌, ◌≤◌, List, [], ◌∷◌, length, Bool, true, false}
 use Rattle.std.proofs.Common.{refl, ap, ◌∙◌, sym, subst, arith, length-append}
 use Rattle.std.specs.Prelude.{◌==◌, not, pos}

@@ -16,7 +16,7 @@ use Rattle.task_code_registers.specs.Points.{times}
 use Rattle.task_code_registers.specs.Scopes.{form_value}
 use Rattle.task_code_registers.specs.Strides.{has_counter}
 use Rattle.task_code_registers.proofs.Knowing.{others-are}
-use Rattle.task_code_registers.proofs.Striding.{linear-steady}
+use Rattle.task_code_registers.proofs.Striding.{linear-loop_invariant}
 use Rattle.task_code_registers.proofs.Variables.{same_counter-true}
 use Rattle.task_code_loops.specs.declared.known.KnownSum.{KnownSum}
 use Rattle.task_code_loops.specs.Known.{AreKnown, IsRewritten, IsRewrittenSum, is_fresh, KnownStays, OneMoreIsKnown}
@@ -97,11 +97,11 @@ other-term values old new term et en =
 
 -- ---- all of them
 
-pub no-terms : (values : Values) (made : Linear) (terms : List Term) → length terms < 1
-    → linear_value values made ≡ (linear_value values made + sum_of values terms) % 2 ^ 32
+pub no-terms : (values : Values) (new_sum : Linear) (terms : List Term) → length terms < 1
+    → linear_value values new_sum ≡ (linear_value values new_sum + sum_of values terms) % 2 ^ 32
 unfolding linear_value
-no-terms values made [] none = let n = made.number + sum_of values made.terms in let g : n % 2 ^ 32 ≡ (n % 2 ^ 32 + 0) % 2 ^ 32 = omega arith in g
-no-terms values made (first ∷ others) none = absurd (omega (arith, none))
+no-terms values new_sum [] none = let n = new_sum.number + sum_of values new_sum.terms in let g : n % 2 ^ 32 ≡ (n % 2 ^ 32 + 0) % 2 ^ 32 = omega arith in g
+no-terms values new_sum (first ∷ others) none = absurd (omega (arith, none))
 
 pub more-terms : (values : Values) (old middle new : Linear) (terms : List Term) (first other : Term) → 1 ≤ length terms → first ≡ get_or terms 0 other
     → linear_value values middle ≡ (linear_value values old + values first.counter * first.stride) % 2 ^ 32
@@ -116,22 +116,23 @@ more-terms values old middle new terms first other some is x y =
     y ∙ ap (λ n. (n + r) % 2 ^ 32) x ∙ g
     ∙ ap (λ ts. (a + sum_of values ts) % 2 ^ 32) (ap (λ t. t ∷ rest) is ∙ sym (others-are terms other some))
 
-pub sum-rewritten : (known : List KnownSum) (own made start : Linear) → start.number ≡ own.number → start.terms ≡ []
-    → ((values : Values) → AreKnown known values → linear_value values made ≡ (linear_value values start + sum_of values own.terms) % 2 ^ 32)
-    → IsRewrittenSum known own made
+pub sum-rewritten : (known : List KnownSum) (new_sum made start : Linear) → start.number ≡ new_sum.number
+    → start.terms ≡ []
+    → ((values : Values) → AreKnown known values → linear_value values made ≡ (linear_value values start + sum_of values new_sum.terms) % 2 ^ 32)
+    → IsRewrittenSum known new_sum made
 unfolding linear_value
-sum-rewritten known own made start en et go values are =
-    let n = own.number in
-    let s = sum_of values own.terms in
+sum-rewritten known new_sum made start en et go values are =
+    let n = new_sum.number in
+    let s = sum_of values new_sum.terms in
     let g : ((n + 0) % 2 ^ 32 + s) % 2 ^ 32 ≡ (n + s) % 2 ^ 32 = omega arith in
     go values are ∙ ap (λ k. ((k + sum_of values start.terms) % 2 ^ 32 + s) % 2 ^ 32) en
     ∙ ap (λ ts. ((n + sum_of values ts) % 2 ^ 32 + s) % 2 ^ 32) et ∙ g
 
-pub form-rewritten : (known : List KnownSum) (form made : AffineForm) → made.per_hart ≡ form.per_hart → IsRewrittenSum known form.sum made.sum
-    → IsRewritten known form made
+pub form-rewritten : (known : List KnownSum) (form affine_form : AffineForm) → affine_form.per_hart ≡ form.per_hart → IsRewrittenSum known form.sum affine_form.sum
+    → IsRewritten known form affine_form
 unfolding form_value
-form-rewritten known form made eh same hart values are =
-    ap (λ k. (linear_value values made.sum + hart * k) % 2 ^ 32) eh ∙ ap (λ k. (k + hart * form.per_hart) % 2 ^ 32) (same values are)
+form-rewritten known form affine_form eh same hart values are =
+    ap (λ k. (linear_value values affine_form.sum + hart * k) % 2 ^ 32) eh ∙ ap (λ k. (k + hart * form.per_hart) % 2 ^ 32) (same values are)
 
 -- ---- what stays known
 
@@ -145,10 +146,10 @@ known-stays counter v [] values fresh are = tt
 known-stays counter v (own ∷ others) values fresh are =
     let each = and_parts (not (same_counter own.counter counter || has_counter counter own.sum.terms)) (is_fresh counter others) fresh in
     let apart = or-parts (same_counter own.counter counter) (has_counter counter own.sum.terms) each.0 in (
-      ap (λ t. (if t then v else values own.counter) % 2 ^ 32) apart.0 ∙ are.0 ∙ sym (linear-steady counter v values own.sum apart.1),
+      ap (λ t. (if t then v else values own.counter) % 2 ^ 32) apart.0 ∙ are.0 ∙ sym (linear-loop_invariant counter v values own.sum apart.1),
       known-stays counter v others values each.1 are.1,
     )
 
 pub one-more-is-known : OneMoreIsKnown
 one-more-is-known counter v sum known values fresh none e are =
-    (ap (λ n. n % 2 ^ 32) (stands-at counter v values) ∙ e ∙ sym (linear-steady counter v values sum none), known-stays counter v known values fresh are)
+    (ap (λ n. n % 2 ^ 32) (stands-at counter v values) ∙ e ∙ sym (linear-loop_invariant counter v values sum none), known-stays counter v known values fresh are)

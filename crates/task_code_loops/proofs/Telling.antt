@@ -11,7 +11,7 @@ use Rattle.loop_ir.specs.Counters.{with}
 use Rattle.task_code_registers.specs.declared.scopes.AffineForm.{AffineForm}
 use Rattle.task_code_registers.specs.declared.scopes.Held.{Held}
 use Rattle.task_code_registers.specs.Emitting.{base_words, sum_words}
-use Rattle.task_code_registers.specs.Holding.{Enters, Extends, Takes, IsAt, can_advance, mentions, moving}
+use Rattle.task_code_registers.specs.Holding.{Enters, Extends, Takes, IsAt, can_advance, mentions, varying}
 use Rattle.task_code_registers.specs.Looping as looping
 use Rattle.task_code_registers.specs.Registers.{may_hold}
 use Rattle.task_code_registers.specs.Scopes.{Knows, are_registers, form_value, has_variable, left_count}
@@ -121,8 +121,8 @@ module _ (counter : Counter) (count : ℕ) (scope : List Held) (reserved : ℕ) 
         ap (mentions other) x.is ∙ ap (λ (g : AffineForm). if has_counter other g.sum.terms then true else mentions other scope) ef
         ∙ ap (λ t. if (if t then true else false) then true else mentions other scope) apart;
     registers = λ are. ap are_registers x.is ∙ ap (λ m. m && are_registers scope) x.may ∙ are;
-    moves = subst (λ k. moving counter k ≤ suc (moving counter scope)) (sym x.is)
-        (one-at-most (has_counter counter form.sum.terms) (moving counter scope));
+    moves = subst (λ k. varying counter k ≤ suc (varying counter scope)) (sym x.is)
+        (one-at-most (has_counter counter form.sum.terms) (varying counter scope));
   }
 
   pub tests-form : (form limit : AffineForm) (first first' inner : List Held) (a b : ℕ) (c0 c1 c2 : List ℕ) → first' ≡ first → IsAt counter count form limit
@@ -213,10 +213,10 @@ betters-none counter reserved tested c0 c1 e = record {
   plain = λ whole plain. plain;
 }
 
-pub betters-held : (counter : Counter) (reserved n b : ℕ) (tested made : Tested) (form : AffineForm) (scope' inner : List Held) (c0 c1 : List ℕ)
+pub betters-held : (counter : Counter) (reserved n b : ℕ) (tested new_tested : Tested) (form : AffineForm) (scope' inner : List Held) (c0 c1 : List ℕ)
     → tested.limit ≡ Number n → form ≡ number n → scope' ≡ tested.scope.items → Takes c0 c1 counter scope' form reserved b inner
-    → made.scope.items ≡ inner → made.register ≡ tested.register → made.limit ≡ Register b → Betters c0 c1 6 counter reserved tested made
-betters-held counter reserved n b tested made form scope' inner c0 c1 en ef es x' ei er el =
+    → new_tested.scope.items ≡ inner → new_tested.register ≡ tested.register → new_tested.limit ≡ Register b → Betters c0 c1 6 counter reserved tested new_tested
+betters-held counter reserved n b tested new_tested form scope' inner c0 c1 en ef es x' ei er el =
     let scope = tested.scope.items in
     let x = subst (λ k. Takes c0 c1 counter k form reserved b inner) es x' in
     let s : inner ≡ record { register = b; form = number n } ∷ scope = x.is ∙ ap (λ (g : AffineForm). record { register = b; form = g } ∷ scope) ef in
@@ -231,15 +231,16 @@ betters-held counter reserved n b tested made form scope' inner c0 c1 en ef es x
       test = λ count test.
           let small = ltb-true n (2 ^ 32) (sym (ap may_be_limit en) ∙ test.limit_may) in
           let held = test-held counter count n b tested.register scope small x.may (subst (λ o. IsTest counter count scope tested.register o) en test) in
-          subst (λ k. IsTest counter count k made.register made.limit) (sym (ei ∙ s))
-          (subst (λ q. IsTest counter count (record { register = b; form = number n } ∷ scope) q made.limit) (sym er)
+          subst (λ k. IsTest counter count k new_tested.register new_tested.limit) (sym (ei ∙ s))
+          (subst (λ q. IsTest counter count (record { register = b; form = number n } ∷ scope) q new_tested.limit)
+          (sym er)
           (subst (λ o. IsTest counter count (record { register = b; form = number n } ∷ scope) tested.register o) (sym el) held));
       plain = λ whole plain. record {
         variable = subst (λ k. has_variable k counter ≡ true) (sym (ei ∙ s))
             (variable-more counter (record { register = b; form = number n } ∷ []) scope plain.variable);
         others = λ other apart. ap (mentions other) (ei ∙ s) ∙ plain.others other apart;
         registers = λ are. ap are_registers (ei ∙ s) ∙ ap (λ m. m && are_registers scope) x.may ∙ plain.registers are;
-        moves = subst (λ k. moving counter k ≤ suc (moving counter whole)) (sym (ei ∙ s)) plain.moves;
+        moves = subst (λ k. varying counter k ≤ suc (varying counter whole)) (sym (ei ∙ s)) plain.moves;
       };
     }
 

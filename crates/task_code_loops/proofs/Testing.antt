@@ -39,7 +39,7 @@ lt-not a c l = grind (arith, nat_tests)
 not-below : (a c : ℕ) → nat_lt a c ≡ false → c ≤ a
 not-below a c e = elim (cases_lt a c) [ inl l ↦ absurd (true≢false (sym (lt-is a c l) ∙ e)) | inr h ↦ h ]
 
--- what stands somewhere ends where a word may begin
+-- what is somewhere ends where a word may begin
 behind : (text : List ℕ) (at : ℕ) (is : List Insn) → Stand text at is → Spot (end at is)
 behind text at [] s = s
 behind text at (i ∷ is) s = behind text (at + 4) is s.1
@@ -148,42 +148,42 @@ module _ (scope : List Held) (form : AffineForm) (extent : ℕ) (body : List Ins
               (forth-to (from + 4) (length body + 1) to g o.low) o.aligned)));
         }
 
-  module _ (own : Setting) (hart : ℕ) (values : Values) (t : ℕ) (left : Planes) (stored : Points) (f : ℕ → ℕ) (memory : List ℕ) (funcs : Planes)
-      (holders : AreHolders scope) (holds : HoldsFuncs own memory funcs) (knows : Knows hart scope values f) where
+  module _ (setting : Setting) (hart : ℕ) (values : Values) (t : ℕ) (left : Planes) (stored : Points) (f : ℕ → ℕ) (memory : List ℕ) (funcs : Planes)
+      (holders : AreHolders scope) (holds : HoldsFuncs setting memory funcs) (knows : Knows hart scope values f) where
     abbrev value : ℕ
     value = form_value hart values form
 
-    same : (to : ℕ → ℕ) (n : ℕ) (c : Comes own.world whole to n f memory) (q : ℕ) → IsKept scope q → c.after q ≡ f q
+    same : (to : ℕ → ℕ) (n : ℕ) (c : Comes setting.world whole to n f memory) (q : ℕ) → IsKept scope q → c.after q ≡ f q
     same to n c q h =
         let s = kept-apart scope q holders h in
         c.keeps q s.0 s.1 (λ e. working-free scope address_register holders (inl (omega arith, omega arith)) q h e)
 
-    done : (c : Comes own.world whole (λ at. end at entry) (length front + 1) f memory) → Did own body t c.after memory (IsKept scope) left stored
-        → Did own whole (length front + 1 + t) f memory (IsKept scope) left stored
+    done : (c : Comes setting.world whole (λ at. end at entry) (length front + 1) f memory) → Did setting body t c.after memory (IsKept scope) left stored
+        → Did setting whole (length front + 1 + t) f memory (IsKept scope) left stored
     done c d =
         let marked = marked-did (IsKept scope) (IsKept scope) (λ g. Unit {0}) (λ q h. h) (λ g same. tt) d in
-        let one : Went own whole (λ at. at) (λ at. end at entry) (length front + 1) f memory (IsKept scope) funcs no_hits =
-        still own (λ at. at) (λ at. end at entry) (length front + 1) c.after holds (same (λ at. end at entry) (length front + 1) c) c.path in
-        let two : Went own whole (λ at. end at entry) (λ at. end at whole) t c.after memory (IsKept scope) left (points_hit stored) =
-        within own (λ at. end at entry) (λ at. end at whole)
-        (λ at s. stand-back own.world.text at entry body (subst (Stand own.world.text at) entry-body s))
+        let one : Went setting whole (λ at. at) (λ at. end at entry) (length front + 1) f memory (IsKept scope) funcs no_hits =
+        still setting (λ at. at) (λ at. end at entry) (length front + 1) c.after holds (same (λ at. end at entry) (length front + 1) c) c.path in
+        let two : Went setting whole (λ at. end at entry) (λ at. end at whole) t c.after memory (IsKept scope) left (points_hit stored) =
+        within setting (λ at. end at entry) (λ at. end at whole)
+        (λ at s. stand-back setting.world.text at entry body (subst (Stand setting.world.text at) entry-body s))
         (λ at. sym (end-append at entry body) ∙ sym (ap (end at) entry-body)) marked.went in
-        did-went (went-hits own (λ func i k hit. inr hit) (went-then own one two))
+        did-went (went-hits setting (λ func i k hit. inr hit) (went-then setting one two))
 
-    passed : (c : Comes own.world whole (λ at. end at whole) (length front + 2) f memory)
-        → Did own whole (length front + 2) f memory (IsKept scope) funcs (stored_if false stored)
+    passed : (c : Comes setting.world whole (λ at. end at whole) (length front + 2) f memory)
+        → Did setting whole (length front + 2) f memory (IsKept scope) funcs (stored_if false stored)
     passed c =
-        did-went (went-hits own (λ func i k hit. absurd (true≢false (sym hit)))
-        (still own (λ at. at) (λ at. end at whole) (length front + 2) c.after holds (same (λ at. end at whole) (length front + 2) c) c.path))
+        did-went (went-hits setting (λ func i k hit. absurd (true≢false (sym hit)))
+        (still setting (λ at. at) (λ at. end at whole) (length front + 2) c.after holds (same (λ at. end at whole) (length front + 2) c) c.path))
 
-    by-cases : (value < extent → (g : ℕ → ℕ) → Knows hart scope values g → Did own body t g memory (IsKept scope) left stored) → (test : Bool)
-        → nat_lt value extent ≡ test → Did own whole (if test then length front + 1 + t else length front + 2) f memory (IsKept scope)
+    by-cases : (value < extent → (g : ℕ → ℕ) → Knows hart scope values g → Did setting body t g memory (IsKept scope) left stored) → (test : Bool)
+        → nat_lt value extent ≡ test → Did setting whole (if test then length front + 1 + t else length front + 2) f memory (IsKept scope)
         (if test then left else funcs) (stored_if test stored)
     by-cases go true is =
         let less = ltb-true value extent is in
-        let c = enters own.world hart values f memory holders holds.size knows less in
+        let c = enters setting.world hart values f memory holders holds.size knows less in
         done c (go less c.after (knows-still hart scope values f c.after (same (λ at. end at entry) (length front + 1) c) knows))
-    by-cases go false is = passed (passes own.world hart values f memory holders holds.size knows (not-below value extent is))
+    by-cases go false is = passed (passes setting.world hart values f memory holders holds.size knows (not-below value extent is))
 
   pub guards : Guards c0 c5 (sum_words form.per_hart form.sum.terms + 4) scope form extent body
   guards = record {
@@ -201,6 +201,6 @@ module _ (scope : List Held) (form : AffineForm) (extent : ℕ) (body : List Ins
     is = entry-body;
     enters = enters;
     passes = passes;
-    does = λ own hart values t left stored f memory funcs holders holds knows go.
-        by-cases own hart values t left stored f memory funcs holders holds knows go (nat_lt (form_value hart values form) extent) refl;
+    does = λ setting hart values t left stored f memory funcs holders holds knows go.
+        by-cases setting hart values t left stored f memory funcs holders holds knows go (nat_lt (form_value hart values form) extent) refl;
   }

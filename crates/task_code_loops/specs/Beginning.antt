@@ -1,4 +1,4 @@
--- What stands in front of a loop: forms that registers hold, and what tells after each iteration whether there is a next one.
+-- What is in front of a loop: forms that registers hold, and what tells after each iteration whether there is a next one.
 -- This project's own.
 use Rattle.std.specs.Prelude.{◌≡◌, ◌<◌, ◌≤◌, ℕ, suc, ◌+◌, ◌*◌, ◌^◌, nat_lt, Bool, true, false, List, [], ◌∷◌, Option, IfSome}
 use Rattle.rv_insn.specs.declared.operations.BranchOp.TheVariants as branches
@@ -8,7 +8,7 @@ use Rattle.loop_ir.specs.Counters.{Values, same_counter, with}
 use Rattle.task_code_registers.specs.declared.scopes.AffineForm.{AffineForm}
 use Rattle.task_code_registers.specs.declared.scopes.Held.{Held}
 use Rattle.task_code_registers.specs.Emitting.{MakesValue, sum_words}
-use Rattle.task_code_registers.specs.Holding.{Enters, Takes, can_advance, mentions, moving}
+use Rattle.task_code_registers.specs.Holding.{Enters, Takes, can_advance, mentions, varying}
 use Rattle.task_code_registers.specs.Registers.{may_hold}
 use Rattle.task_code_registers.specs.Scopes.{Knows, are_registers, has_variable, have_registers, left_count}
 use Rattle.task_code_loops.specs.declared.beginning.BegunLoop.{BegunLoop}
@@ -34,7 +34,7 @@ forms_words (form ∷ others) = sum_words form.per_hart form.sum.terms + forms_w
 
 -- a form's value is made in a register, if it says so
 abbrev pub MakesIf : List ℕ → List ℕ → List Held → AffineForm → ℕ → Bool → Type 0
-MakesIf old new scope form r made = made ≡ true → MakesValue old new scope form r
+MakesIf old new scope form r bool = bool ≡ true → MakesValue old new scope form r
 
 -- a loop variable of the form has no register
 abbrev pub HasNoRegister : List Held → AffineForm → Type 0
@@ -42,7 +42,7 @@ HasNoRegister scope form = have_registers scope form.sum.terms ≡ false
 
 -- or there is no code
 abbrev pub IsUnknownIf : List ℕ → List ℕ → List Held → AffineForm → Bool → Type 0
-IsUnknownIf old new scope form made = made ≡ false → (new ≡ old) × HasNoRegister scope form
+IsUnknownIf old new scope form bool = bool ≡ false → (new ≡ old) × HasNoRegister scope form
 
 -- ---- when a loop ends
 
@@ -70,11 +70,11 @@ pub record HoldsPlainly (counter : Counter) (scope inner : List Held) : Type 0 w
   pub variable : has_variable inner counter ≡ true
   pub others : (other : Counter) → same_counter counter other ≡ false → mentions other inner ≡ mentions other scope
   pub registers : are_registers scope ≡ true → are_registers inner ≡ true
-  pub moves : moving counter inner ≤ suc (moving counter scope)
+  pub moves : varying counter inner ≤ suc (varying counter scope)
 
 -- ---- before a loop
 
--- If a register is found, it is given to the form, as it is in the first iteration, and so many stay free.
+-- If a register is found, it is given to the form, as it is in the first iteration, and this many stay free.
 abbrev pub StartsIf : List ℕ → List ℕ → Counter → List Held → AffineForm → ℕ → Option ℕ → Type 0
 StartsIf old new counter scope form reserved found =
     IfSome found (λ r. Takes old new counter scope form reserved r (record { register = r; form = form } ∷ scope))
@@ -107,11 +107,11 @@ abbrev pub TestsForms : List ℕ → List ℕ → List AffineForm → Counter �
 TestsForms old new wanted counter count scope reserved tested = Tests old new (10 + 2 * forms_words wanted) counter count scope reserved tested
 
 -- Another scope, in which there is a test wherever there is one in this scope, and which holds no more than a limit beside it.
-pub record Betters (old new : List ℕ) (most : ℕ) (counter : Counter) (reserved : ℕ) (tested made : Tested) : Type 0 where
-  pub gains : Gains old new most counter reserved tested.scope.items made.scope.items
+pub record Betters (old new : List ℕ) (most : ℕ) (counter : Counter) (reserved : ℕ) (tested new_tested : Tested) : Type 0 where
+  pub gains : Gains old new most counter reserved tested.scope.items new_tested.scope.items
   pub test : (count : ℕ) → IsTest counter count tested.scope.items tested.register tested.limit
-      → IsTest counter count made.scope.items made.register made.limit
-  pub plain : (scope : List Held) → HoldsPlainly counter scope tested.scope.items → HoldsPlainly counter scope made.scope.items
+      → IsTest counter count new_tested.scope.items new_tested.register new_tested.limit
+  pub plain : (scope : List Held) → HoldsPlainly counter scope tested.scope.items → HoldsPlainly counter scope new_tested.scope.items
 
 -- how many instructions at most stand in front of a loop for which these forms are wanted
 abbrev pub begin_words : List AffineForm → ℕ
@@ -123,7 +123,7 @@ pub record CanEnd (begun : BegunLoop) : Type 0 where
   pub test : IsTest begun.counter begun.count begun.inner.items begun.register begun.limit
   pub some : 1 ≤ begun.count
 
--- A loop of so many iterations is entered, and so many registers are left.
+-- A loop of this many iterations is entered, and this many registers are left.
 pub record IsBegun (old new : List ℕ) (most : ℕ) (counter : Counter) (count : ℕ) (scope : List Held) (reserved : ℕ) (begun : BegunLoop) : Type 0 where
   pub enters : Enters old new most counter scope begun.inner.items
   pub ends : CanEnd begun

@@ -1,4 +1,4 @@
--- What stands after a loop's body, and what the whole loop does. This project's own.
+-- What is after a loop's body, and what the whole loop does. This project's own.
 use Rattle.std.specs.Prelude.{◌≡◌, ◌≢◌, ◌<◌, ◌≤◌, ℕ, suc, ◌+◌, ◌*◌, ◌-◌, false, true, List, ◌++◌, length}
 use Rattle.rv_insn.specs.declared.instructions.Insn.{Insn}
 use Rattle.rv_insn.specs.declared.operations.BranchOp.TheVariants as branches
@@ -15,7 +15,7 @@ use Rattle.task_code_scalar.specs.Fitting.{total}
 use Rattle.task_code_scalar.specs.Words.{Emits}
 use Rattle.task_code_registers.specs.declared.scopes.Held.{Held}
 use Rattle.task_code_registers.specs.Doing.{Did}
-use Rattle.task_code_registers.specs.Holding.{IsSteady, mentions, moving}
+use Rattle.task_code_registers.specs.Holding.{IsLoopInvariant, mentions, varying}
 use Rattle.task_code_registers.specs.Looping.{StoresOf}
 use Rattle.task_code_registers.specs.Registers.{zero_register, scratch, second_scratch}
 use Rattle.task_code_registers.specs.Scopes.{Knows, AreHolders, IsKept}
@@ -40,7 +40,7 @@ pub record MakesLimit (old new : List ℕ) (limit : Limit) (r : ℕ) : Type 0 wh
   pub low : r < 32
   pub does : (world : World) (memory : List ℕ) (f : ℕ → ℕ) → length memory ≡ world.size → f zero_register ≡ 0 → LeavesLimit world memory insns f limit r
 
--- At most two appended instructions go back over so many words where two registers differ, and else go on.
+-- At most two appended instructions go back over this many words where two registers differ, and else go on.
 pub record GoesBack (old new : List ℕ) (a b words : ℕ) : Type 0 where
   pub insns : List Insn
   pub emits : Emits old new insns
@@ -54,17 +54,17 @@ pub record GoesBack (old new : List ℕ) (a b words : ℕ) : Type 0 where
 
 -- ---- iterations
 
--- A body does each of so many iterations where registers hold a scope's forms, and keeps these registers.
-pub record DoesEach (own : Setting) (hart : ℕ) (inner : List Held) (counter : Counter) (values : Values) (n : ℕ) (body : List Insn)
+-- A body does each of this many iterations where registers hold a scope's forms, and keeps these registers.
+pub record DoesEach (setting : Setting) (hart : ℕ) (inner : List Held) (counter : Counter) (values : Values) (n : ℕ) (body : List Insn)
     (t : ℕ → ℕ) (one : ℕ → Planes → Planes) (body_stored : ℕ → Planes → Points) : Type 0 where
-  pub does : (i : ℕ) (f : ℕ → ℕ) (memory : List ℕ) (funcs : Planes) → i < n → HoldsFuncs own memory funcs → Knows hart inner (with counter i values) f
-      → Did own body (t i) f memory (IsKept inner) (one i funcs) (body_stored i funcs)
+  pub does : (i : ℕ) (f : ℕ → ℕ) (memory : List ℕ) (funcs : Planes) → i < n → HoldsFuncs setting memory funcs → Knows hart inner (with counter i values) f
+      → Did setting body (t i) f memory (IsKept inner) (one i funcs) (body_stored i funcs)
 
 -- registers of a scope that don't go along with a variable
 abbrev pub StaysIn : Counter → List Held → ℕ → Type 0
-StaysIn counter inner q = IsKept inner q × IsSteady counter inner q
+StaysIn counter inner q = IsKept inner q × IsLoopInvariant counter inner q
 
--- What stands after a body makes of the numbers of an iteration those of the next one, and goes back to the body if there is one, else on.
+-- What is after a body makes of the numbers of an iteration those of the next one, and goes back to the body if there is one, else on.
 pub record Advanced (world : World) (keeps_it : ℕ → Type 0) (mark_is : (ℕ → ℕ) → Type 0) (n : ℕ) (body tail : List Insn) (i cost : ℕ) (f : ℕ → ℕ)
     (memory : List ℕ) : Type 0 where
   pub after : ℕ → ℕ
@@ -75,9 +75,9 @@ pub record Advanced (world : World) (keeps_it : ℕ → Type 0) (mark_is : (ℕ 
 
 -- how many instructions at most stand after a body
 abbrev pub end_words : BegunLoop → ℕ
-end_words begun = 3 * moving begun.counter begun.inner.items + 4
+end_words begun = 3 * varying begun.counter begun.inner.items + 4
 
--- What is appended after a body of so many words makes a loop of it.
+-- What is appended after a body of this many words makes a loop of it.
 pub record EndsLoop (old new : List ℕ) (begun : BegunLoop) (words : ℕ) : Type 0 where
   pub insns : List Insn
   pub emits : Emits old new insns
@@ -86,19 +86,19 @@ pub record EndsLoop (old new : List ℕ) (begun : BegunLoop) (words : ℕ) : Typ
   -- whatever the body does beside
   pub advanced : (world : World) (hart : ℕ) (values : Values) (body : List Insn) (i : ℕ) (f : ℕ → ℕ) (memory : List ℕ) → length body ≡ words
       → AreHolders begun.inner.items → i < begun.count → length memory ≡ world.size → Knows hart begun.inner.items (with begun.counter i values) f
-      → Advanced world (IsSteady begun.counter begun.inner.items) (Knows hart begun.inner.items (with begun.counter (suc i) values)) begun.count body insns i
+      → Advanced world (IsLoopInvariant begun.counter begun.inner.items) (Knows hart begun.inner.items (with begun.counter (suc i) values)) begun.count body insns i
       (cost i) f memory
-  pub does : (own : Setting) (hart : ℕ) (values : Values) (body : List Insn) (t : ℕ → ℕ) (one : ℕ → Planes → Planes) (body_stored stored : ℕ → Planes → Points)
+  pub does : (setting : Setting) (hart : ℕ) (values : Values) (body : List Insn) (t : ℕ → ℕ) (one : ℕ → Planes → Planes) (body_stored stored : ℕ → Planes → Points)
       → length body ≡ words → AreHolders begun.inner.items
-      → DoesEach own hart begun.inner.items begun.counter values begun.count body t one body_stored → StoresOf stored body_stored one
-      → (f : ℕ → ℕ) (memory : List ℕ) (funcs : Planes) → HoldsFuncs own memory funcs → Knows hart begun.inner.items (with begun.counter 0 values) f
-      → Did own (body ++ insns) (total begun.count (λ i. t i + cost i)) f memory (StaysIn begun.counter begun.inner.items) (iterated begun.count one funcs)
+      → DoesEach setting hart begun.inner.items begun.counter values begun.count body t one body_stored → StoresOf stored body_stored one
+      → (f : ℕ → ℕ) (memory : List ℕ) (funcs : Planes) → HoldsFuncs setting memory funcs → Knows hart begun.inner.items (with begun.counter 0 values) f
+      → Did setting (body ++ insns) (total begun.count (λ i. t i + cost i)) f memory (StaysIn begun.counter begun.inner.items) (iterated begun.count one funcs)
       (stored begun.count funcs)
 
 -- ---- a whole loop
 
--- Appended code does the iterations of a loop one after the other, where its body does each of them. It takes so many turns before the first one,
--- and so many after each.
+-- Appended code does the iterations of a loop one after the other, where its body does each of them. It takes this many
+-- turns before the first one, and this many after each.
 pub record MakesLoop (old new : List ℕ) (most : ℕ) (scope inner : List Held) (counter : Counter) (count : ℕ) (body : List Insn) : Type 0 where
   pub insns : List Insn
   pub emits : Emits old new insns
@@ -106,10 +106,10 @@ pub record MakesLoop (old new : List ℕ) (most : ℕ) (scope inner : List Held)
   pub before : ℕ
   pub cost : ℕ → ℕ
   pub holders : AreHolders scope → AreHolders inner
-  pub does : (own : Setting) (hart : ℕ) (values : Values) (t : ℕ → ℕ) (one : ℕ → Planes → Planes) (body_stored stored : ℕ → Planes → Points)
-      → AreHolders scope → DoesEach own hart inner counter values count body t one body_stored → StoresOf stored body_stored one
-      → (f : ℕ → ℕ) (memory : List ℕ) (funcs : Planes) → HoldsFuncs own memory funcs → Knows hart scope values f
-      → Did own insns (before + total count (λ i. t i + cost i)) f memory (IsKept scope) (iterated count one funcs) (stored count funcs)
+  pub does : (setting : Setting) (hart : ℕ) (values : Values) (t : ℕ → ℕ) (one : ℕ → Planes → Planes) (body_stored stored : ℕ → Planes → Points)
+      → AreHolders scope → DoesEach setting hart inner counter values count body t one body_stored → StoresOf stored body_stored one
+      → (f : ℕ → ℕ) (memory : List ℕ) (funcs : Planes) → HoldsFuncs setting memory funcs → Knows hart scope values f
+      → Did setting insns (before + total count (λ i. t i + cost i)) f memory (IsKept scope) (iterated count one funcs) (stored count funcs)
 
 -- What is begun, and ended after its body, is a loop.
 abbrev pub LoopsAreMade : Type 0

@@ -25,7 +25,7 @@ use Rattle.task_code_registers.specs.Scopes.{Knows, AreHolders, IsKept, form_val
 abbrev pub stored_if : Bool → Points → Points
 stored_if test stored func x y = if test then stored func x y else false
 
--- The hart comes from where code stands to one of its addresses; the registers where numbers are compared may change.
+-- The hart comes from where code is to one of its addresses; the registers where numbers are compared may change.
 pub record Comes (world : World) (whole : List Insn) (to : ℕ → ℕ) (n : ℕ) (f : ℕ → ℕ) (memory : List ℕ) : Type 0 where
   pub after : ℕ → ℕ
   pub keeps : (q : ℕ) → q ≢ scratch → q ≢ second_scratch → q ≢ address_register → after q ≡ f q
@@ -38,17 +38,18 @@ pub record Guards (old new : List ℕ) (most : ℕ) (scope : List Held) (form : 
   pub short : length insns ≤ most + length body
   pub before : ℕ
   pub past : ℕ
-  -- where the body stands, and whatever it does
+  -- where the body is, and whatever it does
   pub front : List Insn
   pub is : insns ≡ front ++ body
   pub enters : (world : World) (hart : ℕ) (values : Values) (f : ℕ → ℕ) (memory : List ℕ) → AreHolders scope → length memory ≡ world.size
       → Knows hart scope values f → form_value hart values form < extent → Comes world insns (λ at. end at front) before f memory
   pub passes : (world : World) (hart : ℕ) (values : Values) (f : ℕ → ℕ) (memory : List ℕ) → AreHolders scope → length memory ≡ world.size
       → Knows hart scope values f → extent ≤ form_value hart values form → Comes world insns (λ at. end at insns) past f memory
-  pub does : (own : Setting) (hart : ℕ) (values : Values) (t : ℕ) (left : Planes) (stored : Points) (f : ℕ → ℕ) (memory : List ℕ) (funcs : Planes)
-      → AreHolders scope → HoldsFuncs own memory funcs → Knows hart scope values f
-      → (form_value hart values form < extent → (g : ℕ → ℕ) → Knows hart scope values g → Did own body t g memory (IsKept scope) left stored)
-      → Did own insns (if nat_lt (form_value hart values form) extent then before + t else past) f memory (IsKept scope)
+  pub does : (setting : Setting) (hart : ℕ) (values : Values) (t : ℕ) (left : Planes) (stored : Points) (f : ℕ → ℕ) (memory : List ℕ) (funcs : Planes)
+      → AreHolders scope → HoldsFuncs setting memory funcs → Knows hart scope values f
+      → (form_value hart values form < extent → (g : ℕ → ℕ) → Knows hart scope values g → Did setting body t g memory (IsKept scope) left stored)
+      → Did setting insns (if nat_lt (form_value hart values form) extent then before + t else past) f memory
+      (IsKept scope)
       (if nat_lt (form_value hart values form) extent then left else funcs) (stored_if (nat_lt (form_value hart values form) extent) stored)
 
 -- so it is of a body whose words were made apart
@@ -61,37 +62,39 @@ GuardsWords old new scope form extent words =
 -- Code does what it does where a scope's registers hold their forms, and keeps them.
 abbrev pub CodeFollows : Type 0
 CodeFollows =
-    (own : Setting) (hart : ℕ) (scope : List Held) (values : Values) (first second : List Insn) (n k : ℕ) (f : ℕ → ℕ) (memory : List ℕ)
-    (middle funcs : Planes) (stored one_stored other_stored : Points) → Knows hart scope values f → Did own first n f memory (IsKept scope) middle one_stored
-    → ((g : ℕ → ℕ) (left : List ℕ) → HoldsFuncs own left middle → Knows hart scope values g
-    → Did own second k g left (IsKept scope) funcs other_stored)
+    (setting : Setting) (hart : ℕ) (scope : List Held) (values : Values) (first second : List Insn) (n k : ℕ) (f : ℕ → ℕ) (memory : List ℕ)
+    (middle funcs : Planes) (stored one_stored other_stored : Points) → Knows hart scope values f → Did setting first n f memory (IsKept scope) middle one_stored
+    → ((g : ℕ → ℕ) (left : List ℕ) → HoldsFuncs setting left middle → Knows hart scope values g
+    → Did setting second k g left (IsKept scope) funcs other_stored)
     → ((func x y : ℕ) → stored func x y ≡ true → (one_stored func x y ≡ true) ⊎ (other_stored func x y ≡ true))
-    → Did own (first ++ second) (n + k) f memory (IsKept scope) funcs stored
+    → Did setting (first ++ second) (n + k) f memory (IsKept scope) funcs stored
 
 -- ---- iterations that are laid out, each with code of its own
 
--- Code does the first so many iterations, in which a scope's registers hold the same forms.
-pub record DoesFirst (own : Setting) (hart : ℕ) (scope : List Held) (values : Values) (k : ℕ) (code : List Insn) (n : ℕ)
+-- Code does the first this many iterations, in which a scope's registers hold the same forms.
+pub record DoesFirst (setting : Setting) (hart : ℕ) (scope : List Held) (values : Values) (k : ℕ) (code : List Insn)
+    (n : ℕ)
     (one : ℕ → Planes → Planes) (stored : ℕ → Planes → Points) : Type 0 where
-  pub does : (f : ℕ → ℕ) (memory : List ℕ) (funcs : Planes) → HoldsFuncs own memory funcs → Knows hart scope values f
-      → Did own code n f memory (IsKept scope) (iterated k one funcs) (stored k funcs)
+  pub does : (f : ℕ → ℕ) (memory : List ℕ) (funcs : Planes) → HoldsFuncs setting memory funcs
+      → Knows hart scope values f
+      → Did setting code n f memory (IsKept scope) (iterated k one funcs) (stored k funcs)
 
 -- no code does none, and code of one iteration after that of the ones before does one more
 abbrev pub NoneAreLaidOut : Type 0
 NoneAreLaidOut =
-    (own : Setting) (hart : ℕ) (scope : List Held) (values : Values) (one : ℕ → Planes → Planes) (body_stored stored : ℕ → Planes → Points)
-    → StoresOf stored body_stored one → DoesFirst own hart scope values 0 [] 0 one stored
+    (setting : Setting) (hart : ℕ) (scope : List Held) (values : Values) (one : ℕ → Planes → Planes) (body_stored stored : ℕ → Planes → Points)
+    → StoresOf stored body_stored one → DoesFirst setting hart scope values 0 [] 0 one stored
 
 abbrev pub OneMoreIsLaidOut : Type 0
 OneMoreIsLaidOut =
-    (own : Setting) (hart : ℕ) (scope : List Held) (counter : Counter) (values : Values) (k n t : ℕ) (code body : List Insn)
+    (setting : Setting) (hart : ℕ) (scope : List Held) (counter : Counter) (values : Values) (k n t : ℕ) (code body : List Insn)
     (one : ℕ → Planes → Planes) (body_stored stored : ℕ → Planes → Points) → mentions counter scope ≡ false → StoresOf stored body_stored one
-    → DoesFirst own hart scope values k code n one stored
-    → ((f : ℕ → ℕ) (memory : List ℕ) (funcs : Planes) → HoldsFuncs own memory funcs → Knows hart scope (with counter k values) f
-    → Did own body t f memory (IsKept scope) (one k funcs) (body_stored k funcs))
-    → DoesFirst own hart scope values (suc k) (code ++ body) (n + t) one stored
+    → DoesFirst setting hart scope values k code n one stored
+    → ((f : ℕ → ℕ) (memory : List ℕ) (funcs : Planes) → HoldsFuncs setting memory funcs → Knows hart scope (with counter k values) f
+    → Did setting body t f memory (IsKept scope) (one k funcs) (body_stored k funcs))
+    → DoesFirst setting hart scope values (suc k) (code ++ body) (n + t) one stored
 
--- a scope with no term of a variable knows the same wherever it stands
+-- a scope with no term of a variable knows the same wherever it is
 abbrev pub ScopesForget : Type 0
 ScopesForget =
     (counter : Counter) (v hart : ℕ) (scope : List Held) (values : Values) (f : ℕ → ℕ) → mentions counter scope ≡ false

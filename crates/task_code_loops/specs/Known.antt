@@ -30,23 +30,23 @@ AddsTerms known old new terms =
 
 -- a sum comes to the same as another one wherever these are known
 abbrev pub IsRewrittenSum : List KnownSum → Linear → Linear → Type 0
-IsRewrittenSum known own made = (values : Values) → AreKnown known values → linear_value values made ≡ linear_value values own
+IsRewrittenSum known sum new_sum = (values : Values) → AreKnown known values → linear_value values new_sum ≡ linear_value values sum
 
 -- a form is another one wherever these are known
 abbrev pub IsRewritten : List KnownSum → AffineForm → AffineForm → Type 0
-IsRewritten known form made = (hart : ℕ) (values : Values) → AreKnown known values → form_value hart values made ≡ form_value hart values form
+IsRewritten known form affine_form = (hart : ℕ) (values : Values) → AreKnown known values → form_value hart values affine_form ≡ form_value hart values form
 
 -- none of these is that variable, or a sum of it
 abbrev pub is_fresh : Counter → List KnownSum → Bool
 is_fresh counter [] = true
 is_fresh counter (own ∷ others) = not (same_counter own.counter counter || has_counter counter own.sum.terms) && is_fresh counter others
 
--- What is known stays so wherever such a variable stands.
+-- What is known stays so wherever such a variable is.
 abbrev pub KnownStays : Type 0
 KnownStays = (counter : Counter) (v : ℕ) (known : List KnownSum) (values : Values) → is_fresh counter known ≡ true → AreKnown known values
     → AreKnown known (with counter v values)
 
--- A variable that stands at the value of a sum without it is known beside the others.
+-- A variable that is at the value of a sum without it is known beside the others.
 abbrev pub OneMoreIsKnown : Type 0
 OneMoreIsKnown = (counter : Counter) (v : ℕ) (sum : Linear) (known : List KnownSum) (values : Values) → is_fresh counter known ≡ true
     → has_counter counter sum.terms ≡ false → v % 2 ^ 32 ≡ linear_value values sum → AreKnown known values

@@ -1,4 +1,4 @@
-//! What stands in front of a loop.
+//! What is in front of a loop.
 
 ghost use Rattle.std.specs.Prelude.{◌≡◌, [], ◌<◌, ◌≤◌, ◌^◌, IfErr, IfOk, false};
 ghost use Rattle.task_code_scalar.specs.Faults.{IsFault};
@@ -25,7 +25,6 @@ pub struct BegunLoop {
     pub limit: Limit,
 }
 
-/// Written out, so that a check sees a call wherever one is dropped, and not the drops of its parts.
 impl Drop for BegunLoop {
     fn drop(self) {
         let BegunLoop {
@@ -39,44 +38,44 @@ impl Drop for BegunLoop {
     }
 }
 
-/// Appends what stands in front of a loop of so many iterations: what holds these forms, as far as registers go with so
+/// Appends what is in front of a loop of this many iterations: what holds these forms, as far as registers go with so
 /// many left for what is inside, and what tells when the loop ends, the first of these forms that does, or else
 /// the loop variable. With no forms wanted it is held, and but for it no more than a number.
 ///
 /// # Errors
 ///
-/// Memory ran out, or no more than so many registers are left.
+/// Memory ran out, or no more than this many registers are left.
 pub fn begin_loop(
     alloc: Global,
     code: &mut Vec<u32>,
     scope: &[Held],
-    own: Bound,
+    bound: Bound,
     wanted: &[AffineForm],
     reserved: usize,
 ) -> Result<BegunLoop, CodeFault>
-    requires steady { mentions own.counter scope.now ≡ false }
-    requires some { 1 ≤ own.count }
+    requires loop_invariant { mentions bound.counter scope.now ≡ false }
+    requires some { 1 ≤ bound.count }
     requires few { reserved < 2 ^ 32 }
-    ensures ok { IfOk result (Begins code.old.items code.new.items wanted.now own.counter own.count scope.now
+    ensures ok { IfOk result (Begins code.old.items code.new.items wanted.now bound.counter bound.count scope.now
         reserved) }
-    ensures plain { wanted.now ≡ [] → IfOk result (λ begun. HoldsPlainly own.counter scope.now begun.inner.items) }
+    ensures plain { wanted.now ≡ [] → IfOk result (λ begun. HoldsPlainly bound.counter scope.now begun.inner.items) }
     ensures err { IfErr result (IsFault ⊥ (left_count scope.now ≤ reserved)) }
 {
     let Tested {
         scope: first,
         register,
         limit,
-    } = begin_test(alloc, code, scope, own, wanted, reserved)?;
-    let inner = hold_all(alloc, code, first, own.counter, wanted, reserved)?;
+    } = begin_test(alloc, code, scope, bound, wanted, reserved)?;
+    let inner = hold_all(alloc, code, first, bound.counter, wanted, reserved)?;
     let tested = Tested {
         scope: inner,
         register,
         limit,
     };
-    let last = hold_limit(alloc, code, tested, own.counter, reserved)?;
+    let last = hold_limit(alloc, code, tested, bound.counter, reserved)?;
     Ok(BegunLoop {
-        counter: own.counter,
-        count: own.count,
+        counter: bound.counter,
+        count: bound.count,
         inner: last.scope,
         register: last.register,
         limit: last.limit,

@@ -1,4 +1,4 @@
-//! What stands after a loop's body.
+//! What is after a loop's body.
 
 ghost use Rattle.std.specs.Prelude.{◌≡◌, ◌+◌, ◌*◌, ◌-◌, ◌^◌, ◌<◌, ◌≤◌, [], ◌∷◌, length};
 ghost use Rattle.std.specs.Prelude.{IfErr, IfOk, OnOk, pos, true};
@@ -38,7 +38,7 @@ fn emit_limit(code: &mut Vec<u32>, limit: Limit) -> Result<u8, AllocError>
     }
 }
 
-/// Appends a branch back by so many words, made where two registers differ.
+/// Appends a branch back by this many words, made where two registers differ.
 fn branch_back(code: &mut Vec<u32>, a: u8, b: u8, words: usize) -> Result<(), AllocError>
     requires { (a < 32) × (b < 32) × (1 ≤ words) × (words ≤ 1024) }
     ensures { OnOk result (Emits code.old.items code.new.items (Branch Bne a b (back words) ∷ [])) }
@@ -78,7 +78,7 @@ fn branch_over(code: &mut Vec<u32>, a: u8, b: u8) -> Result<(), AllocError>
     Ok(())
 }
 
-/// Appends what goes back over so many words where two registers differ: a branch, or, where it doesn't reach so far,
+/// Appends what goes back over this many words where two registers differ: a branch, or, where it doesn't reach so far,
 /// a branch over a jump.
 fn emit_back(code: &mut Vec<u32>, a: u8, b: u8, words: usize) -> Result<(), CodeFault>
     requires { (a < 32) × (b < 32) × (words ≤ 2 ^ 32) }
@@ -94,7 +94,7 @@ fn emit_back(code: &mut Vec<u32>, a: u8, b: u8, words: usize) -> Result<(), Code
     Ok(())
 }
 
-/// Appends what stands after the body of a loop, which begins at a place of the code: what makes of the forms of an
+/// Appends what is after the body of a loop, which begins at a place of the code: what makes of the forms of an
 /// iteration those of the next one, and the way back to the body while there is one.
 ///
 /// # Errors

@@ -29,8 +29,8 @@ fn sum_of(alloc: Global, e: &Expr) -> Result<Option<Linear>, AllocError> {
             Some(x) => match sum_of(alloc, b.get())? {
                 None => Ok(None),
                 Some(y) => {
-                    let found = combined(alloc, *operation, x, &y)?;
-                    Ok(found)
+                    let new_sum = combined(alloc, *operation, x, &y)?;
+                    Ok(new_sum)
                 }
             },
         },
@@ -81,27 +81,27 @@ fn count_point(
     source: Source,
     column: &SumIndex<'_>,
     row: &SumIndex<'_>,
-    found: &mut Vec<Use>,
+    uses: &mut Vec<Use>,
 ) -> Result<(), AllocError> {
     let place = place_of(places, source);
     let zero = Linear::of_number(alloc, 0);
     let form = point_form(alloc, &place, column.sum_or(&zero), row.sum_or(&zero))?;
-    count(found, form, 1)?;
+    count(uses, form, 1)?;
     Ok(())
 }
 
 /// Counts a number that has to stand in a register; 0 always does.
-fn count_number(alloc: Global, own: u32, found: &mut Vec<Use>) -> Result<(), AllocError> {
-    if own != 0 {
-        count(found, number(alloc, own), 1)?;
+fn count_number(alloc: Global, own_number: u32, uses: &mut Vec<Use>) -> Result<(), AllocError> {
+    if own_number != 0 {
+        count(uses, number(alloc, own_number), 1)?;
     }
     Ok(())
 }
 
 /// Counts a divisor, unless a shift divides by it.
-fn count_divisor(alloc: Global, divisor: u32, found: &mut Vec<Use>) -> Result<(), AllocError> {
+fn count_divisor(alloc: Global, divisor: u32, uses: &mut Vec<Use>) -> Result<(), AllocError> {
     if divisor.count_ones() != 1 {
-        count_number(alloc, divisor, found)?;
+        count_number(alloc, divisor, uses)?;
     }
     Ok(())
 }
@@ -127,16 +127,16 @@ fn is_immediate(width: Width, operation: Operation, e: &Expr) -> bool {
 }
 
 /// Counts a sum whose value is wanted.
-fn count_value(alloc: Global, own: Linear, found: &mut Vec<Use>) -> Result<(), AllocError> {
-    if own.terms.len() == 0 {
-        count_number(alloc, own.number, found)?;
+fn count_value(alloc: Global, new_sum: Linear, uses: &mut Vec<Use>) -> Result<(), AllocError> {
+    if new_sum.terms.len() == 0 {
+        count_number(alloc, new_sum.number, uses)?;
         return Ok(());
     }
     let form = AffineForm {
-        sum: own,
+        sum: new_sum,
         per_hart: 0,
     };
-    count(found, form, VALUE_USES)?;
+    count(uses, form, VALUE_USES)?;
     Ok(())
 }
 
@@ -147,10 +147,10 @@ fn gather_expr(
     places: &Places,
     width: Width,
     e: &Expr,
-    found: &mut Vec<Use>,
+    uses: &mut Vec<Use>,
 ) -> Result<(), AllocError> {
-    match gather_parts(alloc, places, width, e, found)? {
-        Some(own) => count_value(alloc, own, found)?,
+    match gather_parts(alloc, places, width, e, uses)? {
+        Some(own) => count_value(alloc, own, uses)?,
         None => {}
     }
     Ok(())
@@ -164,7 +164,7 @@ fn gather_parts(
     places: &Places,
     width: Width,
     e: &Expr,
-    found: &mut Vec<Use>,
+    uses: &mut Vec<Use>,
 ) -> Result<Option<Linear>, AllocError> {
     match e {
         Expr::Number(n) => Ok(Some(Linear::of_number(alloc, *n))),
@@ -173,29 +173,29 @@ fn gather_parts(
             Ok(Some(sum))
         }
         Expr::Binary(operation, a, b) => {
-            match gather_parts(alloc, places, width, a.get(), found)? {
-                Some(x) => gather_both(alloc, places, width, e, x, found),
+            match gather_parts(alloc, places, width, a.get(), uses)? {
+                Some(x) => gather_both(alloc, places, width, e, x, uses),
                 None => {
                     if !is_immediate(width, *operation, b.get()) {
-                        gather_expr(alloc, places, width, b.get(), found)?;
+                        gather_expr(alloc, places, width, b.get(), uses)?;
                     }
                     Ok(None)
                 }
             }
         }
         Expr::Divide(a, divisor) | Expr::Remainder(a, divisor) => {
-            gather_expr(alloc, places, width, a.get(), found)?;
-            count_divisor(alloc, *divisor, found)?;
+            gather_expr(alloc, places, width, a.get(), uses)?;
+            count_divisor(alloc, *divisor, uses)?;
             Ok(None)
         }
         Expr::Select(c, a, b) => {
-            gather_expr(alloc, places, width, c.get(), found)?;
-            gather_expr(alloc, places, width, a.get(), found)?;
-            gather_expr(alloc, places, width, b.get(), found)?;
+            gather_expr(alloc, places, width, c.get(), uses)?;
+            gather_expr(alloc, places, width, a.get(), uses)?;
+            gather_expr(alloc, places, width, b.get(), uses)?;
             Ok(None)
         }
         Expr::Load(_, _, _) => {
-            gather_load(alloc, places, width, e, found)?;
+            gather_load(alloc, places, width, e, uses)?;
             Ok(None)
         }
     }
@@ -208,7 +208,7 @@ fn gather_load(
     places: &Places,
     width: Width,
     e: &Expr,
-    found: &mut Vec<Use>,
+    uses: &mut Vec<Use>,
 ) -> Result<(), AllocError> {
     let Expr::Load(source, x, y) = e else {
         return Ok(());
@@ -216,12 +216,12 @@ fn gather_load(
     let column = SumIndex::of(alloc, x.get())?;
     let row = SumIndex::of(alloc, y.get())?;
     if !column.is_sum() {
-        gather_expr(alloc, places, width, x.get(), found)?;
+        gather_expr(alloc, places, width, x.get(), uses)?;
     }
     if !row.is_sum() {
-        gather_expr(alloc, places, width, y.get(), found)?;
+        gather_expr(alloc, places, width, y.get(), uses)?;
     }
-    count_point(alloc, places, *source, &column, &row, found)?;
+    count_point(alloc, places, *source, &column, &row, uses)?;
     Ok(())
 }
 
@@ -233,7 +233,7 @@ fn gather_both(
     width: Width,
     e: &Expr,
     x: Linear,
-    found: &mut Vec<Use>,
+    uses: &mut Vec<Use>,
 ) -> Result<Option<Linear>, AllocError> {
     let Expr::Binary(operation, _, b) = e else {
         drop(x);
@@ -243,16 +243,16 @@ fn gather_both(
         Some(y) => {
             let sum = combined(alloc, *operation, x.copy(alloc)?, &y)?;
             if sum.is_none() {
-                count_value(alloc, x, found)?;
+                count_value(alloc, x, uses)?;
                 if !is_immediate(width, *operation, b.get()) {
-                    count_value(alloc, y, found)?;
+                    count_value(alloc, y, uses)?;
                 }
             }
             Ok(sum)
         }
         None => {
-            count_value(alloc, x, found)?;
-            gather_expr(alloc, places, width, b.get(), found)?;
+            count_value(alloc, x, uses)?;
+            gather_expr(alloc, places, width, b.get(), uses)?;
             Ok(None)
         }
     }
@@ -268,12 +268,12 @@ pub(crate) fn gather_store(
     places: &Places,
     width: Width,
     store: &Store,
-    found: &mut Vec<Use>,
+    uses: &mut Vec<Use>,
 ) -> Result<(), AllocError> {
-    gather_expr(alloc, places, width, &store.value, found)?;
+    gather_expr(alloc, places, width, &store.value, uses)?;
     let source = Source::Func(store.func);
     let column = SumIndex::of(alloc, &store.x)?;
     let row = SumIndex::of(alloc, &store.y)?;
-    count_point(alloc, places, source, &column, &row, found)?;
+    count_point(alloc, places, source, &column, &row, uses)?;
     Ok(())
 }

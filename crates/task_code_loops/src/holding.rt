@@ -42,7 +42,7 @@ pub fn emit_known(
 }
 
 /// Appends what leaves a form, as it is in a loop's first iteration, in a register that holds nothing yet, where more
-/// than so many are left and its value can be made: it returns the register. Else there is no code.
+/// than this many are left and its value can be made: it returns the register. Else there is no code.
 fn start_known(
     alloc: Global,
     code: &mut Vec<u32>,
@@ -68,7 +68,7 @@ fn start_known(
 }
 
 /// Appends what leaves a form, as it is in a loop's first iteration, in a register that holds nothing yet, where more
-/// than so many are left and its value can be made: the scope gains it. Else there is no code.
+/// than this many are left and its value can be made: the scope gains it. Else there is no code.
 ///
 /// # Errors
 ///

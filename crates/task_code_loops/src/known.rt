@@ -19,7 +19,6 @@ pub struct KnownSum {
     pub sum: Linear,
 }
 
-/// Written out, so that a check sees a call wherever one is dropped, and not the drops of its parts.
 impl Drop for KnownSum {
     fn drop(self) {
         let KnownSum { sum, counter: _ } = self;
@@ -47,50 +46,54 @@ fn known_sum<'a>(known: &'a [KnownSum], counter: Counter) -> Option<&'a Linear>
 /// # Errors
 ///
 /// Memory ran out.
-pub fn add_scaled(made: &mut Items<Term>, terms: &[Term], factor: u32) -> Result<(), AllocError>
-    ensures { OnOk result (made.new ≡ made.old ++ times factor terms.now) }
+pub fn add_scaled(
+    new_terms: &mut Items<Term>,
+    terms: &[Term],
+    factor: u32,
+) -> Result<(), AllocError>
+    ensures { OnOk result (new_terms.new ≡ new_terms.old ++ times factor terms.now) }
 {
     match terms {
         [] => Ok(()),
         [first, others @ ..] => {
             let stride = words::multiply(first.stride, factor);
-            made.push(Term {
+            new_terms.push(Term {
                 counter: first.counter,
                 stride,
             })?;
-            add_scaled(made, others, factor)?;
+            add_scaled(new_terms, others, factor)?;
             Ok(())
         }
     }
 }
 
 /// Adds terms to a sum, those of known loop variables by the sums that these are.
-fn add_known(made: &mut Linear, terms: &[Term], known: &[KnownSum]) -> Result<(), AllocError>
-    ensures { OnOk result (AddsTerms known.now made.old made.new terms.now) }
+fn add_known(new_sum: &mut Linear, terms: &[Term], known: &[KnownSum]) -> Result<(), AllocError>
+    ensures { OnOk result (AddsTerms known.now new_sum.old new_sum.new terms.now) }
 {
     match terms {
         [] => Ok(()),
         [first, others @ ..] => {
-            add_one(made, first, known)?;
-            add_known(made, others, known)?;
+            add_one(new_sum, first, known)?;
+            add_known(new_sum, others, known)?;
             Ok(())
         }
     }
 }
 
 /// One term.
-fn add_one(made: &mut Linear, term: &Term, known: &[KnownSum]) -> Result<(), AllocError>
-    ensures { OnOk result (AddsTerm known.now made.old made.new term.now) }
+fn add_one(new_sum: &mut Linear, term: &Term, known: &[KnownSum]) -> Result<(), AllocError>
+    ensures { OnOk result (AddsTerm known.now new_sum.old new_sum.new term.now) }
 {
     match known_sum(known, term.counter) {
         Some(sum) => {
-            add_scaled(&mut made.terms, sum.terms.as_slice(), term.stride)?;
+            add_scaled(&mut new_sum.terms, sum.terms.as_slice(), term.stride)?;
             let more = words::multiply(term.stride, sum.number);
-            made.number = words::add(made.number, more);
+            new_sum.number = words::add(new_sum.number, more);
             Ok(())
         }
         None => {
-            made.terms.push(*term)?;
+            new_sum.terms.push(*term)?;
             Ok(())
         }
     }
@@ -101,20 +104,24 @@ fn add_one(made: &mut Linear, term: &Term, known: &[KnownSum]) -> Result<(), All
 /// # Errors
 ///
 /// Memory ran out.
-pub fn sum_by_others(alloc: Global, own: &Linear, known: &[KnownSum]) -> Result<Linear, AllocError>
-    ensures { IfOk result (IsRewrittenSum known.now own.now) }
+pub fn sum_by_others(
+    alloc: Global,
+    new_sum: &Linear,
+    known: &[KnownSum],
+) -> Result<Linear, AllocError>
+    ensures { IfOk result (IsRewrittenSum known.now new_sum.now) }
 {
     if known.is_empty() {
-        let sum = own.copy(alloc)?;
+        let sum = new_sum.copy(alloc)?;
         return Ok(sum);
     }
     // Room for one term more: a split loop's variable is a sum of those of two loops.
-    let terms = with_room(alloc, own.terms.len().saturating_add(1))?;
+    let terms = with_room(alloc, new_sum.terms.len().saturating_add(1))?;
     let mut sum = Linear {
-        number: own.number,
+        number: new_sum.number,
         terms,
     };
-    add_known(&mut sum, own.terms.as_slice(), known)?;
+    add_known(&mut sum, new_sum.terms.as_slice(), known)?;
     Ok(sum)
 }
 

@@ -24,7 +24,7 @@ pub fn one_more_is_laid_out()
     ensures { OneMoreIsLaidOut }
 {}
 
-/// A scope with no term of a loop variable knows the same wherever it stands.
+/// A scope with no term of a loop variable knows the same wherever it is.
 pub fn scopes_forget()
     ensures { ScopesForget }
 {}
@@ -34,7 +34,7 @@ pub fn known_stays()
     ensures { KnownStays }
 {}
 
-/// A loop variable that stands at the value of a sum is known beside the others.
+/// A loop variable that is at the value of a sum is known beside the others.
 pub fn one_more_is_known()
     ensures { OneMoreIsKnown }
 {}

@@ -3,8 +3,8 @@
 //!
 //! - [`holding`]: appends what holds the forms that a body wants.
 //! - [`tests`]: which register tells when a loop ends, and what it is compared with.
-//! - [`beginning`]: appends what stands in front of a loop (`specs/Beginning.antt`).
-//! - [`ending`]: appends what stands after its body, and goes back (`specs/Ending.antt`).
+//! - [`beginning`]: appends what is in front of a loop (`specs/Beginning.antt`).
+//! - [`ending`]: appends what is after its body, and goes back (`specs/Ending.antt`).
 //! - [`guards`]: appends a test over a body (`specs/Guarding.antt`).
 //! - [`bounds`]: whether a form stays below an extent, so that it needs no test (`specs/Bounds.antt`).
 //! - [`known`]: loop variables that are sums of others, or numbers, and sums without them (`specs/Known.antt`).

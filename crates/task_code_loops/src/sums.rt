@@ -10,13 +10,13 @@ use loop_ir::expressions::Linear;
 use std::alloc::{AllocError, Global};
 use task_code_registers::terms::with_room;
 
-/// A sum so many times.
-fn scaled(alloc: Global, own: &Linear, factor: u32) -> Result<Linear, AllocError>
-    ensures { IfOk result (IsTimes own.now factor) }
+/// A sum this many times.
+fn scaled(alloc: Global, sum: &Linear, factor: u32) -> Result<Linear, AllocError>
+    ensures { IfOk result (IsTimes sum.now factor) }
 {
-    let mut terms = with_room(alloc, own.terms.len())?;
-    add_scaled(&mut terms, own.terms.as_slice(), factor)?;
-    let number = words::multiply(own.number, factor);
+    let mut terms = with_room(alloc, sum.terms.len())?;
+    add_scaled(&mut terms, sum.terms.as_slice(), factor)?;
+    let number = words::multiply(sum.number, factor);
     Ok(Linear { number, terms })
 }
 
@@ -25,8 +25,8 @@ fn plus(alloc: Global, x: Linear, y: &Linear) -> Result<Linear, AllocError>
     ensures { IfOk result (IsCombined Add x y.now) }
 {
     let opposite = Linear::of_number(alloc, 0).minus(y)?;
-    let made = x.minus(&opposite)?;
-    Ok(made)
+    let new_sum = x.minus(&opposite)?;
+    Ok(new_sum)
 }
 
 /// The product of two sums, of which one is a number.
@@ -34,12 +34,12 @@ fn product(alloc: Global, x: &Linear, y: &Linear) -> Result<Option<Linear>, Allo
     ensures { IfOk result (λ found. IfSome found (IsCombined Multiply x.now y.now)) }
 {
     if y.terms.len() == 0 {
-        let made = scaled(alloc, x, y.number)?;
-        return Ok(Some(made));
+        let sum = scaled(alloc, x, y.number)?;
+        return Ok(Some(sum));
     }
     if x.terms.len() == 0 {
-        let made = scaled(alloc, y, x.number)?;
-        return Ok(Some(made));
+        let sum = scaled(alloc, y, x.number)?;
+        return Ok(Some(sum));
     }
     Ok(None)
 }
@@ -65,20 +65,20 @@ pub fn combined(
     x: Linear,
     y: &Linear,
 ) -> Result<Option<Linear>, AllocError>
-    ensures { IfOk result (λ found. IfSome found (IsCombined operation x y.now)) }
+    ensures { IfOk result (λ new_sum. IfSome new_sum (IsCombined operation x y.now)) }
 {
     match operation {
         Operation::Add => {
-            let made = plus(alloc, x, y)?;
-            Ok(Some(made))
+            let sum = plus(alloc, x, y)?;
+            Ok(Some(sum))
         }
         Operation::Subtract => {
-            let made = x.minus(y)?;
-            Ok(Some(made))
+            let sum = x.minus(y)?;
+            Ok(Some(sum))
         }
         Operation::Multiply => {
-            let found = product(alloc, &x, y)?;
-            Ok(found)
+            let new_sum = product(alloc, &x, y)?;
+            Ok(new_sum)
         }
         _ => Ok(None),
     }

@@ -136,7 +136,7 @@ fn by_form(
 ///
 /// # Errors
 ///
-/// Memory ran out, or no more than so many registers are left.
+/// Memory ran out, or no more than this many registers are left.
 pub fn begin_test(
     alloc: Global,
     code: &mut Vec<u32>,

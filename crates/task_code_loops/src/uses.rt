@@ -18,9 +18,9 @@ pub(crate) struct Use {
     pub times: u32,
 }
 
-/// Where a form stands that is near this one.
-fn place_near(found: &[Use], form: &AffineForm) -> Option<usize> {
-    for (place, own) in found.iter().enumerate() {
+/// Where a form is that is near this one.
+fn place_near(uses: &[Use], form: &AffineForm) -> Option<usize> {
+    for (place, own) in uses.iter().enumerate() {
         if small_distance(form, &own.form).is_some() {
             return Some(place);
         }
@@ -33,17 +33,17 @@ fn is_small(form: &AffineForm) -> bool {
     form.sum.terms.len() == 0 && form.per_hart == 0 && fits(form.sum.number)
 }
 
-/// Counts so many uses of a form.
-pub(crate) fn count(found: &mut Vec<Use>, form: AffineForm, times: u32) -> Result<(), AllocError> {
-    match place_near(found.as_slice(), &form) {
+/// Counts this many uses of a form.
+pub(crate) fn count(uses: &mut Vec<Use>, form: AffineForm, times: u32) -> Result<(), AllocError> {
+    match place_near(uses.as_slice(), &form) {
         Some(place) => {
-            if place < found.len() {
-                found[place].times = found[place].times.saturating_add(times);
+            if place < uses.len() {
+                uses[place].times = uses[place].times.saturating_add(times);
             }
             Ok(())
         }
         None => {
-            found.push(Use { form, times })?;
+            uses.push(Use { form, times })?;
             Ok(())
         }
     }
@@ -66,18 +66,18 @@ fn count_at(
     times: u32,
     counter: Counter,
     iteration: u32,
-    found: &mut Vec<Use>,
+    uses: &mut Vec<Use>,
 ) -> Result<(), AllocError> {
     let start = at_value(alloc, form, counter, 0)?;
     if iteration == 0 {
-        return count(found, start, times);
+        return count(uses, start, times);
     }
     let here = at_value(alloc, form, counter, iteration)?;
-    count(found, here, times)?;
-    count(found, start, times)
+    count(uses, here, times)?;
+    count(uses, start, times)
 }
 
-/// Whether a form in a loop's first iteration is near it in so many.
+/// Whether a form in a loop's first iteration is near it in this many.
 fn is_near_in_all(form: &AffineForm, counter: Counter, count: u32) -> bool {
     let stride = stride_of(form.sum.terms.as_slice(), counter);
     let steps = count.saturating_sub(1);
@@ -86,42 +86,42 @@ fn is_near_in_all(form: &AffineForm, counter: Counter, count: u32) -> bool {
     up < MOST_NEAR || down < MOST_NEAR
 }
 
-/// Counts a form as it is in a loop's first iteration, or in each one where so many are laid out.
+/// Counts a form as it is in a loop's first iteration, or in each one where this many are laid out.
 fn count_in_each(
     alloc: Global,
     form: AffineForm,
     times: u32,
     counter: Counter,
     laid_out: u32,
-    found: &mut Vec<Use>,
+    uses: &mut Vec<Use>,
 ) -> Result<(), AllocError> {
     if !has_counter(&form, counter) {
-        return count(found, form, times);
+        return count(uses, form, times);
     }
     let start = at_value(alloc, &form, counter, 0)?;
     if is_small(&start) {
         return Ok(());
     }
     if is_near_in_all(&form, counter, laid_out) {
-        return count(found, start, times);
+        return count(uses, start, times);
     }
     for iteration in 0..laid_out {
-        count_at(alloc, &form, times, counter, iteration, found)?;
+        count_at(alloc, &form, times, counter, iteration, uses)?;
     }
     Ok(())
 }
 
-/// Counts forms as they are in a loop's first iteration, or in each one where so many are laid out.
+/// Counts forms as they are in a loop's first iteration, or in each one where this many are laid out.
 pub(crate) fn count_inside(
     alloc: Global,
     inner: Vec<Use>,
     counter: Counter,
     laid_out: u32,
-    found: &mut Vec<Use>,
+    uses: &mut Vec<Use>,
 ) -> Result<(), AllocError> {
     for own in inner {
         let Use { form, times } = own;
-        count_in_each(alloc, form, times, counter, laid_out, found)?;
+        count_in_each(alloc, form, times, counter, laid_out, uses)?;
     }
     Ok(())
 }
@@ -149,21 +149,21 @@ pub(crate) fn count_by_others(
     alloc: Global,
     inner: Vec<Use>,
     known: &[KnownSum],
-    found: &mut Vec<Use>,
+    uses: &mut Vec<Use>,
 ) -> Result<(), AllocError> {
     for own in inner {
         let Use { form, times } = own;
         let form = form_by_others(alloc, form, known)?;
-        count(found, form, times)?;
+        count(uses, form, times)?;
     }
     Ok(())
 }
 
-/// Where the form stands that is used most; none where there is none.
-fn most_used(found: &[Use]) -> Option<usize> {
+/// Where the form is that is used most; none where there is none.
+fn most_used(uses: &[Use]) -> Option<usize> {
     let mut best = None;
     let mut most = 0;
-    for (place, own) in found.iter().enumerate() {
+    for (place, own) in uses.iter().enumerate() {
         if own.times > most {
             best = Some(place);
             most = own.times;
@@ -179,9 +179,9 @@ fn most_used(found: &[Use]) -> Option<usize> {
 /// Memory ran out.
 pub(crate) fn most_used_first(
     alloc: Global,
-    found: Vec<Use>,
+    uses: Vec<Use>,
 ) -> Result<Vec<AffineForm>, AllocError> {
-    let mut left = found;
+    let mut left = uses;
     let mut wanted = Vec::new(alloc);
     for _ in 0..left.len() {
         match most_used(left.as_slice()) {

@@ -14,7 +14,7 @@ use task_code_registers::scopes::AffineForm;
 use task_code_registers::terms::with_room;
 use task_code_scalar::layouts::Places;
 
-/// So many iterations of a loop that is laid out are looked at.
+/// This many iterations of a loop that is laid out are looked at.
 const MOST_LAID_OUT: u32 = 16;
 
 /// The value of a split loop, where it is a sum of those of its two loops.
@@ -54,7 +54,7 @@ fn stride_along(sum: &Linear, lanes: Option<LaneStep>) -> u32 {
     }
 }
 
-/// What is known where a statement stands: the numbers below which loop variables stay, those that stand at sums of
+/// What is known where a statement is: the numbers below which loop variables stay, those that stand at sums of
 /// others, and the variable that its lanes go along.
 #[derive(Clone, Copy)]
 struct Around<'a> {
@@ -102,20 +102,20 @@ fn count_tested(
     alloc: Global,
     around: &Around<'_>,
     split: &[KnownSum],
-    own: &KnownSum,
+    known_sum: &KnownSum,
     extent: u32,
-    found: &mut Vec<Use>,
+    uses: &mut Vec<Use>,
 ) -> Result<(), AllocError> {
-    if around.is_below(alloc, split, &own.sum, extent)? {
+    if around.is_below(alloc, split, &known_sum.sum, extent)? {
         return Ok(());
     }
-    let stride = stride_along(&own.sum, around.lanes);
+    let stride = stride_along(&known_sum.sum, around.lanes);
     if stride == 0 {
-        return count(found, value_form(alloc, &own.sum)?, VALUE_USES);
+        return count(uses, value_form(alloc, &known_sum.sum)?, VALUE_USES);
     }
     let most = words::add(extent, stride - 1);
-    let sum = Linear::of_number(alloc, most).minus(&own.sum)?;
-    count(found, AffineForm { sum, per_hart: 0 }, VALUE_USES)
+    let sum = Linear::of_number(alloc, most).minus(&known_sum.sum)?;
+    count(uses, AffineForm { sum, per_hart: 0 }, VALUE_USES)
 }
 
 /// How many iterations of a loop are looked at on their own: those of one that is laid out, unless they are many.
@@ -157,12 +157,12 @@ fn push_split(
     alloc: Global,
     known: &[KnownSum],
     split: &mut Vec<KnownSum>,
-    own: &KnownSum,
+    known_sum: &KnownSum,
 ) -> Result<(), AllocError> {
-    let inner = form_by_others(alloc, value_form(alloc, &own.sum)?, split.as_slice())?;
+    let inner = form_by_others(alloc, value_form(alloc, &known_sum.sum)?, split.as_slice())?;
     let AffineForm { sum, per_hart: _ } = form_by_others(alloc, inner, known)?;
     split.push(KnownSum {
-        counter: own.counter,
+        counter: known_sum.counter,
         sum,
     })?;
     Ok(())
@@ -176,14 +176,14 @@ fn gather_split(
     around: &Around<'_>,
     split: &mut Vec<KnownSum>,
     statement: &Stmt,
-    found: &mut Vec<Use>,
+    uses: &mut Vec<Use>,
 ) -> Result<(), AllocError> {
     let Stmt::Bind(counter, whole, extent, body) = statement else {
         return Ok(());
     };
     let known = split_sum(alloc, *counter, whole)?;
     for own in known.as_slice() {
-        count_tested(alloc, around, split.as_slice(), own, *extent, found)?;
+        count_tested(alloc, around, split.as_slice(), own, *extent, uses)?;
         push_split(alloc, around.known, split, own)?;
     }
     // After its test the split loop's value is below the extent.
@@ -202,10 +202,10 @@ fn gather_split(
     if !known.is_empty() {
         drop(split.pop());
     }
-    count_by_others(alloc, inner, known.as_slice(), found)
+    count_by_others(alloc, inner, known.as_slice(), uses)
 }
 
-/// Counts what a statement wants, where so many split loops stand around it.
+/// Counts what a statement wants, where this many split loops stand around it.
 #[cycle(counting)]
 fn gather(
     alloc: Global,
@@ -213,13 +213,13 @@ fn gather(
     around: &Around<'_>,
     split: &mut Vec<KnownSum>,
     statement: &Stmt,
-    found: &mut Vec<Use>,
+    uses: &mut Vec<Use>,
 ) -> Result<(), AllocError> {
     match statement {
-        Stmt::Store(store) => gather_store(alloc, places, around.width(), store, found),
+        Stmt::Store(store) => gather_store(alloc, places, around.width(), store, uses),
         Stmt::Sequence(first, second) => {
-            gather(alloc, places, around, split, first.get(), found)?;
-            gather(alloc, places, around, split, second.get(), found)
+            gather(alloc, places, around, split, first.get(), uses)?;
+            gather(alloc, places, around, split, second.get(), uses)
         }
         Stmt::For(counter, count, kind, body) => {
             let mut within = around.bounds.to_vec(alloc)?;
@@ -234,9 +234,9 @@ fn gather(
             };
             let mut inner = Vec::new(alloc);
             gather(alloc, places, &next, split, body.get(), &mut inner)?;
-            count_inside(alloc, inner, *counter, laid_out(*count, *kind), found)
+            count_inside(alloc, inner, *counter, laid_out(*count, *kind), uses)
         }
-        Stmt::Bind(_, _, _, _) => gather_split(alloc, places, around, split, statement, found),
+        Stmt::Bind(_, _, _, _) => gather_split(alloc, places, around, split, statement, uses),
     }
 }
 

@@ -24,30 +24,30 @@ pub loads_number : (reads : Reads) (values : Values) (n : ℕ) → loads reads v
 unfolding seen
 loads_number reads values n = ap (λ (s : Seen). s.points) (at_number Seen (seen_at reads values) n)
 
-pub loads_linear : (reads : Reads) (values : Values) (own : Linear) → loads reads values (e.Linear own) ≡ []
+pub loads_linear : (reads : Reads) (values : Values) (sum : Linear) → loads reads values (e.Linear sum) ≡ []
 unfolding seen
-loads_linear reads values own = ap (λ (s : Seen). s.points) (at_linear Seen (seen_at reads values) own)
+loads_linear reads values sum = ap (λ (s : Seen). s.points) (at_linear Seen (seen_at reads values) sum)
 
 module _ (is_so : Values → Type 0) where
-  pub alike-as : (own x made : Expr) → own ≡ x → IsAlike is_so x made → IsAlike is_so own made
-  alike-as own x made is same = subst (λ y. IsAlike is_so y made) (sym is) same
+  pub alike-as : (expression x made : Expr) → expression ≡ x → IsAlike is_so x made → IsAlike is_so expression made
+  alike-as expression x made is same = subst (λ y. IsAlike is_so y made) (sym is) same
 
-  pub alike-same : (own made : Expr) → made ≡ own → IsAlike is_so own made
-  alike-same own made is = subst (IsAlike is_so own) (sym is) (record { value_is = λ reads values are. refl; loads_are = λ reads values are. refl })
+  pub alike-same : (expression made : Expr) → made ≡ expression → IsAlike is_so expression made
+  alike-same expression made is = subst (IsAlike is_so expression) (sym is) (record { value_is = λ reads values are. refl; loads_are = λ reads values are. refl })
 
-  pub alike-number : (own : Expr) (n : ℕ) → own ≡ e.Number n → IsAlike is_so own (e.Number n)
-  alike-number own n is = alike-as own (e.Number n) (e.Number n) is (record { value_is = λ reads values are. refl; loads_are = λ reads values are. refl })
+  pub alike-number : (expression : Expr) (n : ℕ) → expression ≡ e.Number n → IsAlike is_so expression (e.Number n)
+  alike-number expression n is = alike-as expression (e.Number n) (e.Number n) is (record { value_is = λ reads values are. refl; loads_are = λ reads values are. refl })
 
-  pub alike-linear : (own : Expr) (sum made : Linear) → own ≡ e.Linear sum
-      → ((values : Values) → is_so values → linear_value values made ≡ linear_value values sum) → IsAlike is_so own (e.Linear made)
-  alike-linear own sum made is same = alike-as own (e.Linear sum) (e.Linear made) is (record {
+  pub alike-linear : (expression : Expr) (sum made : Linear) → expression ≡ e.Linear sum
+      → ((values : Values) → is_so values → linear_value values made ≡ linear_value values sum) → IsAlike is_so expression (e.Linear made)
+  alike-linear expression sum made is same = alike-as expression (e.Linear sum) (e.Linear made) is (record {
     value_is = λ reads values are. value_linear reads values made ∙ same values are ∙ sym (value_linear reads values sum);
     loads_are = λ reads values are. loads_linear reads values made ∙ sym (loads_linear reads values sum);
   })
 
-  pub alike-binary : (own : Expr) (o : Operation) (a b x y p q : Expr) → own ≡ e.Binary o a b → x ≡ a → y ≡ b → IsAlike is_so x p → IsAlike is_so y q
-      → IsAlike is_so own (e.Binary o p q)
-  alike-binary own o a b x y p q is ex ey one two = alike-as own (e.Binary o x y) (e.Binary o p q) (is ∙ ap (λ z. e.Binary o z b) (sym ex)
+  pub alike-binary : (expression : Expr) (o : Operation) (a b x y p q : Expr) → expression ≡ e.Binary o a b → x ≡ a → y ≡ b → IsAlike is_so x p → IsAlike is_so y q
+      → IsAlike is_so expression (e.Binary o p q)
+  alike-binary expression o a b x y p q is ex ey one two = alike-as expression (e.Binary o x y) (e.Binary o p q) (is ∙ ap (λ z. e.Binary o z b) (sym ex)
       ∙ ap (e.Binary o x) (sym ey)) (record {
         value_is = λ reads values are. value_binary reads values o p q
             ∙ ap (λ z. word.applied o z (value reads values q)) (one.value_is reads values are)
@@ -57,23 +57,24 @@ module _ (is_so : Values → Type 0) where
             ∙ ap (λ z. loads reads values x ++ z) (two.loads_are reads values are) ∙ sym (loads_binary reads values o x y);
       })
 
-  pub alike-divide : (own a x p : Expr) (c : ℕ) → own ≡ e.Divide a c → x ≡ a → IsAlike is_so x p → IsAlike is_so own (e.Divide p c)
-  alike-divide own a x p c is ex one = alike-as own (e.Divide x c) (e.Divide p c) (is ∙ ap (λ z. e.Divide z c) (sym ex)) (record {
+  pub alike-divide : (expression a x p : Expr) (c : ℕ) → expression ≡ e.Divide a c → x ≡ a → IsAlike is_so x p → IsAlike is_so expression (e.Divide p c)
+  alike-divide expression a x p c is ex one = alike-as expression (e.Divide x c) (e.Divide p c) (is ∙ ap (λ z. e.Divide z c) (sym ex)) (record {
     value_is = λ reads values are. value_divide reads values p c ∙ ap (λ z. word.divide z c) (one.value_is reads values are)
         ∙ sym (value_divide reads values x c);
     loads_are = λ reads values are. loads_divide reads values p c ∙ one.loads_are reads values are ∙ sym (loads_divide reads values x c);
   })
 
-  pub alike-remainder : (own a x p : Expr) (c : ℕ) → own ≡ e.Remainder a c → x ≡ a → IsAlike is_so x p → IsAlike is_so own (e.Remainder p c)
-  alike-remainder own a x p c is ex one = alike-as own (e.Remainder x c) (e.Remainder p c) (is ∙ ap (λ z. e.Remainder z c) (sym ex)) (record {
+  pub alike-remainder : (expression a x p : Expr) (c : ℕ) → expression ≡ e.Remainder a c → x ≡ a → IsAlike is_so x p → IsAlike is_so expression (e.Remainder p c)
+  alike-remainder expression a x p c is ex one = alike-as expression (e.Remainder x c) (e.Remainder p c) (is ∙ ap (λ z. e.Remainder z c) (sym ex)) (record {
     value_is = λ reads values are. value_remainder reads values p c ∙ ap (λ z. word.remainder z c) (one.value_is reads values are)
         ∙ sym (value_remainder reads values x c);
     loads_are = λ reads values are. loads_remainder reads values p c ∙ one.loads_are reads values are ∙ sym (loads_remainder reads values x c);
   })
 
-  pub alike-select : (own c a b x y z p q r : Expr) → own ≡ e.Select c a b → x ≡ c → y ≡ a → z ≡ b → IsAlike is_so x p → IsAlike is_so y q
-      → IsAlike is_so z r → IsAlike is_so own (e.Select p q r)
-  alike-select own c a b x y z p q r is ex ey ez one two three = alike-as own (e.Select x y z) (e.Select p q r)
+  pub alike-select : (expression c a b x y z p q r : Expr) → expression ≡ e.Select c a b → x ≡ c → y ≡ a → z ≡ b → IsAlike is_so x p → IsAlike is_so y q
+      → IsAlike is_so z r → IsAlike is_so expression (e.Select p q r)
+  alike-select expression c a b x y z p q r is ex ey ez one two three = alike-as expression (e.Select x y z)
+      (e.Select p q r)
       (is ∙ ap (λ t. e.Select t a b) (sym ex) ∙ ap (λ t. e.Select x t b) (sym ey) ∙ ap (e.Select x y) (sym ez)) (record {
         value_is = λ reads values are. value_select reads values p q r
             ∙ ap (λ t. if t == 0 then value reads values r else value reads values q) (one.value_is reads values are)
@@ -87,9 +88,10 @@ module _ (is_so : Values → Type 0) where
             ∙ sym (loads_select reads values x y z);
       })
 
-  pub alike-load : (own : Expr) (source : Source) (a b x y p q : Expr) → own ≡ e.Load source a b → x ≡ a → y ≡ b → IsAlike is_so x p
-      → IsAlike is_so y q → IsAlike is_so own (e.Load source p q)
-  alike-load own source a b x y p q is ex ey one two = alike-as own (e.Load source x y) (e.Load source p q)
+  pub alike-load : (expression : Expr) (source : Source) (a b x y p q : Expr) → expression ≡ e.Load source a b → x ≡ a → y ≡ b → IsAlike is_so x p
+      → IsAlike is_so y q → IsAlike is_so expression (e.Load source p q)
+  alike-load expression source a b x y p q is ex ey one two = alike-as expression (e.Load source x y)
+      (e.Load source p q)
       (is ∙ ap (λ z. e.Load source z b) (sym ex) ∙ ap (e.Load source x) (sym ey)) (record {
         value_is = λ reads values are. value_load reads values source p q
             ∙ ap (λ z. reads source z (value reads values q)) (one.value_is reads values are)
@@ -104,12 +106,12 @@ module _ (is_so : Values → Type 0) where
 
 -- ---- the same
 
-pub store-same : (is_so : Values → Type 0) (own : Store) → IsAlikeStore is_so own own
-store-same is_so own = record {
+pub store-same : (is_so : Values → Type 0) (new_store : Store) → IsAlikeStore is_so new_store new_store
+store-same is_so new_store = record {
   func_is = refl;
-  column = alike-same is_so own.x own.x refl;
-  row = alike-same is_so own.y own.y refl;
-  pixel = alike-same is_so own.value own.value refl;
+  column = alike-same is_so new_store.x new_store.x refl;
+  row = alike-same is_so new_store.y new_store.y refl;
+  pixel = alike-same is_so new_store.value new_store.value refl;
 }
 
 -- ---- one after the other

@@ -21,10 +21,10 @@ variable-is values counter small =
     let g : (0 + (n * 1 + 0)) % 2 ^ 32 ≡ n = omega (arith, small) in
     g
 
-pub name-is : (names : List Named) (own : Expr) (counter : Counter) (found : Option Counter) (form : AffineForm) → found ≡ Some counter → form ≡ variable counter
-    → IfSome found (IsNameOf names own) → IsNamedExpr names own (e.Linear form.sum)
-name-is names own counter found form is ef all =
-    let named : IsNameOf names own counter = subst (λ o. IfSome o (IsNameOf names own)) is all in
+pub name-is : (names : List Named) (expression : Expr) (counter : Counter) (loop_counter : Option Counter) (form : AffineForm) → loop_counter ≡ Some counter → form ≡ variable counter
+    → IfSome loop_counter (IsNameOf names expression) → IsNamedExpr names expression (e.Linear form.sum)
+name-is names expression counter loop_counter form is ef all =
+    let named : IsNameOf names expression counter = subst (λ o. IfSome o (IsNameOf names expression)) is all in
     record {
       value_is = λ reads values are.
           let k = named values are in

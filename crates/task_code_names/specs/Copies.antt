@@ -6,6 +6,6 @@ use Rattle.loop_ir.specs.Counters.{Values}
 use Rattle.loop_ir.specs.Expressions.{value, loads}
 
 -- whatever sources hold, an expression comes to the same
-pub record IsStill (own : Expr) : Type 0 where
-  pub value_is : (reads other : Reads) (values : Values) → value reads values own ≡ value other values own
-  pub none : (reads : Reads) (values : Values) → loads reads values own ≡ []
+pub record IsLoadFree (expression : Expr) : Type 0 where
+  pub value_is : (reads other : Reads) (values : Values) → value reads values expression ≡ value other values expression
+  pub none : (reads : Reads) (values : Values) → loads reads values expression ≡ []

@@ -25,7 +25,7 @@ abbrev pub IsNameOf : List Named → Expr → Counter → Type 0
 IsNameOf names e counter = (values : Values) → AreNames names values → HasValue counter e values
 
 abbrev pub IsNamedExpr : List Named → Expr → Expr → Type 0
-IsNamedExpr names own made = IsAlike (AreNames names) own made
+IsNamedExpr names expression new_expression = IsAlike (AreNames names) expression new_expression
 
 abbrev pub IsNamedStore : List Named → Store → Store → Type 0
-IsNamedStore names own made = IsAlikeStore (AreNames names) own made
+IsNamedStore names store new_store = IsAlikeStore (AreNames names) store new_store

@@ -1,7 +1,7 @@
 //! Expressions once more, whether two are the same, and which load nothing.
 
 ghost use Rattle.std.specs.Prelude.{◌≡◌, IfOk, true};
-ghost use Rattle.task_code_names.specs.Copies.{IsStill};
+ghost use Rattle.task_code_names.specs.Copies.{IsLoadFree};
 
 use loop_ir::expressions::Expr;
 use sqlite_items::Boxed;
@@ -45,7 +45,7 @@ pub fn is_same(a: &Expr, b: &Expr) -> bool
     }
 }
 
-/// The nodes of an expression whose parts have so many.
+/// The nodes of an expression whose parts have this many.
 fn with_nodes(first: usize, second: usize) -> usize {
     first.saturating_add(second).saturating_add(1)
 }
@@ -67,16 +67,17 @@ pub(crate) fn nodes_of(e: &Expr) -> usize {
 }
 
 /// Whether an expression loads nothing.
-pub fn is_still(e: &Expr) -> bool
-    ensures { result ≡ true → IsStill e.now }
+pub fn is_load_free(e: &Expr) -> bool
+    ensures { result ≡ true → IsLoadFree e.now }
 {
     match e {
         Expr::Number(_) => true,
         Expr::Linear(_) => true,
-        Expr::Binary(_, a, b) => is_still(a.get()) && is_still(b.get()),
-        Expr::Divide(a, _) => is_still(a.get()),
-        Expr::Remainder(a, _) => is_still(a.get()),
-        Expr::Select(c, a, b) => is_still(c.get()) && (is_still(a.get()) && is_still(b.get())),
+        Expr::Binary(_, a, b) => is_load_free(a.get()) && is_load_free(b.get()),
+        Expr::Divide(a, _) => is_load_free(a.get()),
+        Expr::Remainder(a, _) => is_load_free(a.get()),
+        Expr::Select(c, a, b) => is_load_free(c.get())
+            && (is_load_free(a.get()) && is_load_free(b.get())),
         Expr::Load(_, _, _) => false,
     }
 }

@@ -18,7 +18,7 @@ pub(crate) enum NamedPart {
 }
 
 /// What of a part of an expression has a name, and how many nodes the part has. Marks come in the order of an
-/// expression's text: that of a part stands in front of those of its own parts.
+/// expression's text: that of a part is in front of those of its own parts.
 #[derive(Clone, Copy, Debug)]
 pub(crate) struct NodeMark {
     pub nodes: u32,
@@ -58,7 +58,7 @@ pub(crate) fn has_name(marks: &[NodeMark]) -> bool {
     }
 }
 
-/// Of an expression whose parts have so many nodes, and names or none.
+/// Of an expression whose parts have this many nodes, and names or none.
 fn of_parts(nodes: u32, have_none: bool) -> NodeMark {
     NodeMark {
         nodes: nodes.saturating_add(1),
@@ -93,7 +93,7 @@ fn of_choice(c: NodeMark, a: NodeMark, b: NodeMark) -> NodeMark {
     )
 }
 
-/// Whether an expression of so many nodes has a name.
+/// Whether an expression of this many nodes has a name.
 fn is_named(names: &[Named], e: &Expr, nodes: u32) -> bool {
     names
         .iter()
@@ -138,7 +138,7 @@ fn add_marks(names: &[Named], e: &Expr, marks: &mut Vec<NodeMark>) -> Result<Nod
     // In the place of its own, which is known after its parts.
     marks.push(LEAF)?;
     let parts = add_part_marks(names, e, marks)?;
-    let own = if is_named(names, e, parts.nodes) {
+    let node_mark = if is_named(names, e, parts.nodes) {
         NodeMark {
             nodes: parts.nodes,
             standing: NamedPart::IsNamed,
@@ -147,9 +147,9 @@ fn add_marks(names: &[Named], e: &Expr, marks: &mut Vec<NodeMark>) -> Result<Nod
         parts
     };
     if let Some(slot) = marks.get_mut(place) {
-        *slot = own;
+        *slot = node_mark;
     }
-    Ok(own)
+    Ok(node_mark)
 }
 
 /// The marks of an expression. A number or a sum alone needs none: only what is made of parts is given names.

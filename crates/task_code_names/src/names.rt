@@ -16,7 +16,6 @@ pub struct Named {
     pub nodes: usize,
 }
 
-/// Written out, so that a check sees a call wherever one is dropped, and not the drops of its parts.
 impl Drop for Named {
     fn drop(self) {
         let Named {
@@ -44,7 +43,7 @@ pub fn new_named(alloc: Global, counter: Counter, e: &Expr) -> Result<Named, All
     })
 }
 
-/// The name that an expression of so many nodes has.
+/// The name that an expression of this many nodes has.
 pub(crate) fn name_of(names: &[Named], e: &Expr, nodes: usize) -> Option<Counter>
     ensures { IfSome result (λ counter. IsNameOf names.now e.now counter) }
 {

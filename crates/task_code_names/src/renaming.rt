@@ -83,8 +83,8 @@ fn by_names(alloc: Global, names: &[Named], e: Expr, marks: &[NodeMark]) -> Resu
     match own.standing {
         NamedPart::HasNone => Ok(e),
         NamedPart::HasSome => {
-            let made = parts_by_names(alloc, names, e.into_parts(), within)?;
-            Ok(made)
+            let expression = parts_by_names(alloc, names, e.into_parts(), within)?;
+            Ok(expression)
         }
         NamedPart::IsNamed => match name_of(names, &e, own.nodes as usize) {
             None => Ok(e),

@@ -37,21 +37,21 @@ sum-split counter values (first ∷ others) = by-test (same_counter first.counte
     by-test false s e = omega (arith, e)
 
 -- of other variables the rest has the same strides
-strides-kept : (counter own : Counter) (terms : List Term) → same_counter own counter ≡ false
-    → strides own (others_of counter terms) ≡ strides own terms
-strides-kept counter own [] apart = refl
-strides-kept counter own (first ∷ others) apart =
-    by-test (same_counter first.counter counter) (same_counter first.counter own) refl refl (strides-kept counter own others apart)
+strides-kept : (counter loop_counter : Counter) (terms : List Term) → same_counter loop_counter counter ≡ false
+    → strides loop_counter (others_of counter terms) ≡ strides loop_counter terms
+strides-kept counter loop_counter [] apart = refl
+strides-kept counter loop_counter (first ∷ others) apart =
+    by-test (same_counter first.counter counter) (same_counter first.counter loop_counter) refl refl (strides-kept counter loop_counter others apart)
   where
-    by-test : (t u : Bool) → same_counter first.counter counter ≡ t → same_counter first.counter own ≡ u
-        → strides own (others_of counter others) ≡ strides own others
-        → strides own (if t then others_of counter others else first ∷ others_of counter others)
-        ≡ (if u then first.stride + strides own others else strides own others)
+    by-test : (t u : Bool) → same_counter first.counter counter ≡ t → same_counter first.counter loop_counter ≡ u
+        → strides loop_counter (others_of counter others) ≡ strides loop_counter others
+        → strides loop_counter (if t then others_of counter others else first ∷ others_of counter others)
+        ≡ (if u then first.stride + strides loop_counter others else strides loop_counter others)
     by-test true true s r e =
-        absurd (true≢false (sym (ap (λ c. same_counter c counter) (sym (same_counter-true first.counter own r)) ∙ s) ∙ apart))
+        absurd (true≢false (sym (ap (λ c. same_counter c counter) (sym (same_counter-true first.counter loop_counter r)) ∙ s) ∙ apart))
     by-test true false s r e = e
     by-test false u s r e =
-        ap (λ b. if b then first.stride + strides own (others_of counter others) else strides own (others_of counter others)) r
+        ap (λ b. if b then first.stride + strides loop_counter (others_of counter others) else strides loop_counter (others_of counter others)) r
         ∙ ap (λ n. if u then first.stride + n else n) e
 
 -- without the first one's variable there are fewer terms
@@ -116,20 +116,20 @@ sums-agree (suc n) values [] (first ∷ others) few agree =
 -- ---- as it is tested
 
 -- one more variable
-pub agree-more : (own a b : List Term) (other : Term) (s t : ℕ) → 1 ≤ length own → s ≡ strides (get_or own 0 other).counter a % 2 ^ 32
-    → t ≡ strides (get_or own 0 other).counter b % 2 ^ 32 → s ≡ t → AgreeOn (take (length own - 1) (drop 1 own)) a b → AgreeOn own a b
-agree-more own a b other s t some es et e rest counter =
-    one-more (get_or own 0 other) (take (length own - 1) (drop 1 own)) (others-are own other some) (sym es ∙ e ∙ et) (rest counter)
+pub agree-more : (terms a b : List Term) (other : Term) (s t : ℕ) → 1 ≤ length terms → s ≡ strides (get_or terms 0 other).counter a % 2 ^ 32
+    → t ≡ strides (get_or terms 0 other).counter b % 2 ^ 32 → s ≡ t → AgreeOn (take (length terms - 1) (drop 1 terms)) a b → AgreeOn terms a b
+agree-more terms a b other s t some es et e rest counter =
+    one-more (get_or terms 0 other) (take (length terms - 1) (drop 1 terms)) (others-are terms other some) (sym es ∙ e ∙ et) (rest counter)
   where
-    one-more : (first : Term) (others : List Term) → own ≡ first ∷ others
+    one-more : (first : Term) (others : List Term) → terms ≡ first ∷ others
         → strides first.counter a % 2 ^ 32 ≡ strides first.counter b % 2 ^ 32
         → (has_counter counter others ≡ false) ⊎ (strides counter a % 2 ^ 32 ≡ strides counter b % 2 ^ 32)
-        → (has_counter counter own ≡ false) ⊎ (strides counter a % 2 ^ 32 ≡ strides counter b % 2 ^ 32)
+        → (has_counter counter terms ≡ false) ⊎ (strides counter a % 2 ^ 32 ≡ strides counter b % 2 ^ 32)
     one-more first others is agree h = by-test (same_counter first.counter counter) refl h
       where
         by-test : (u : Bool) → same_counter first.counter counter ≡ u
             → (has_counter counter others ≡ false) ⊎ (strides counter a % 2 ^ 32 ≡ strides counter b % 2 ^ 32)
-            → (has_counter counter own ≡ false) ⊎ (strides counter a % 2 ^ 32 ≡ strides counter b % 2 ^ 32)
+            → (has_counter counter terms ≡ false) ⊎ (strides counter a % 2 ^ 32 ≡ strides counter b % 2 ^ 32)
         by-test true r k =
             let same = same_counter-true first.counter counter r in
             inr (ap (λ c. strides c a % 2 ^ 32) (sym same) ∙ agree ∙ ap (λ c. strides c b % 2 ^ 32) same)

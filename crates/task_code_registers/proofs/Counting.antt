@@ -35,20 +35,20 @@ left-free scope r t = let each = and_parts (may_hold r) (not (is_held scope r)) 
 -- ---- a register is given away
 
 -- below it, as many are left
-same-below : (scope : List Held) (own : Held) (n : ℕ) → n ≤ own.register → left_below (own ∷ scope) n ≡ left_below scope n
+same-below : (scope : List Held) (held : Held) (n : ℕ) → n ≤ held.register → left_below (held ∷ scope) n ≡ left_below scope n
 unfolding left_below
-same-below scope own zero l = refl
-same-below scope own (suc q) l =
-    let t : (own.register == q) ≡ false = let o : own.register ≢ q = (λ e. omega (arith, l, e)) in grind (arith, nat_tests, o) in
-    let s = same-below scope own q (omega (arith, l)) in
-    ap (λ b. if may_hold q && not (if b then true else is_held scope q) then suc (left_below (own ∷ scope) q) else left_below (own ∷ scope) q) t
+same-below scope held zero l = refl
+same-below scope held (suc q) l =
+    let t : (held.register == q) ≡ false = let o : held.register ≢ q = (λ e. omega (arith, l, e)) in grind (arith, nat_tests, o) in
+    let s = same-below scope held q (omega (arith, l)) in
+    ap (λ b. if may_hold q && not (if b then true else is_held scope q) then suc (left_below (held ∷ scope) q) else left_below (held ∷ scope) q) t
     ∙ ap (λ k. if is_left scope q then suc k else k) s
 
 -- and in all, one less
-one-less : (scope : List Held) (own : Held) (n : ℕ) → left_below scope n ≤ suc (left_below (own ∷ scope) n)
+one-less : (scope : List Held) (held : Held) (n : ℕ) → left_below scope n ≤ suc (left_below (held ∷ scope) n)
 unfolding left_below
-one-less scope own zero = omega arith
-one-less scope own (suc q) = by-test (own.register == q) refl (one-less scope own q)
+one-less scope held zero = omega arith
+one-less scope held (suc q) = by-test (held.register == q) refl (one-less scope held q)
   where
     both : (t : Bool) (a b : ℕ) → a ≤ suc b → (if t then suc a else a) ≤ suc (if t then suc b else b)
     both true a b l = omega (arith, l)
@@ -62,15 +62,15 @@ one-less scope own (suc q) = by-test (own.register == q) refl (one-less scope ow
     none true k = refl
     none false k = refl
 
-    by-test : (t : Bool) → (own.register == q) ≡ t → left_below scope q ≤ suc (left_below (own ∷ scope) q)
+    by-test : (t : Bool) → (held.register == q) ≡ t → left_below scope q ≤ suc (left_below (held ∷ scope) q)
         → (if is_left scope q then suc (left_below scope q) else left_below scope q)
-        ≤ suc (if may_hold q && not (if t then true else is_held scope q) then suc (left_below (own ∷ scope) q) else left_below (own ∷ scope) q)
+        ≤ suc (if may_hold q && not (if t then true else is_held scope q) then suc (left_below (held ∷ scope) q) else left_below (held ∷ scope) q)
     by-test true e l =
-        let k = left_below (own ∷ scope) q in
-        let s : k ≡ left_below scope q = same-below scope own q (omega (arith, eqb-true own.register q e)) in
+        let k = left_below (held ∷ scope) q in
+        let s : k ≡ left_below scope q = same-below scope held q (omega (arith, eqb-true held.register q e)) in
         subst (λ n. (if is_left scope q then suc (left_below scope q) else left_below scope q) ≤ suc n) (sym (none (may_hold q) k))
         (grows (is_left scope q) (left_below scope q) k (sym s))
-    by-test false e l = both (is_left scope q) (left_below scope q) (left_below (own ∷ scope) q) l
+    by-test false e l = both (is_left scope q) (left_below scope q) (left_below (held ∷ scope) q) l
 
-pub still-left : (scope : List Held) (own : Held) (reserved : ℕ) → reserved < left_count scope → reserved ≤ left_count (own ∷ scope)
-still-left scope own reserved l = let m = one-less scope own first_value in omega (arith, l, m)
+pub still-left : (scope : List Held) (held : Held) (reserved : ℕ) → reserved < left_count scope → reserved ≤ left_count (held ∷ scope)
+still-left scope held reserved l = let m = one-less scope held first_value in omega (arith, l, m)

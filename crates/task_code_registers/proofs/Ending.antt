@@ -36,17 +36,18 @@ product-less i n s l z =
 
 -- what a form is besides its strides
 abbrev rest : Counter → ℕ → Values → AffineForm → ℕ
-rest counter hart values own = own.sum.number + sum_of values (others_of counter own.sum.terms) + hart * own.per_hart
+rest counter hart values affine_form = affine_form.sum.number + sum_of values (others_of counter affine_form.sum.terms)
+    + hart * affine_form.per_hart
 
-form-with : (counter : Counter) (v stride hart : ℕ) (values : Values) (own : AffineForm) → stride ≡ strides counter own.sum.terms % 2 ^ 32
-    → form_value hart (with counter v values) own ≡ (rest counter hart values own + v * stride) % 2 ^ 32
+form-with : (counter : Counter) (v stride hart : ℕ) (values : Values) (affine_form : AffineForm) → stride ≡ strides counter affine_form.sum.terms % 2 ^ 32
+    → form_value hart (with counter v values) affine_form ≡ (rest counter hart values affine_form + v * stride) % 2 ^ 32
 unfolding form_value
-form-with counter v stride hart values own e =
-    let b = own.sum.number + sum_of values (others_of counter own.sum.terms) in
-    let h = hart * own.per_hart in
+form-with counter v stride hart values affine_form e =
+    let b = affine_form.sum.number + sum_of values (others_of counter affine_form.sum.terms) in
+    let h = hart * affine_form.per_hart in
     let p = v * stride in
     let g : ((b + p) % 2 ^ 32 + h) % 2 ^ 32 ≡ (b + h + p) % 2 ^ 32 = omega arith in
-    ap (λ n. (n + h) % 2 ^ 32) (linear-with counter v stride values own.sum e) ∙ g
+    ap (λ n. (n + h) % 2 ^ 32) (linear-with counter v stride values affine_form.sum e) ∙ g
 
 by-cases : (a n i s : ℕ) → i < n → 0 < s → n * s < 2 ^ 32 → (suc i < n) ⊎ (n ≤ suc i)
     → not ((a + suc i * s) % 2 ^ 32 == (a + n * s) % 2 ^ 32) ≡ nat_lt (suc i) n

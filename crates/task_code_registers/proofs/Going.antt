@@ -16,20 +16,20 @@ no_hits func x y = ⊥
 abbrev pub either : Hits → Hits → Hits
 either first second func x y = first func x y ⊎ second func x y
 
-module _ (own : Setting) where
-  -- Where code stands, the hart goes from one of its addresses to another, and memory then holds these buffers. Some
+module _ (setting : Setting) where
+  -- Where code is, the hart goes from one of its addresses to another, and memory then holds these buffers. Some
   -- registers stay, and the points that are hit are written on the way.
   pub record Went (whole : List Insn) (from to : ℕ → ℕ) (n : ℕ) (f : ℕ → ℕ) (memory : List ℕ) (keeps_it : ℕ → Type 0) (funcs : Planes)
       (hits : Hits) : Type 0 where
     pub after : ℕ → ℕ
     pub left : List ℕ
-    pub path : (at : ℕ) → Stand own.world.text at whole → Path own.world (from at) (to at) n f memory after left
+    pub path : (at : ℕ) → Stand setting.world.text at whole → Path setting.world (from at) (to at) n f memory after left
     pub keeps : (q : ℕ) → keeps_it q → after q ≡ f q
-    pub holds : HoldsFuncs own left funcs
-    pub elsewhere : (byte : ℕ) → IsElsewhere own.world own.places own.written byte → byte_at own.world.text left byte ≡ byte_at own.world.text memory byte
+    pub holds : HoldsFuncs setting left funcs
+    pub elsewhere : (byte : ℕ) → IsElsewhere setting.world setting.places setting.written byte → byte_at setting.world.text left byte ≡ byte_at setting.world.text memory byte
     pub are_bytes : AreBytes memory → AreBytes left
-    pub writes : (func x y byte at : ℕ) → hits func x y → IsOf own.world own.places func x y byte → Stand own.world.text at whole
-        → Writes own.world (from at) n f memory byte
+    pub writes : (func x y byte at : ℕ) → hits func x y → IsOf setting.world setting.places func x y byte → Stand setting.world.text at whole
+        → Writes setting.world (from at) n f memory byte
 
   -- from the first instruction to after the last
   abbrev pub Does : List Insn → ℕ → (ℕ → ℕ) → List ℕ → (ℕ → Type 0) → Planes → Hits → Type 0
@@ -48,14 +48,14 @@ module _ (own : Setting) where
     went-then {from} {mid} {to} {n} {k} a b = record {
       after = b.after;
       left = b.left;
-      path = λ at s. path-then own.world (from at) (mid at) (to at) n k f a.after b.after memory a.left b.left (a.path at s) (b.path at s);
+      path = λ at s. path-then setting.world (from at) (mid at) (to at) n k f a.after b.after memory a.left b.left (a.path at s) (b.path at s);
       keeps = λ q kept. b.keeps q kept ∙ a.keeps q kept;
       holds = b.holds;
       elsewhere = λ byte other. b.elsewhere byte other ∙ a.elsewhere byte other;
       are_bytes = λ are. b.are_bytes (a.are_bytes are);
       writes = λ func x y byte at hit is s. elim hit [
-        | inl h ↦ writes-first own.world (from at) n k f memory byte (a.writes func x y byte at h is s)
-        | inr h ↦ writes-later own.world (from at) (mid at) n k f a.after memory a.left byte (a.path at s) (b.writes func x y byte at h is s)
+        | inl h ↦ writes-first setting.world (from at) n k f memory byte (a.writes func x y byte at h is s)
+        | inr h ↦ writes-later setting.world (from at) (mid at) n k f a.after memory a.left byte (a.path at s) (b.writes func x y byte at h is s)
       ];
     }
 
@@ -79,22 +79,22 @@ module _ (own : Setting) where
     went-is {from} {to} {n} {k} {funcs} {other} {hits} e g a = record {
       after = a.after;
       left = a.left;
-      path = λ at s. subst (λ i. Path own.world (from at) (to at) i f memory a.after a.left) e (a.path at s);
+      path = λ at s. subst (λ i. Path setting.world (from at) (to at) i f memory a.after a.left) e (a.path at s);
       keeps = a.keeps;
-      holds = subst (λ p. HoldsFuncs own a.left p) g a.holds;
+      holds = subst (λ p. HoldsFuncs setting a.left p) g a.holds;
       elsewhere = a.elsewhere;
       are_bytes = a.are_bytes;
-      writes = λ func x y byte at hit is s. subst (λ i. Writes own.world (from at) i f memory byte) e (a.writes func x y byte at hit is s);
+      writes = λ func x y byte at hit is s. subst (λ i. Writes setting.world (from at) i f memory byte) e (a.writes func x y byte at hit is s);
     }
 
-    -- a part of the code that stands
+    -- a part of the code that is
     abbrev pub within : {is : List Insn} {n : ℕ} {funcs : Planes} {hits : Hits} → (from to : ℕ → ℕ)
-        → ((at : ℕ) → Stand own.world.text at whole → Stand own.world.text (from at) is)
+        → ((at : ℕ) → Stand setting.world.text at whole → Stand setting.world.text (from at) is)
         → ((at : ℕ) → end (from at) is ≡ to at) → Does is n f memory keeps_it funcs hits → Went whole from to n f memory keeps_it funcs hits
     within {is} {n} {funcs} {hits} from to go ends a = record {
       after = a.after;
       left = a.left;
-      path = λ at s. subst (λ p. Path own.world (from at) p n f memory a.after a.left) (ends at) (a.path (from at) (go at s));
+      path = λ at s. subst (λ p. Path setting.world (from at) p n f memory a.after a.left) (ends at) (a.path (from at) (go at s));
       keeps = a.keeps;
       holds = a.holds;
       elsewhere = a.elsewhere;
@@ -103,8 +103,8 @@ module _ (own : Setting) where
     }
 
     -- registers alone change
-    abbrev pub still : {funcs : Planes} (from to : ℕ → ℕ) (n : ℕ) (after : ℕ → ℕ) → HoldsFuncs own memory funcs → ((q : ℕ) → keeps_it q → after q ≡ f q)
-        → ((at : ℕ) → Stand own.world.text at whole → Path own.world (from at) (to at) n f memory after memory)
+    abbrev pub still : {funcs : Planes} (from to : ℕ → ℕ) (n : ℕ) (after : ℕ → ℕ) → HoldsFuncs setting memory funcs → ((q : ℕ) → keeps_it q → after q ≡ f q)
+        → ((at : ℕ) → Stand setting.world.text at whole → Path setting.world (from at) (to at) n f memory after memory)
         → Went whole from to n f memory keeps_it funcs no_hits
     still from to n after holds keeps path = record {
       after = after;

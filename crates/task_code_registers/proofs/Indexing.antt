@@ -22,7 +22,7 @@ use Rattle.task_code_registers.specs.Strides.{strides, others_of, has_counter}
 use Rattle.task_code_registers.proofs.Agreeing.{sum-split}
 use Rattle.task_code_registers.proofs.Knowing.{knows-zero, knows-still, kept-apart}
 use Rattle.task_code_registers.proofs.Making.{puts-then, puts-is, short-then, base-least}
-use Rattle.task_code_registers.proofs.Striding.{regrouped, linear-with, form-steady}
+use Rattle.task_code_registers.proofs.Striding.{regrouped, linear-with, form-loop_invariant}
 
 -- ---- values
 
@@ -36,26 +36,29 @@ has-others counter (first ∷ others) = by-test (same_counter first.counter coun
     by-test true s e = e
     by-test false s e = ap (λ b. if b then true else has_counter counter (others_of counter others)) s ∙ e
 
-linear-split : (counter : Counter) (stride : ℕ) (values : Values) (own : Linear) → stride ≡ strides counter own.terms % 2 ^ 32
-    → linear_value values own ≡ ((own.number + sum_of values (others_of counter own.terms)) + values counter * stride) % 2 ^ 32
+linear-split : (counter : Counter) (stride : ℕ) (values : Values) (new_sum : Linear) → stride ≡ strides counter new_sum.terms % 2 ^ 32
+    → linear_value values new_sum ≡ ((new_sum.number + sum_of values (others_of counter new_sum.terms)) + values counter * stride) % 2 ^ 32
 unfolding linear_value
-linear-split counter stride values own e =
-    ap (λ s. (own.number + s) % 2 ^ 32) (sum-split counter values own.terms)
-    ∙ regrouped own.number (values counter) (strides counter own.terms) (sum_of values (others_of counter own.terms))
-    ∙ ap (λ s. ((own.number + sum_of values (others_of counter own.terms)) + values counter * s) % 2 ^ 32) (sym e)
+linear-split counter stride values new_sum e =
+    ap (λ s. (new_sum.number + s) % 2 ^ 32) (sum-split counter values new_sum.terms)
+    ∙ regrouped new_sum.number (values counter) (strides counter new_sum.terms)
+    (sum_of values (others_of counter new_sum.terms))
+    ∙ ap (λ s. ((new_sum.number + sum_of values (others_of counter new_sum.terms)) + values counter * s) % 2 ^ 32)
+    (sym e)
 
 -- where the variable is 0, and what it adds
-form-split : (counter : Counter) (stride hart : ℕ) (values : Values) (own : AffineForm) → stride ≡ strides counter own.sum.terms % 2 ^ 32
-    → form_value hart values own ≡ (form_value hart (with counter 0 values) own + values counter * stride) % 2 ^ 32
+form-split : (counter : Counter) (stride hart : ℕ) (values : Values) (affine_form : AffineForm) → stride ≡ strides counter affine_form.sum.terms % 2 ^ 32
+    → form_value hart values affine_form ≡ (form_value hart (with counter 0 values) affine_form + values counter *
+    stride) % 2 ^ 32
 unfolding form_value
-form-split counter stride hart values own e =
+form-split counter stride hart values affine_form e =
     let p = values counter * stride in
-    let rest = own.sum.number + sum_of values (others_of counter own.sum.terms) in
-    let h = hart * own.per_hart in
+    let rest = affine_form.sum.number + sum_of values (others_of counter affine_form.sum.terms) in
+    let h = hart * affine_form.per_hart in
     let none : rest + 0 * stride ≡ rest = omega arith in
     let g : ((rest + p) % 2 ^ 32 + h) % 2 ^ 32 ≡ ((rest % 2 ^ 32 + h) % 2 ^ 32 + p) % 2 ^ 32 = omega arith in
-    ap (λ n. (n + h) % 2 ^ 32) (linear-split counter stride values own.sum e) ∙ g
-    ∙ ap (λ n. ((n + h) % 2 ^ 32 + p) % 2 ^ 32) (sym (linear-with counter 0 stride values own.sum e ∙ ap (λ n. n % 2 ^ 32) none))
+    ap (λ n. (n + h) % 2 ^ 32) (linear-split counter stride values affine_form.sum e) ∙ g
+    ∙ ap (λ n. ((n + h) % 2 ^ 32 + p) % 2 ^ 32) (sym (linear-with counter 0 stride values affine_form.sum e ∙ ap (λ n. n % 2 ^ 32) none))
 
 product-is : (n a v s : ℕ) → a ≡ v % 2 ^ 32 → (n + v * s) % 2 ^ 32 ≡ (n + a * s) % 2 ^ 32
 product-is n a v s e =
@@ -67,7 +70,7 @@ module _ (scope : List Held) (form start : AffineForm) (terms : List Term) (coun
     (is : IsNear scope start base.register base.number) (holds : HoldsVariable scope counter s) where
   at-zero : (hart : ℕ) (values : Values) → form_value hart values start ≡ form_value hart (with counter 0 values) form
   at-zero hart values =
-      sym (form-steady counter 0 hart values start (ap (has_counter counter) at.terms ∙ has-others counter form.sum.terms)) ∙ at.value hart 0 values
+      sym (form-loop_invariant counter 0 hart values start (ap (has_counter counter) at.terms ∙ has-others counter form.sum.terms)) ∙ at.value hart 0 values
 
   value-is : (hart : ℕ) (values : Values) (f : ℕ → ℕ) → Knows hart scope values f
       → form_value hart values form ≡ ((f base.register + base.number) + f s * stride) % 2 ^ 32
@@ -92,12 +95,12 @@ module _ (scope : List Held) (form start : AffineForm) (terms : List Term) (coun
 
 -- ---- code
 
-module _ (scope : List Held) (form : AffineForm) (own : Indexed) (r : ℕ) (is : IsIndexed scope form own) (long : 2 ≤ length form.sum.terms) where
+module _ (scope : List Held) (form : AffineForm) (own_indexed : Indexed) (r : ℕ) (is : IsIndexed scope form own_indexed) (long : 2 ≤ length form.sum.terms) where
   abbrev q : ℕ
-  q = own.base.register
+  q = own_indexed.base.register
 
   abbrev n : ℕ
-  n = own.base.number
+  n = own_indexed.base.number
 
   least : 10 ≤ sum_words form.per_hart form.sum.terms
   least = let b = base-least form.per_hart in omega (arith, b, long)
@@ -108,7 +111,8 @@ module _ (scope : List Held) (form : AffineForm) (own : Indexed) (r : ℕ) (is :
   form-is : (p k : ℕ) → ((n + p) % 2 ^ 32 + k * 1) % 2 ^ 32 ≡ ((k + n) + p) % 2 ^ 32
   form-is p k = omega arith
 
-  pub makes-address : (c0 c1 c2 : List ℕ) → r < 32 → Makes c0 c1 3 r (λ f. (f own.index * own.stride) % 2 ^ 32)
+  pub makes-address : (c0 c1 c2 : List ℕ) → r < 32 → Makes c0 c1 3 r
+      (λ f. (f own_indexed.index * own_indexed.stride) % 2 ^ 32)
       → Makes c1 c2 4 r (λ f. (f r + f q * 1) % 2 ^ 32)
       → MakesAddress c0 c2 (sum_words form.per_hart form.sum.terms) scope r r n (λ hart values. form_value hart values form)
   makes-address c0 c1 c2 low x y = record {
@@ -129,13 +133,15 @@ module _ (scope : List Held) (form : AffineForm) (own : Indexed) (r : ℕ) (is :
           line = b.line;
           value =
               ap (λ v. (v + n) % 2 ^ 32) b.value ∙ ap (λ v. ((v + a.after q * 1) % 2 ^ 32 + n) % 2 ^ 32) a.value
-              ∙ ap (λ v. (((f own.index * own.stride) % 2 ^ 32 + v * 1) % 2 ^ 32 + n) % 2 ^ 32) (still q is.kept)
-              ∙ address-is (f own.index * own.stride) (f q) ∙ sym (is.value hart values f knows);
+              ∙ ap (λ v. (((f own_indexed.index * own_indexed.stride) % 2 ^ 32 + v * 1) % 2 ^ 32 + n) % 2 ^ 32)
+              (still q is.kept)
+              ∙ address-is (f own_indexed.index * own_indexed.stride) (f q) ∙ sym (is.value hart values f knows);
           others = b.others;
         };
   }
 
-  pub makes-value : (c0 c1 c2 : List ℕ) → MakesOf c0 c1 6 r own.index (λ v. (n + v * own.stride) % 2 ^ 32)
+  pub makes-value : (c0 c1 c2 : List ℕ) → MakesOf c0 c1 6 r own_indexed.index
+      (λ v. (n + v * own_indexed.stride) % 2 ^ 32)
       → Makes c1 c2 4 r (λ f. (f r + f q * 1) % 2 ^ 32)
       → MakesForm c0 c2 (sum_words form.per_hart form.sum.terms) scope r (λ hart values. form_value hart values form)
   makes-value c0 c1 c2 x y = record {
@@ -149,7 +155,7 @@ module _ (scope : List Held) (form : AffineForm) (own : Indexed) (r : ℕ) (is :
         let b = y.does w m a.after l (knows-zero hart scope values a.after k) in
         let value : (a.after r + a.after q * 1) % 2 ^ 32 ≡ form_value hart values form =
         ap (λ v. (v + a.after q * 1) % 2 ^ 32) a.value
-        ∙ ap (λ v. ((n + f own.index * own.stride) % 2 ^ 32 + v * 1) % 2 ^ 32) (still q is.kept)
-        ∙ form-is (f own.index * own.stride) (f q) ∙ sym (is.value hart values f knows) in
+        ∙ ap (λ v. ((n + f own_indexed.index * own_indexed.stride) % 2 ^ 32 + v * 1) % 2 ^ 32) (still q is.kept)
+        ∙ form-is (f own_indexed.index * own_indexed.stride) (f q) ∙ sym (is.value hart values f knows) in
         puts-then w m l a (inr (inr refl)) (puts-is w m l value b);
   }

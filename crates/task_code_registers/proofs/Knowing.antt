@@ -98,9 +98,9 @@ others-are (x ∷ xs) other some =
 
 -- ---- values of forms
 
-pub linear-small : (values : Values) (own : Linear) → linear_value values own < 2 ^ 32
+pub linear-small : (values : Values) (sum : Linear) → linear_value values sum < 2 ^ 32
 unfolding linear_value
-linear-small values own = omega arith
+linear-small values sum = omega arith
 
 pub form-small : (hart : ℕ) (values : Values) (form : AffineForm) → form_value hart values form < 2 ^ 32
 unfolding form_value

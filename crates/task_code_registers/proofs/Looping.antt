@@ -33,17 +33,18 @@ is-below a b l = grind (arith, nat_tests)
 is-above : (a b : ℕ) → b ≤ a → nat_lt a b ≡ false
 is-above a b l = grind (arith, nat_tests)
 
-module _ (own : Setting) (keeps_it : ℕ → Type 0) (inv : ℕ → (ℕ → ℕ) → Type 0) (n : ℕ) (body advance : List Insn) (op : BranchOp) (a b : ℕ) (la : a < 32)
+module _ (setting : Setting) (keeps_it : ℕ → Type 0) (inv : ℕ → (ℕ → ℕ) → Type 0) (n : ℕ) (body advance : List Insn) (op : BranchOp) (a b : ℕ) (la : a < 32)
     (lb : b < 32)
     (some : 1 ≤ length (body ++ advance))
     (t : ℕ → ℕ) (one : ℕ → Planes → Planes) (body_hits : ℕ → Planes → Hits)
-    (does : (i : ℕ) (f : ℕ → ℕ) (memory : List ℕ) (funcs : Planes) → i < n → HoldsFuncs own memory funcs → inv i f
-    → Marked own (inv i) body (λ at. at) (λ at. end at body) (t i) f memory keeps_it (one i funcs) (body_hits i funcs))
-    (step : (i : ℕ) (f : ℕ → ℕ) (memory : List ℕ) → i < n → length memory ≡ own.world.size → inv i f
-    → Stepped own.world memory advance f keeps_it (inv (suc i)))
+    (does : (i : ℕ) (f : ℕ → ℕ) (memory : List ℕ) (funcs : Planes) → i < n → HoldsFuncs setting memory funcs → inv i f
+    → Marked setting (inv i) body (λ at. at) (λ at. end at body) (t i) f memory keeps_it (one i funcs)
+    (body_hits i funcs))
+    (step : (i : ℕ) (f : ℕ → ℕ) (memory : List ℕ) → i < n → length memory ≡ setting.world.size → inv i f
+    → Stepped setting.world memory advance f keeps_it (inv (suc i)))
     (tested : (i : ℕ) (f : ℕ → ℕ) → i < n → inv (suc i) f → is_taken op (f a) (f b) ≡ nat_lt (suc i) n) where
   abbrev w : World
-  w = own.world
+  w = setting.world
 
   abbrev part : List Insn
   part = body ++ advance
@@ -63,19 +64,19 @@ module _ (own : Setting) (keeps_it : ℕ → Type 0) (inv : ℕ → (ℕ → ℕ
   abbrev cost : ℕ → ℕ
   cost i = t i + length advance + 1
 
-  half : (i : ℕ) (f : ℕ → ℕ) (memory : List ℕ) (funcs : Planes) → i < n → HoldsFuncs own memory funcs → inv i f
-      → Marked own (inv (suc i)) whole (λ at. at) mid (t i + length advance) f memory keeps_it (one i funcs) (body_hits i funcs)
+  half : (i : ℕ) (f : ℕ → ℕ) (memory : List ℕ) (funcs : Planes) → i < n → HoldsFuncs setting memory funcs → inv i f
+      → Marked setting (inv (suc i)) whole (λ at. at) mid (t i + length advance) f memory keeps_it (one i funcs) (body_hits i funcs)
   half i f memory funcs less holds is =
       let made = does i f memory funcs less holds is in
       let inner = made.went in
-      let first : Went own whole (λ at. at) (λ at. end at body) (t i) f memory keeps_it (one i funcs) (body_hits i funcs) =
-      within own (λ at. at) (λ at. end at body) (λ at s. stand-front w.text at body advance (stand-front w.text at part branch s)) (λ at. refl) inner in
+      let first : Went setting whole (λ at. at) (λ at. end at body) (t i) f memory keeps_it (one i funcs) (body_hits i funcs) =
+      within setting (λ at. at) (λ at. end at body) (λ at s. stand-front w.text at body advance (stand-front w.text at part branch s)) (λ at. refl) inner in
       let moved = step i inner.after inner.left less inner.holds.size made.mark in
-      let second : Went own whole (λ at. end at body) mid (length advance) inner.after inner.left keeps_it (one i funcs) no_hits =
-      still own (λ at. end at body) mid (length advance) moved.after inner.holds moved.keeps
+      let second : Went setting whole (λ at. end at body) mid (length advance) inner.after inner.left keeps_it (one i funcs) no_hits =
+      still setting (λ at. end at body) mid (length advance) moved.after inner.holds moved.keeps
       (λ at s. subst (λ p. Path w (end at body) p (length advance) inner.after inner.left moved.after inner.left) (sym (end-append at body advance))
       (moved.line (end at body) (stand-back w.text at body advance (stand-front w.text at part branch s)))) in
-      record { went = went-hits own (λ func x y hit. inl hit) (went-then own first second); mark = moved.mark }
+      record { went = went-hits setting (λ func x y hit. inl hit) (went-then setting first second); mark = moved.mark }
 
   again : (i : ℕ) (g : ℕ → ℕ) (memory : List ℕ) → suc i < n → inv (suc i) g → length memory ≡ w.size → (at : ℕ) → Stand w.text at whole
       → Path w (mid at) at 1 g memory g memory
@@ -96,25 +97,25 @@ module _ (own : Setting) (keeps_it : ℕ → Type 0) (inv : ℕ → (ℕ → ℕ
   -- an iteration, and the way back, or out
   iteration : (to : ℕ → ℕ) (i : ℕ) (f : ℕ → ℕ) (memory : List ℕ) (funcs : Planes) → i < n
       → ((g : ℕ → ℕ) (m : List ℕ) → inv (suc i) g → length m ≡ w.size → (at : ℕ) → Stand w.text at whole → Path w (mid at) (to at) 1 g m g m)
-      → HoldsFuncs own memory funcs → inv i f → Marked own (inv (suc i)) whole (λ at. at) to (cost i) f memory keeps_it (one i funcs) (body_hits i funcs)
+      → HoldsFuncs setting memory funcs → inv i f → Marked setting (inv (suc i)) whole (λ at. at) to (cost i) f memory keeps_it (one i funcs) (body_hits i funcs)
   iteration to i f memory funcs less go holds is =
       let h = half i f memory funcs less holds is in
       let a = h.went in
-      let last : Went own whole mid to 1 a.after a.left keeps_it (one i funcs) no_hits =
-      still own mid to 1 a.after a.holds (λ q kept. refl) (λ at s. go a.after a.left h.mark a.holds.size at s) in
-      record { went = went-hits own (λ func x y hit. inl hit) (went-then own a last); mark = h.mark }
+      let last : Went setting whole mid to 1 a.after a.left keeps_it (one i funcs) no_hits =
+      still setting mid to 1 a.after a.holds (λ q kept. refl) (λ at s. go a.after a.left h.mark a.holds.size at s) in
+      record { went = went-hits setting (λ func x y hit. inl hit) (went-then setting a last); mark = h.mark }
 
   -- ---- all iterations
 
   module _ (hits : ℕ → Planes → Hits) (none_hit : (funcs : Planes) (func x y : ℕ) → hits zero funcs func x y → ⊥)
       (more_hit : (i : ℕ) (funcs : Planes) (func x y : ℕ) → hits (suc i) funcs func x y
       → hits i funcs func x y ⊎ body_hits i (iterated i one funcs) func x y) where
-    iterations : (k : ℕ) → k < n → (f : ℕ → ℕ) (memory : List ℕ) (funcs : Planes) → HoldsFuncs own memory funcs → inv 0 f
-        → Marked own (inv k) whole (λ at. at) (λ at. at) (total k cost) f memory keeps_it (iterated k one funcs) (hits k funcs)
+    iterations : (k : ℕ) → k < n → (f : ℕ → ℕ) (memory : List ℕ) (funcs : Planes) → HoldsFuncs setting memory funcs → inv 0 f
+        → Marked setting (inv k) whole (λ at. at) (λ at. at) (total k cost) f memory keeps_it (iterated k one funcs) (hits k funcs)
     unfolding iterated total
     iterations zero few f memory funcs holds is = record {
-      went = went-hits own (λ func x y hit. none_hit funcs func x y hit)
-          (still own (λ at. at) (λ at. at) 0 f holds (λ q kept. refl) (λ at s. stay w at f memory));
+      went = went-hits setting (λ func x y hit. none_hit funcs func x y hit)
+          (still setting (λ at. at) (λ at. at) 0 f holds (λ q kept. refl) (λ at s. stay w at f memory));
       mark = is;
     }
     iterations (suc k) few f memory funcs holds is =
@@ -122,21 +123,22 @@ module _ (own : Setting) (keeps_it : ℕ → Type 0) (inv : ℕ → (ℕ → ℕ
         let a = so_far.went in
         let b = iteration (λ at. at) k a.after a.left (iterated k one funcs) (omega (arith, few))
         (λ g m known l at s. again k g m few known l at s) a.holds so_far.mark in
-        record { went = went-hits own (more_hit k funcs) (went-then own a b.went); mark = b.mark }
+        record { went = went-hits setting (more_hit k funcs) (went-then setting a b.went); mark = b.mark }
 
-    loop-out : (k : ℕ) → suc k ≡ n → (f : ℕ → ℕ) (memory : List ℕ) (funcs : Planes) → HoldsFuncs own memory funcs → inv 0 f
-        → Marked own (inv (suc k)) whole (λ at. at) out (total (suc k) cost) f memory keeps_it (iterated (suc k) one funcs) (hits (suc k) funcs)
+    loop-out : (k : ℕ) → suc k ≡ n → (f : ℕ → ℕ) (memory : List ℕ) (funcs : Planes) → HoldsFuncs setting memory funcs → inv 0 f
+        → Marked setting (inv (suc k)) whole (λ at. at) out (total (suc k) cost) f memory keeps_it (iterated (suc k) one funcs) (hits (suc k) funcs)
     unfolding iterated total
     loop-out k last f memory funcs holds is =
         let so_far = iterations k (omega (arith, last)) f memory funcs holds is in
         let a = so_far.went in
         let b = iteration out k a.after a.left (iterated k one funcs) (omega (arith, last))
         (λ g m known l at s. leaves k g m last known l at s) a.holds so_far.mark in
-        record { went = went-hits own (more_hit k funcs) (went-then own a b.went); mark = b.mark }
+        record { went = went-hits setting (more_hit k funcs) (went-then setting a b.went); mark = b.mark }
 
     ended : (k : ℕ) (f : ℕ → ℕ) (memory : List ℕ) (funcs : Planes)
-        → Marked own (inv k) whole (λ at. at) out (total k cost) f memory keeps_it (iterated k one funcs) (hits k funcs)
-        → Marked own (inv k) whole (λ at. at) (λ at. end at whole) (total k cost) f memory keeps_it (iterated k one funcs) (hits k funcs)
+        → Marked setting (inv k) whole (λ at. at) out (total k cost) f memory keeps_it (iterated k one funcs)
+        (hits k funcs)
+        → Marked setting (inv k) whole (λ at. at) (λ at. end at whole) (total k cost) f memory keeps_it (iterated k one funcs) (hits k funcs)
     ended k f memory funcs x =
         let a = x.went in
         record {
@@ -153,11 +155,11 @@ module _ (own : Setting) (keeps_it : ℕ → Type 0) (inv : ℕ → (ℕ → ℕ
           mark = x.mark;
         }
 
-    pub loop-goes : 1 ≤ n → (f : ℕ → ℕ) (memory : List ℕ) (funcs : Planes) → HoldsFuncs own memory funcs → inv 0 f
-        → Marked own (inv n) whole (λ at. at) (λ at. end at whole) (total n cost) f memory keeps_it (iterated n one funcs) (hits n funcs)
+    pub loop-goes : 1 ≤ n → (f : ℕ → ℕ) (memory : List ℕ) (funcs : Planes) → HoldsFuncs setting memory funcs → inv 0 f
+        → Marked setting (inv n) whole (λ at. at) (λ at. end at whole) (total n cost) f memory keeps_it (iterated n one funcs) (hits n funcs)
     loop-goes any f memory funcs holds is =
         let e : suc (n - 1) ≡ n = omega (arith, any) in
-        subst (λ k. Marked own (inv k) whole (λ at. at) (λ at. end at whole) (total k cost) f memory keeps_it (iterated k one funcs) (hits k funcs)) e
+        subst (λ k. Marked setting (inv k) whole (λ at. at) (λ at. end at whole) (total k cost) f memory keeps_it (iterated k one funcs) (hits k funcs)) e
         (ended (suc (n - 1)) f memory funcs (loop-out (n - 1) e f memory funcs holds is))
 
 -- ---- of scopes

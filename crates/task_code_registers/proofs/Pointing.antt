@@ -147,27 +147,27 @@ moved a s b d h e =
     let g : (s + b) + d * h ≡ s + d * h + b = omega arith in
     mod-add-mod a (2 ^ 32) (h * d) ∙ ap (λ k. (a + k) % 2 ^ 32) p ∙ both-sums a (s + b) (d * h) (d * h) e refl ∙ ap (λ k. k % 2 ^ 32) g
 
-pub point-is : (place : BufferLayout) (x y : Linear) (made : AffineForm) (bytes row rows columns far : ℕ) → bytes ≡ pixel_bytes place.pixels
-    → row ≡ word.multiply bytes place.width
-    → made.sum.terms ≡ times row y.terms ++ times bytes x.terms → rows ≡ word.multiply y.number row → columns ≡ word.multiply x.number bytes
+pub point-is : (layout : BufferLayout) (x y : Linear) (form : AffineForm) (bytes row rows columns far : ℕ) → bytes ≡ pixel_bytes layout.pixels
+    → row ≡ word.multiply bytes layout.width
+    → form.sum.terms ≡ times row y.terms ++ times bytes x.terms → rows ≡ word.multiply y.number row → columns ≡ word.multiply x.number bytes
     → far ≡ word.add rows columns
-    → made.sum.number ≡ word.add place.start far → made.per_hart ≡ place.distance → IsPoint place x y made
+    → form.sum.number ≡ word.add layout.start far → form.per_hart ≡ layout.distance → IsPoint layout x y form
 unfolding form_value linear_value
-point-is place x y made bytes row rows columns far eb er et e1 e2 e3 e4 eh = record {
+point-is layout x y form bytes row rows columns far eb er et e1 e2 e3 e4 eh = record {
   value = λ hart values.
       let sx = sum_of values x.terms in
       let sy = sum_of values y.terms in
       let xv = (x.number + sx) % 2 ^ 32 in
       let yv = (y.number + sy) % 2 ^ 32 in
-      let sum = sum_of values made.sum.terms in
+      let sum = sum_of values form.sum.terms in
       let es : sum % 2 ^ 32 ≡ (sy * row + sx * bytes) % 2 ^ 32 =
       ap (λ ts. sum_of values ts % 2 ^ 32) et ∙ ap (λ n. n % 2 ^ 32) (sum-append values (times row y.terms) (times bytes x.terms))
       ∙ both-sums (sum_of values (times row y.terms)) (sy * row) (sum_of values (times bytes x.terms)) (sx * bytes) (sum-times values row y.terms)
       (sum-times values bytes x.terms) in
-      ap (λ d. ((made.sum.number + sum) % 2 ^ 32 + hart * d) % 2 ^ 32) eh
-      ∙ moved (made.sum.number + sum) place.start (bytes * (yv * place.width + xv)) place.distance hart
-      (spread place.start place.width bytes x.number y.number sx sy row rows columns far made.sum.number sum er e1 e2 e3 e4 es)
-      ∙ ap (λ b. (place.start + place.distance * hart + b * (yv * place.width + xv)) % 2 ^ 32) eb;
+      ap (λ d. ((form.sum.number + sum) % 2 ^ 32 + hart * d) % 2 ^ 32) eh
+      ∙ moved (form.sum.number + sum) layout.start (bytes * (yv * layout.width + xv)) layout.distance hart
+      (spread layout.start layout.width bytes x.number y.number sx sy row rows columns far form.sum.number sum er e1 e2 e3 e4 es)
+      ∙ ap (λ b. (layout.start + layout.distance * hart + b * (yv * layout.width + xv)) % 2 ^ 32) eb;
   few =
       let n = ap length et ∙ length-append (times row y.terms) (times bytes x.terms) in
       let a = length-times row y.terms in

@@ -17,7 +17,7 @@ use Rattle.task_code_registers.specs.Holding.{IsAt}
 use Rattle.task_code_registers.specs.declared.scopes.AffineForm.{AffineForm}
 use Rattle.task_code_registers.proofs.Knowing.{others-are}
 
--- a sum where the variable stands at a number
+-- a sum where the variable is at a number
 pub sum-with : (counter : Counter) (v : ℕ) (values : Values) (terms : List Term)
     → sum_of (with counter v values) terms ≡ v * strides counter terms + sum_of values (others_of counter terms)
 sum-with counter v values [] = let e : 0 ≡ v * 0 + 0 = omega arith in e
@@ -53,10 +53,11 @@ others-others counter (first ∷ others) = by-test (same_counter first.counter c
         ∙ ap (λ ts. first ∷ ts) e
 
 -- where there is no term of it, it doesn't count
-pub sum-steady : (counter : Counter) (v : ℕ) (values : Values) (terms : List Term) → has_counter counter terms ≡ false
+pub sum-loop_invariant : (counter : Counter) (v : ℕ) (values : Values) (terms : List Term)
+    → has_counter counter terms ≡ false
     → sum_of (with counter v values) terms ≡ sum_of values terms
-sum-steady counter v values [] e = refl
-sum-steady counter v values (first ∷ others) e = by-test (same_counter first.counter counter) e (sum-steady counter v values others)
+sum-loop_invariant counter v values [] e = refl
+sum-loop_invariant counter v values (first ∷ others) e = by-test (same_counter first.counter counter) e (sum-loop_invariant counter v values others)
   where
     by-test : (t : Bool) → (if t then true else has_counter counter others) ≡ false
         → (has_counter counter others ≡ false → sum_of (with counter v values) others ≡ sum_of values others)
@@ -65,10 +66,12 @@ sum-steady counter v values (first ∷ others) e = by-test (same_counter first.c
     by-test true h g = absurd (true≢false h)
     by-test false h g = ap (λ s. values first.counter * first.stride + s) (g h)
 
-pub linear-steady : (counter : Counter) (v : ℕ) (values : Values) (own : Linear) → has_counter counter own.terms ≡ false
+pub linear-loop_invariant : (counter : Counter) (v : ℕ) (values : Values) (own : Linear)
+    → has_counter counter own.terms ≡ false
     → linear_value (with counter v values) own ≡ linear_value values own
 unfolding linear_value
-linear-steady counter v values own e = ap (λ s. (own.number + s) % 2 ^ 32) (sum-steady counter v values own.terms e)
+linear-loop_invariant counter v values own e = ap (λ s. (own.number + s) % 2 ^ 32)
+    (sum-loop_invariant counter v values own.terms e)
 
 -- by iterations
 pub regrouped : (number v s rest : ℕ) → (number + (v * s + rest)) % 2 ^ 32 ≡ ((number + rest) + v * (s % 2 ^ 32)) % 2 ^ 32
@@ -77,68 +80,69 @@ regrouped number v s rest =
     ap (λ n. n % 2 ^ 32) e ∙ sym (add-mod-mod (number + rest) (v * s) (2 ^ 32))
     ∙ ap (λ n. ((number + rest) + n) % 2 ^ 32) (sym (mul-mod_second v s (2 ^ 32))) ∙ add-mod-mod (number + rest) (v * (s % 2 ^ 32)) (2 ^ 32)
 
-pub linear-with : (counter : Counter) (v stride : ℕ) (values : Values) (own : Linear) → stride ≡ strides counter own.terms % 2 ^ 32
-    → linear_value (with counter v values) own ≡ ((own.number + sum_of values (others_of counter own.terms)) + v * stride) % 2 ^ 32
+pub linear-with : (counter : Counter) (v stride : ℕ) (values : Values) (new_sum : Linear) → stride ≡ strides counter new_sum.terms % 2 ^ 32
+    → linear_value (with counter v values) new_sum ≡ ((new_sum.number + sum_of values (others_of counter new_sum.terms)) + v * stride) % 2 ^ 32
 unfolding linear_value
-linear-with counter v stride values own e =
-    ap (λ s. (own.number + s) % 2 ^ 32) (sum-with counter v values own.terms)
-    ∙ regrouped own.number v (strides counter own.terms) (sum_of values (others_of counter own.terms))
-    ∙ ap (λ s. ((own.number + sum_of values (others_of counter own.terms)) + v * s) % 2 ^ 32) (sym e)
+linear-with counter v stride values new_sum e =
+    ap (λ s. (new_sum.number + s) % 2 ^ 32) (sum-with counter v values new_sum.terms)
+    ∙ regrouped new_sum.number v (strides counter new_sum.terms) (sum_of values (others_of counter new_sum.terms))
+    ∙ ap (λ s. ((new_sum.number + sum_of values (others_of counter new_sum.terms)) + v * s) % 2 ^ 32) (sym e)
 
 -- one iteration further
-pub linear-next : (counter : Counter) (i stride : ℕ) (values : Values) (own : Linear) → stride ≡ strides counter own.terms % 2 ^ 32
-    → (linear_value (with counter i values) own + stride) % 2 ^ 32 ≡ linear_value (with counter (suc i) values) own
-linear-next counter i stride values own e =
-    let a = own.number + sum_of values (others_of counter own.terms) in
+pub linear-next : (counter : Counter) (i stride : ℕ) (values : Values) (new_sum : Linear) → stride ≡ strides counter new_sum.terms % 2 ^ 32
+    → (linear_value (with counter i values) new_sum + stride) % 2 ^ 32 ≡ linear_value (with counter (suc i) values)
+    new_sum
+linear-next counter i stride values new_sum e =
+    let a = new_sum.number + sum_of values (others_of counter new_sum.terms) in
     let g : (a + i * stride) + stride ≡ a + suc i * stride = omega arith in
-    ap (λ n. (n + stride) % 2 ^ 32) (linear-with counter i stride values own e) ∙ mod-add-mod (a + i * stride) (2 ^ 32) stride ∙ ap (λ n. n % 2 ^ 32) g
-    ∙ sym (linear-with counter (suc i) stride values own e)
+    ap (λ n. (n + stride) % 2 ^ 32) (linear-with counter i stride values new_sum e) ∙ mod-add-mod (a + i * stride) (2 ^ 32) stride ∙ ap (λ n. n % 2 ^ 32) g
+    ∙ sym (linear-with counter (suc i) stride values new_sum e)
 
--- where the variable stands at a number, once and for all
-pub linear-at : (counter : Counter) (v value stride : ℕ) (values : Values) (own made : Linear) → stride ≡ strides counter own.terms % 2 ^ 32
-    → made.terms ≡ others_of counter own.terms
-    → made.number ≡ word.add own.number (word.multiply stride value) → linear_value (with counter v values) made ≡ linear_value (with counter value values) own
+-- where the variable is at a number, once and for all
+pub linear-at : (counter : Counter) (v value stride : ℕ) (values : Values) (new_sum made : Linear) → stride ≡ strides counter new_sum.terms % 2 ^ 32
+    → made.terms ≡ others_of counter new_sum.terms
+    → made.number ≡ word.add new_sum.number (word.multiply stride value) → linear_value (with counter v values) made ≡ linear_value (with counter value values) new_sum
 unfolding linear_value word.add word.multiply
-linear-at counter v value stride values own made es et en =
-    let rest = sum_of values (others_of counter own.terms) in
+linear-at counter v value stride values new_sum made es et en =
+    let rest = sum_of values (others_of counter new_sum.terms) in
     let z : v * 0 + rest ≡ rest = omega arith in
     let sum : sum_of (with counter v values) made.terms ≡ rest =
-    ap (sum_of (with counter v values)) et ∙ sum-with counter v values (others_of counter own.terms)
-    ∙ ap (λ s. v * s + sum_of values (others_of counter (others_of counter own.terms))) (strides-others counter own.terms)
-    ∙ ap (λ ts. v * 0 + sum_of values ts) (others-others counter own.terms) ∙ z in
+    ap (sum_of (with counter v values)) et ∙ sum-with counter v values (others_of counter new_sum.terms)
+    ∙ ap (λ s. v * s + sum_of values (others_of counter (others_of counter new_sum.terms))) (strides-others counter new_sum.terms)
+    ∙ ap (λ ts. v * 0 + sum_of values ts) (others-others counter new_sum.terms) ∙ z in
     let iteration : stride * value ≡ value * stride = omega arith in
-    let swap : (own.number + value * stride) + rest ≡ (own.number + rest) + value * stride = omega arith in
-    ap (λ s. (made.number + s) % 2 ^ 32) sum ∙ ap (λ n. (n + rest) % 2 ^ 32) en ∙ mod-add-mod (own.number + (stride * value) % 2 ^ 32) (2 ^ 32) rest
-    ∙ sym (mod-add-mod (own.number + (stride * value) % 2 ^ 32) (2 ^ 32) rest)
-    ∙ ap (λ n. (n + rest) % 2 ^ 32) (add-mod-mod own.number (stride * value) (2 ^ 32)) ∙ mod-add-mod (own.number + stride * value) (2 ^ 32) rest
-    ∙ ap (λ p. ((own.number + p) + rest) % 2 ^ 32) iteration ∙ ap (λ n. n % 2 ^ 32) swap ∙ sym (linear-with counter value stride values own es)
+    let swap : (new_sum.number + value * stride) + rest ≡ (new_sum.number + rest) + value * stride = omega arith in
+    ap (λ s. (made.number + s) % 2 ^ 32) sum ∙ ap (λ n. (n + rest) % 2 ^ 32) en ∙ mod-add-mod (new_sum.number + (stride * value) % 2 ^ 32) (2 ^ 32) rest
+    ∙ sym (mod-add-mod (new_sum.number + (stride * value) % 2 ^ 32) (2 ^ 32) rest)
+    ∙ ap (λ n. (n + rest) % 2 ^ 32) (add-mod-mod new_sum.number (stride * value) (2 ^ 32)) ∙ mod-add-mod (new_sum.number + stride * value) (2 ^ 32) rest
+    ∙ ap (λ p. ((new_sum.number + p) + rest) % 2 ^ 32) iteration ∙ ap (λ n. n % 2 ^ 32) swap ∙ sym (linear-with counter value stride values new_sum es)
 
 -- ---- forms
 
-pub form-steady : (counter : Counter) (v hart : ℕ) (values : Values) (own : AffineForm) → has_counter counter own.sum.terms ≡ false
+pub form-loop_invariant : (counter : Counter) (v hart : ℕ) (values : Values) (own : AffineForm) → has_counter counter own.sum.terms ≡ false
     → form_value hart (with counter v values) own ≡ form_value hart values own
 unfolding form_value
-form-steady counter v hart values own e = ap (λ n. (n + hart * own.per_hart) % 2 ^ 32) (linear-steady counter v values own.sum e)
+form-loop_invariant counter v hart values own e = ap (λ n. (n + hart * own.per_hart) % 2 ^ 32) (linear-loop_invariant counter v values own.sum e)
 
-pub form-next : (counter : Counter) (i stride hart : ℕ) (values : Values) (own : AffineForm) → stride ≡ strides counter own.sum.terms % 2 ^ 32
-    → (form_value hart (with counter i values) own + stride) % 2 ^ 32 ≡ form_value hart (with counter (suc i) values) own
+pub form-next : (counter : Counter) (i stride hart : ℕ) (values : Values) (affine_form : AffineForm) → stride ≡ strides counter affine_form.sum.terms % 2 ^ 32
+    → (form_value hart (with counter i values) affine_form + stride) % 2 ^ 32 ≡ form_value hart (with counter (suc i) values) affine_form
 unfolding form_value
-form-next counter i stride hart values own e =
-    let h = hart * own.per_hart in
-    let a = linear_value (with counter i values) own.sum in
+form-next counter i stride hart values affine_form e =
+    let h = hart * affine_form.per_hart in
+    let a = linear_value (with counter i values) affine_form.sum in
     let g : ((a + h) % 2 ^ 32 + stride) % 2 ^ 32 ≡ ((a + stride) % 2 ^ 32 + h) % 2 ^ 32 = omega arith in
-    g ∙ ap (λ n. (n + h) % 2 ^ 32) (linear-next counter i stride values own.sum e)
+    g ∙ ap (λ n. (n + h) % 2 ^ 32) (linear-next counter i stride values affine_form.sum e)
 
-pub form-at : (counter : Counter) (value stride : ℕ) (own made : AffineForm) → stride ≡ strides counter own.sum.terms % 2 ^ 32
-    → made.sum.terms ≡ others_of counter own.sum.terms
-    → made.sum.number ≡ word.add own.sum.number (word.multiply stride value) → made.per_hart ≡ own.per_hart → IsAt counter value own made
+pub form-at : (counter : Counter) (value stride : ℕ) (affine_form new_form : AffineForm) → stride ≡ strides counter affine_form.sum.terms % 2 ^ 32
+    → new_form.sum.terms ≡ others_of counter affine_form.sum.terms
+    → new_form.sum.number ≡ word.add affine_form.sum.number (word.multiply stride value) → new_form.per_hart ≡ affine_form.per_hart → IsAt counter value affine_form new_form
 unfolding form_value
-form-at counter value stride own made es et en eh = record {
+form-at counter value stride affine_form new_form es et en eh = record {
   terms = et;
   per_hart = eh;
   value = λ hart v values.
-      ap (λ k. (linear_value (with counter v values) made.sum + hart * k) % 2 ^ 32) eh
-      ∙ ap (λ n. (n + hart * own.per_hart) % 2 ^ 32) (linear-at counter v value stride values own.sum made.sum es et en);
+      ap (λ k. (linear_value (with counter v values) new_form.sum + hart * k) % 2 ^ 32) eh
+      ∙ ap (λ n. (n + hart * affine_form.per_hart) % 2 ^ 32) (linear-at counter v value stride values affine_form.sum new_form.sum es et en);
 }
 
 pub others-fewer : (counter : Counter) (terms : List Term) → length (others_of counter terms) ≤ length terms

@@ -25,37 +25,39 @@ apart-by : (n m s t d : ℕ) → m < 2 ^ 32 → s % 2 ^ 32 ≡ t % 2 ^ 32 → d 
     → (n + s) % 2 ^ 32 ≡ ((m + t) % 2 ^ 32 + d) % 2 ^ 32
 apart-by n m s t d small es e = omega (arith, small, es, e)
 
-linear-apart : (values : Values) (own base : Linear) (d : ℕ) → base.number < 2 ^ 32 → d ≡ word.subtract own.number base.number
-    → sum_of values own.terms % 2 ^ 32 ≡ sum_of values base.terms % 2 ^ 32 → linear_value values own ≡ (linear_value values base + d) % 2 ^ 32
+linear-apart : (values : Values) (new_sum base : Linear) (d : ℕ) → base.number < 2 ^ 32 → d ≡ word.subtract new_sum.number base.number
+    → sum_of values new_sum.terms % 2 ^ 32 ≡ sum_of values base.terms % 2 ^ 32 → linear_value values new_sum ≡ (linear_value values base + d) % 2 ^ 32
 unfolding linear_value word.subtract
-linear-apart values own base d small e same =
-    apart-by own.number base.number (sum_of values own.terms) (sum_of values base.terms) d small same e
+linear-apart values new_sum base d small e same =
+    apart-by new_sum.number base.number (sum_of values new_sum.terms) (sum_of values base.terms) d small same e
 
 moved : (a b h d : ℕ) → a ≡ (b + d) % 2 ^ 32 → (a + h) % 2 ^ 32 ≡ ((b + h) % 2 ^ 32 + d) % 2 ^ 32
 moved a b h d e = omega (arith, e)
 
 -- two forms with the same part of the hart's number and the same sum of terms
-pub form-apart : (own base : AffineForm) (d : ℕ) → base.sum.number < 2 ^ 32 → own.per_hart ≡ base.per_hart
-    → d ≡ word.subtract own.sum.number base.sum.number
-    → ((values : Values) → sum_of values own.sum.terms % 2 ^ 32 ≡ sum_of values base.sum.terms % 2 ^ 32)
-    → (hart : ℕ) (values : Values) → form_value hart values own ≡ (form_value hart values base + d) % 2 ^ 32
+pub form-apart : (affine_form base : AffineForm) (d : ℕ) → base.sum.number < 2 ^ 32
+    → affine_form.per_hart ≡ base.per_hart
+    → d ≡ word.subtract affine_form.sum.number base.sum.number
+    → ((values : Values) → sum_of values affine_form.sum.terms % 2 ^ 32 ≡ sum_of values base.sum.terms % 2 ^ 32)
+    → (hart : ℕ) (values : Values) → form_value hart values affine_form ≡ (form_value hart values base + d) % 2 ^ 32
 unfolding form_value
-form-apart own base d small part e same hart values =
-    ap (λ k. (linear_value values own.sum + hart * k) % 2 ^ 32) part
-    ∙ moved (linear_value values own.sum) (linear_value values base.sum) (hart * base.per_hart) d
-    (linear-apart values own.sum base.sum d small e (same values))
+form-apart affine_form base d small part e same hart values =
+    ap (λ k. (linear_value values affine_form.sum + hart * k) % 2 ^ 32) part
+    ∙ moved (linear_value values affine_form.sum) (linear_value values base.sum) (hart * base.per_hart) d
+    (linear-apart values affine_form.sum base.sum d small e (same values))
 
-pub difference-word : (own base : AffineForm) (d : ℕ) → d ≡ word.subtract own.sum.number base.sum.number → d < 2 ^ 32
+pub difference-word : (affine_form base : AffineForm) (d : ℕ)
+    → d ≡ word.subtract affine_form.sum.number base.sum.number → d < 2 ^ 32
 unfolding word.subtract
-difference-word own base d e = omega (arith, e)
+difference-word affine_form base d e = omega (arith, e)
 
 -- ---- what is near
 
-pub near-first : (scope : List Held) (item other : Held) (own : AffineForm) (d : ℕ) → 1 ≤ length scope → item ≡ get_or scope 0 other → may_hold item.register ≡ true
-    → (d < 2 ^ 32) × ((hart : ℕ) (values : Values) → form_value hart values own ≡ (form_value hart values item.form + d) % 2 ^ 32)
-    → IsNear scope own item.register d
-near-first [] item other own d some ei may e = absurd (omega (arith, some))
-near-first (first ∷ others) item other own d some ei may e = record {
+pub near-first : (scope : List Held) (item other : Held) (affine_form : AffineForm) (d : ℕ) → 1 ≤ length scope → item ≡ get_or scope 0 other → may_hold item.register ≡ true
+    → (d < 2 ^ 32) × ((hart : ℕ) (values : Values) → form_value hart values affine_form ≡ (form_value hart values item.form + d) % 2 ^ 32)
+    → IsNear scope affine_form item.register d
+near-first [] item other affine_form d some ei may e = absurd (omega (arith, some))
+near-first (first ∷ others) item other affine_form d some ei may e = record {
   may = may;
   kept = inl (ap (λ (h : Held). h.register) ei);
   word = e.0;
@@ -98,19 +100,22 @@ form-is scope n most r c0 c1 of other fits x e = record {
   does = λ w m hart values f l holders free knows. puts-is w m l (e hart values) (x.does w m hart values f l holders free knows);
 }
 
-pub near-form : (scope : List Held) (own : AffineForm) (s n r : ℕ) (c0 c1 : List ℕ) → IsNear scope own s n → IsWorth own n
+pub near-form : (scope : List Held) (affine_form : AffineForm) (s n r : ℕ) (c0 c1 : List ℕ) → IsNear scope affine_form s n → IsWorth affine_form n
     → MakesOf c0 c1 3 r s (λ v. (v + n) % 2 ^ 32) → (Fits n → MakesOf c0 c1 1 r s (λ v. (v + n) % 2 ^ 32))
-    → MakesForm c0 c1 (sum_words own.per_hart own.sum.terms) scope r (λ hart values. form_value hart values own)
-near-form scope own s n r c0 c1 near worth x one = by-worth worth
+    → MakesForm c0 c1 (sum_words affine_form.per_hart affine_form.sum.terms) scope r
+    (λ hart values. form_value hart values affine_form)
+near-form scope affine_form s n r c0 c1 near worth x one = by-worth worth
   where
-    in-most : (k : ℕ) → k ≤ sum_words own.per_hart own.sum.terms → MakesOf c0 c1 k r s (λ v. (v + n) % 2 ^ 32)
-        → MakesForm c0 c1 (sum_words own.per_hart own.sum.terms) scope r (λ hart values. form_value hart values own)
+    in-most : (k : ℕ) → k ≤ sum_words affine_form.per_hart affine_form.sum.terms
+        → MakesOf c0 c1 k r s (λ v. (v + n) % 2 ^ 32)
+        → MakesForm c0 c1 (sum_words affine_form.per_hart affine_form.sum.terms) scope r
+        (λ hart values. form_value hart values affine_form)
     in-most k few y =
-        makes-form-of scope k (sum_words own.per_hart own.sum.terms) r s c0 c1 (λ v. (v + n) % 2 ^ 32) (λ hart values. form_value hart values own) few y
+        makes-form-of scope k (sum_words affine_form.per_hart affine_form.sum.terms) r s c0 c1 (λ v. (v + n) % 2 ^ 32) (λ hart values. form_value hart values affine_form) few y
         (λ hart values f knows. (near.small hart values f knows, sym (near.value hart values f knows)))
 
-    by-worth : IsWorth own n → MakesForm c0 c1 (sum_words own.per_hart own.sum.terms) scope r (λ hart values. form_value hart values own)
-    by-worth (inl fit) = in-most 1 (let b = base-least own.per_hart in omega (arith, b)) (one fit)
+    by-worth : IsWorth affine_form n → MakesForm c0 c1 (sum_words affine_form.per_hart affine_form.sum.terms) scope r (λ hart values. form_value hart values affine_form)
+    by-worth (inl fit) = in-most 1 (let b = base-least affine_form.per_hart in omega (arith, b)) (one fit)
     by-worth (inr long) = in-most 3 (omega (arith, long)) x
 
 -- ---- sums, term by term
@@ -218,9 +223,10 @@ whole-form scope form terms r c0 c1 e x =
 -- ---- addresses
 
 -- where a form is near enough
-pub address-near : (scope : List Held) (own : AffineForm) (s n most r : ℕ) (c : List ℕ) → IsNear scope own s n → Fits n
-    → MakesAddress c c most scope r s n (λ hart values. form_value hart values own)
-address-near scope own s n most r c near fit = record {
+pub address-near : (scope : List Held) (affine_form : AffineForm) (s n most r : ℕ) (c : List ℕ)
+    → IsNear scope affine_form s n → Fits n
+    → MakesAddress c c most scope r s n (λ hart values. form_value hart values affine_form)
+address-near scope affine_form s n most r c near fit = record {
   insns = [];
   emits = emits-none c;
   short = let z : 0 ≤ most = omega arith in z;
@@ -237,16 +243,16 @@ address-near scope own s n most r c near fit = record {
 }
 
 -- and where the rest of the form is made
-pub address-made : (scope : List Held) (own rest : AffineForm) (offset r : ℕ) (c0 c1 : List ℕ) → r < 32 → IsRest own rest offset
+pub address-made : (scope : List Held) (affine_form rest : AffineForm) (offset r : ℕ) (c0 c1 : List ℕ) → r < 32 → IsRest affine_form rest offset
     → MakesForm c0 c1 (sum_words rest.per_hart rest.sum.terms) scope r (λ hart values. form_value hart values rest)
-    → MakesAddress c0 c1 (sum_words own.per_hart own.sum.terms) scope r r offset (λ hart values. form_value hart values own)
-address-made scope own rest offset r c0 c1 low is x = record {
+    → MakesAddress c0 c1 (sum_words affine_form.per_hart affine_form.sum.terms) scope r r offset (λ hart values. form_value hart values affine_form)
+address-made scope affine_form rest offset r c0 c1 low is x = record {
   insns = x.insns;
   emits = x.emits;
   short =
       let k = x.short in
-      let n : length rest.sum.terms ≡ length own.sum.terms = ap length is.terms in
-      let p : base_words rest.per_hart ≡ base_words own.per_hart = ap base_words is.per_hart in
+      let n : length rest.sum.terms ≡ length affine_form.sum.terms = ap length is.terms in
+      let p : base_words rest.per_hart ≡ base_words affine_form.per_hart = ap base_words is.per_hart in
       omega (arith, k, n, p);
   low = low;
   which = inl refl;

@@ -8,17 +8,17 @@ use Rattle.multi_hart_laws.specs.Paths.{Stand, Block, Writes}
 use Rattle.task_code_scalar.specs.Layout.{IsOf, IsElsewhere}
 use Rattle.task_code_scalar.specs.Doing.{Setting, HoldsFuncs}
 
--- Code comes to its end in so many turns. Memory then holds these buffers, some registers stay, and each point of `stored` was written on
--- the way.
-pub record Did (own : Setting) (code : List Insn) (n : ℕ) (f : ℕ → ℕ) (memory : List ℕ) (keeps_it : ℕ → Type 0) (funcs : Planes)
+-- Code comes to its end in this many turns. Memory then holds these buffers, some registers stay, and each point of
+-- `stored` was written on the way.
+pub record Did (setting : Setting) (code : List Insn) (n : ℕ) (f : ℕ → ℕ) (memory : List ℕ) (keeps_it : ℕ → Type 0) (funcs : Planes)
     (stored : Points) : Type 0 where
   pub after : ℕ → ℕ
   pub left : List ℕ
-  pub block : Block own.world code n f memory after left
+  pub block : Block setting.world code n f memory after left
   pub keeps : (q : ℕ) → keeps_it q → after q ≡ f q
-  pub holds : HoldsFuncs own left funcs
-  pub elsewhere : (byte : ℕ) → IsElsewhere own.world own.places own.written byte
-      → byte_at own.world.text left byte ≡ byte_at own.world.text memory byte
+  pub holds : HoldsFuncs setting left funcs
+  pub elsewhere : (byte : ℕ) → IsElsewhere setting.world setting.places setting.written byte
+      → byte_at setting.world.text left byte ≡ byte_at setting.world.text memory byte
   pub are_bytes : AreBytes memory → AreBytes left
-  pub writes : (func x y byte at : ℕ) → stored func x y ≡ true → IsOf own.world own.places func x y byte → Stand own.world.text at code
-      → Writes own.world at n f memory byte
+  pub writes : (func x y byte at : ℕ) → stored func x y ≡ true → IsOf setting.world setting.places func x y byte → Stand setting.world.text at code
+      → Writes setting.world at n f memory byte

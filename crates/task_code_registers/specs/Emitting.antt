@@ -25,7 +25,7 @@ pub record Puts (world : World) (memory : List ℕ) (insns : List Insn) (f : ℕ
   pub value : after r ≡ v
   pub others : (q : ℕ) → q ≢ r → q ≢ scratch → q ≢ second_scratch → after q ≡ f q
 
--- At most so many appended instructions leave in r what is made of the registers as they were.
+-- At most this many appended instructions leave in r what is made of the registers as they were.
 pub record Makes (old new : List ℕ) (most r : ℕ) (says : (ℕ → ℕ) → ℕ) : Type 0 where
   pub insns : List Insn
   pub emits : Emits old new insns
@@ -41,8 +41,8 @@ pub record MakesOf (old new : List ℕ) (most r s : ℕ) (says : ℕ → ℕ) : 
   pub does : (world : World) (memory : List ℕ) (f : ℕ → ℕ) → length memory ≡ world.size → f zero_register ≡ 0 → f s < 2 ^ 32
       → Puts world memory insns f r (says (f s))
 
--- At most so many appended instructions leave in r what is made of the hart's number and the values of loop variables, wherever the
--- scope's registers hold their forms and r is none of them.
+-- At most this many appended instructions leave in r what is made of the hart's number and the values of loop
+-- variables, wherever the scope's registers hold their forms and r is none of them.
 pub record MakesForm (old new : List ℕ) (most : ℕ) (scope : List Held) (r : ℕ) (says : ℕ → Values → ℕ) : Type 0 where
   pub insns : List Insn
   pub emits : Emits old new insns
@@ -54,7 +54,7 @@ pub record MakesForm (old new : List ℕ) (most : ℕ) (scope : List Held) (r : 
 abbrev pub base_words : ℕ → ℕ
 base_words per_hart = if per_hart == 0 then 2 else 6
 
--- so many make that and a sum of these terms
+-- this many make that and a sum of these terms
 abbrev pub sum_words : ℕ → List Term → ℕ
 sum_words per_hart terms = base_words per_hart + 4 * length terms
 
@@ -92,7 +92,7 @@ pub record Addresses (world : World) (memory : List ℕ) (insns : List Insn) (f 
   pub value : (after base + offset) % 2 ^ 32 ≡ v
   pub others : (q : ℕ) → q ≢ r → q ≢ scratch → q ≢ second_scratch → after q ≡ f q
 
--- At most so many appended instructions do so, where an instruction can hold the offset. The register is r, or one of the scope.
+-- At most this many appended instructions do so, where an instruction can hold the offset. The register is r, or one of the scope.
 pub record MakesAddress (old new : List ℕ) (most : ℕ) (scope : List Held) (r base offset : ℕ) (says : ℕ → Values → ℕ) : Type 0 where
   pub insns : List Insn
   pub emits : Emits old new insns

@@ -22,11 +22,11 @@ pub record Stepped (world : World) (memory : List ℕ) (insns : List Insn) (f : 
   pub keeps : (q : ℕ) → keeps_it q → after q ≡ f q
   pub mark : mark_is after
 
--- a form where a variable stands at a number
-pub record IsAt (counter : Counter) (n : ℕ) (form made : AffineForm) : Type 0 where
-  pub terms : made.sum.terms ≡ others_of counter form.sum.terms
-  pub per_hart : made.per_hart ≡ form.per_hart
-  pub value : (hart v : ℕ) (values : Values) → form_value hart (with counter v values) made ≡ form_value hart (with counter n values) form
+-- a form where a variable is at a number
+pub record IsAt (counter : Counter) (n : ℕ) (form affine_form : AffineForm) : Type 0 where
+  pub terms : affine_form.sum.terms ≡ others_of counter form.sum.terms
+  pub per_hart : affine_form.per_hart ≡ form.per_hart
+  pub value : (hart v : ℕ) (values : Values) → form_value hart (with counter v values) affine_form ≡ form_value hart (with counter n values) form
 
 -- ---- before the first iteration
 
@@ -35,7 +35,7 @@ pub record Extends (scope inner : List Held) : Type 0 where
   pub added : List Held
   pub is : inner ≡ added ++ scope
 
--- At most so many appended instructions make one scope of another before a loop's first iteration, in which its variable is 0.
+-- At most this many appended instructions make one scope of another before a loop's first iteration, in which its variable is 0.
 pub record Enters (old new : List ℕ) (most : ℕ) (counter : Counter) (scope inner : List Held) : Type 0 where
   pub insns : List Insn
   pub emits : Emits old new insns
@@ -45,7 +45,7 @@ pub record Enters (old new : List ℕ) (most : ℕ) (counter : Counter) (scope i
   pub does : (world : World) (memory : List ℕ) (hart : ℕ) (values : Values) (f : ℕ → ℕ) → length memory ≡ world.size → AreHolders scope
       → Knows hart scope (with counter 0 values) f → Stepped world memory insns f (IsKept scope) (Knows hart inner (with counter 0 values))
 
--- a register is given to a form, and so many stay free
+-- a register is given to a form, and this many stay free
 pub record Takes (old new : List ℕ) (counter : Counter) (scope : List Held) (form : AffineForm) (reserved r : ℕ) (inner : List Held) : Type 0 where
   pub enters : Enters old new (sum_words form.per_hart form.sum.terms) counter scope inner
   pub is : inner ≡ record { register = r; form = form } ∷ scope
@@ -54,11 +54,11 @@ pub record Takes (old new : List ℕ) (counter : Counter) (scope : List Held) (f
 
 -- a register is taken
 abbrev pub TakesIf : List ℕ → List ℕ → Counter → List Held → AffineForm → ℕ → Option WidenedScope → Type 0
-TakesIf old new counter scope form reserved made = IfSome made (λ own. Takes old new counter scope form reserved own.register own.scope.items)
+TakesIf old new counter scope form reserved widened_scope = IfSome widened_scope (λ own. Takes old new counter scope form reserved own.register own.scope.items)
 
--- or there are no more than so many, and there is no code
+-- or there are no more than this many, and there is no code
 abbrev pub IsFullIf : List ℕ → List ℕ → List Held → ℕ → Option WidenedScope → Type 0
-IsFullIf old new scope reserved made = made ≡ None → (new ≡ old) × (left_count scope ≤ reserved)
+IsFullIf old new scope reserved widened_scope = widened_scope ≡ None → (new ≡ old) × (left_count scope ≤ reserved)
 
 -- ---- from one iteration to the next
 
@@ -68,34 +68,35 @@ mentions counter [] = false
 mentions counter (own ∷ others) = if has_counter counter own.form.sum.terms then true else mentions counter others
 
 -- how many have
-abbrev pub moving : Counter → List Held → ℕ
-moving counter [] = 0
-moving counter (own ∷ others) = if has_counter counter own.form.sum.terms then suc (moving counter others) else moving counter others
+abbrev pub varying : Counter → List Held → ℕ
+varying counter [] = 0
+varying counter (own ∷ others) = if has_counter counter own.form.sum.terms then suc (varying counter others) else varying counter others
 
--- each that has stands in a register, which code can add to
+-- each that has is in a register, which code can add to
 abbrev pub can_advance : Counter → List Held → Bool
 can_advance counter [] = true
 can_advance counter (own ∷ others) = (not (has_counter counter own.form.sum.terms) || may_hold own.register) && can_advance counter others
 
 -- no scratch register, and none of those
-abbrev pub IsSteady : Counter → List Held → ℕ → Type 0
-IsSteady counter [] q = (q ≢ scratch) × (q ≢ second_scratch)
-IsSteady counter (own ∷ others) q = (has_counter counter own.form.sum.terms ≡ true → q ≢ own.register) × IsSteady counter others q
+abbrev pub IsLoopInvariant : Counter → List Held → ℕ → Type 0
+IsLoopInvariant counter [] q = (q ≢ scratch) × (q ≢ second_scratch)
+IsLoopInvariant counter (own ∷ others) q = (has_counter counter own.form.sum.terms ≡ true → q ≢ own.register) × IsLoopInvariant counter others q
 
--- At most so many appended instructions make of what registers hold in an iteration what they hold in the next one.
+-- At most this many appended instructions make of what registers hold in an iteration what they hold in the next one.
 pub record Advances (old new : List ℕ) (most : ℕ) (counter : Counter) (inner : List Held) : Type 0 where
   pub insns : List Insn
   pub emits : Emits old new insns
   pub short : length insns ≤ most
   pub does : (world : World) (memory : List ℕ) (hart : ℕ) (values : Values) (iteration : ℕ) (f : ℕ → ℕ) → length memory ≡ world.size → AreHolders inner
       → Knows hart inner (with counter iteration values) f
-      → Stepped world memory insns f (IsSteady counter inner) (Knows hart inner (with counter (suc iteration) values))
+      → Stepped world memory insns f (IsLoopInvariant counter inner)
+      (Knows hart inner (with counter (suc iteration) values))
 
 -- Registers of a scope with no term of a variable stay where an inner scope goes along with it.
 abbrev pub ScopesStay : Type 0
 ScopesStay =
     (counter : Counter) (scope inner : List Held) → Extends scope inner → mentions counter scope ≡ false → AreHolders inner
-    → (q : ℕ) → IsKept scope q → IsKept inner q × IsSteady counter inner q
+    → (q : ℕ) → IsKept scope q → IsKept inner q × IsLoopInvariant counter inner q
 
 -- One scope is entered after another.
 abbrev pub ScopesNest : Type 0

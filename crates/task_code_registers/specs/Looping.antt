@@ -22,7 +22,7 @@ use Rattle.task_code_registers.specs.Doing.{Did}
 
 -- ---- when a loop ends
 
--- by so many iterations a form goes on, and by less than 2^32 in all
+-- by this many iterations a form goes on, and by less than 2^32 in all
 abbrev pub is_test : Counter → ℕ → AffineForm → Bool
 is_test counter n form =
     nat_lt 0 (strides counter form.sum.terms % 2 ^ 32) && nat_lt (n * (strides counter form.sum.terms % 2 ^ 32)) (2 ^ 32)
@@ -42,20 +42,20 @@ looped body advance op a b = (body ++ advance) ++ (Branch op a b (back (length (
 
 -- What is asked of its parts: a body that does an iteration and keeps the registers of the inner scope, straight code that makes of what
 -- they hold in an iteration what they hold in the next one, and a branch that is taken while there is one.
-pub record Iterates (own : Setting) (hart : ℕ) (scope inner : List Held) (counter : Counter) (values : Values) (n : ℕ) (body advance : List Insn)
+pub record Iterates (setting : Setting) (hart : ℕ) (scope inner : List Held) (counter : Counter) (values : Values) (n : ℕ) (body advance : List Insn)
     (op : BranchOp) (a b : ℕ)
     (t : ℕ → ℕ) (one : ℕ → Planes → Planes) (body_stored : ℕ → Planes → Points) : Type 0 where
   pub first : a < 32
   pub second : b < 32
   pub some : 1 ≤ length (body ++ advance)
   pub kept : (q : ℕ) → IsKept scope q → IsKept inner q
-  pub does : (i : ℕ) (f : ℕ → ℕ) (memory : List ℕ) (funcs : Planes) → i < n → HoldsFuncs own memory funcs → Knows hart inner (with counter i values) f
-      → Did own body (t i) f memory (IsKept inner) (one i funcs) (body_stored i funcs)
-  pub moves : (i : ℕ) (f : ℕ → ℕ) (memory : List ℕ) → i < n → length memory ≡ own.world.size → Knows hart inner (with counter i values) f
-      → Stepped own.world memory advance f (IsKept scope) (Knows hart inner (with counter (suc i) values))
+  pub does : (i : ℕ) (f : ℕ → ℕ) (memory : List ℕ) (funcs : Planes) → i < n → HoldsFuncs setting memory funcs → Knows hart inner (with counter i values) f
+      → Did setting body (t i) f memory (IsKept inner) (one i funcs) (body_stored i funcs)
+  pub moves : (i : ℕ) (f : ℕ → ℕ) (memory : List ℕ) → i < n → length memory ≡ setting.world.size → Knows hart inner (with counter i values) f
+      → Stepped setting.world memory advance f (IsKept scope) (Knows hart inner (with counter (suc i) values))
   pub tested : (i : ℕ) (f : ℕ → ℕ) → i < n → Knows hart inner (with counter (suc i) values) f → is_taken op (f a) (f b) ≡ nat_lt (suc i) n
 
--- what is stored in so many iterations, of what each of them stores
+-- what is stored in this many iterations, of what each of them stores
 pub record StoresOf (stored body_stored : ℕ → Planes → Points) (one : ℕ → Planes → Planes) : Type 0 where
   pub none : (funcs : Planes) (func x y : ℕ) → stored zero funcs func x y ≡ true → ⊥
   pub more : (i : ℕ) (funcs : Planes) (func x y : ℕ) → stored (suc i) funcs func x y ≡ true
@@ -64,8 +64,8 @@ pub record StoresOf (stored body_stored : ℕ → Planes → Points) (one : ℕ 
 -- A loop of one iteration or more does them one after the other.
 abbrev pub LoopsIterate : Type 0
 LoopsIterate =
-    (own : Setting) (hart : ℕ) (scope inner : List Held) (counter : Counter) (values : Values) (n : ℕ) (body advance : List Insn) (op : BranchOp) (a b : ℕ)
+    (setting : Setting) (hart : ℕ) (scope inner : List Held) (counter : Counter) (values : Values) (n : ℕ) (body advance : List Insn) (op : BranchOp) (a b : ℕ)
     (t : ℕ → ℕ) (one : ℕ → Planes → Planes) (body_stored stored : ℕ → Planes → Points) → 1 ≤ n
-    → Iterates own hart scope inner counter values n body advance op a b t one body_stored → StoresOf stored body_stored one
-    → (f : ℕ → ℕ) (memory : List ℕ) (funcs : Planes) → HoldsFuncs own memory funcs → Knows hart inner (with counter 0 values) f
-    → Did own (looped body advance op a b) (total n (λ i. t i + length advance + 1)) f memory (IsKept scope) (iterated n one funcs) (stored n funcs)
+    → Iterates setting hart scope inner counter values n body advance op a b t one body_stored → StoresOf stored body_stored one
+    → (f : ℕ → ℕ) (memory : List ℕ) (funcs : Planes) → HoldsFuncs setting memory funcs → Knows hart inner (with counter 0 values) f
+    → Did setting (looped body advance op a b) (total n (λ i. t i + length advance + 1)) f memory (IsKept scope) (iterated n one funcs) (stored n funcs)

@@ -17,9 +17,9 @@ times factor [] = []
 times factor (first ∷ others) = record { counter = first.counter; stride = word.multiply first.stride factor } ∷ times factor others
 
 -- A form is the address of the point at a column and a row, modulo 2^32. Its loop variables are theirs.
-pub record IsPoint (place : BufferLayout) (x y : Linear) (form : AffineForm) : Type 0 where
+pub record IsPoint (layout : BufferLayout) (x y : Linear) (form : AffineForm) : Type 0 where
   pub value : (hart : ℕ) (values : Values)
-      → form_value hart values form ≡ address place hart (linear_value values x) (linear_value values y) % 2 ^ 32
+      → form_value hart values form ≡ address layout hart (linear_value values x) (linear_value values y) % 2 ^ 32
   pub few : length form.sum.terms ≤ length x.terms + length y.terms
   pub have : (scope : List Held) → have_registers scope x.terms ≡ true → have_registers scope y.terms ≡ true
       → have_registers scope form.sum.terms ≡ true

@@ -21,5 +21,6 @@ has_counter counter (first ∷ others) = if same_counter first.counter counter t
 
 -- two sums of terms have the same stride in all, modulo 2^32, of each variable of these terms
 abbrev pub AgreeOn : List Term → List Term → List Term → Type 0
-AgreeOn own a b =
-    (counter : Counter) → (has_counter counter own ≡ false) ⊎ (strides counter a % 2 ^ 32 ≡ strides counter b % 2 ^ 32)
+AgreeOn terms a b =
+    (counter : Counter) → (has_counter counter terms ≡ false) ⊎
+    (strides counter a % 2 ^ 32 ≡ strides counter b % 2 ^ 32)

@@ -1,7 +1,7 @@
 //! Forms that registers hold while a loop runs.
 
 ghost use Rattle.std.specs.Prelude.{◌≡◌, ◌*◌, ◌%◌, ◌^◌, ◌++◌, IfOk, OnOk, true};
-ghost use Rattle.task_code_registers.specs.Holding.{Advances, IsAt, IsFullIf, TakesIf, can_advance, moving};
+ghost use Rattle.task_code_registers.specs.Holding.{Advances, IsAt, IsFullIf, TakesIf, can_advance, varying};
 ghost use Rattle.task_code_registers.specs.Looping as spec;
 ghost use Rattle.task_code_registers.specs.Scopes.{have_registers};
 ghost use Rattle.task_code_registers.specs.Strides.{others_of, strides};
@@ -34,24 +34,28 @@ pub fn stride_of(terms: &[Term], counter: Counter) -> u32
 }
 
 /// Appends the terms of other loop variables.
-fn other_terms(made: &mut Items<Term>, terms: &[Term], counter: Counter) -> Result<(), AllocError>
-    ensures { OnOk result (made.new ≡ made.old ++ others_of counter terms.now) }
+fn other_terms(
+    new_terms: &mut Items<Term>,
+    terms: &[Term],
+    counter: Counter,
+) -> Result<(), AllocError>
+    ensures { OnOk result (new_terms.new ≡ new_terms.old ++ others_of counter terms.now) }
 {
     match terms {
         [] => Ok(()),
         [first, others @ ..] => {
             if same_counter(first.counter, counter) {
-                other_terms(made, others, counter)?;
+                other_terms(new_terms, others, counter)?;
                 return Ok(());
             }
-            made.push(*first)?;
-            other_terms(made, others, counter)?;
+            new_terms.push(*first)?;
+            other_terms(new_terms, others, counter)?;
             Ok(())
         }
     }
 }
 
-/// A form where a loop variable stands at a number.
+/// A form where a loop variable is at a number.
 ///
 /// # Errors
 ///
@@ -75,7 +79,7 @@ pub fn at_value(
     })
 }
 
-/// Whether a form goes on by so many iterations, and by less than 2^32 in all. Then it tells when they end.
+/// Whether a form goes on by this many iterations, and by less than 2^32 in all. Then it tells when they end.
 pub fn is_test(form: &AffineForm, counter: Counter, count: u32) -> bool
     ensures { result ≡ spec.is_test counter count form.now }
 {
@@ -93,7 +97,7 @@ pub struct WidenedScope {
 }
 
 /// Appends what leaves a form, as it is in a loop's first iteration, in a register that holds nothing yet, where more
-/// than so many are left. Else there is no code.
+/// than this many are left. Else there is no code.
 ///
 /// # Errors
 ///
@@ -133,7 +137,7 @@ pub fn hold(
 /// Memory ran out.
 pub fn emit_advance(code: &mut Vec<u32>, inner: &[Held], counter: Counter) -> Result<(), AllocError>
     requires { can_advance counter inner.now ≡ true }
-    ensures { OnOk result (Advances code.old.items code.new.items (3 * moving counter inner.now) counter inner.now) }
+    ensures { OnOk result (Advances code.old.items code.new.items (3 * varying counter inner.now) counter inner.now) }
 {
     match inner {
         [] => Ok(()),

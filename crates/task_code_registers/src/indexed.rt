@@ -13,7 +13,7 @@ use crate::sums::{At, NearForm, emit_product, emit_term, find, has_variable, reg
 use loop_ir::expressions::Term;
 use std::alloc::{AllocError, Global};
 
-/// What a form is: a register and a number, and so many times the register of a loop variable.
+/// What a form is: a register and a number, and this many times the register of a loop variable.
 #[derive(Clone, Copy, Debug)]
 pub struct Indexed {
     pub base: NearForm,
@@ -29,7 +29,7 @@ fn find_term(
     form: &AffineForm,
     terms: &[Term],
 ) -> Result<Option<Indexed>, AllocError>
-    ensures { IfOk result (λ found. IfSome found (IsIndexed scope.now form.now)) }
+    ensures { IfOk result (λ found_indexed. IfSome found_indexed (IsIndexed scope.now form.now)) }
 {
     match terms {
         [] => Ok(None),
@@ -44,8 +44,8 @@ fn find_term(
                     }));
                 }
             }
-            let found = find_term(alloc, scope, form, others)?;
-            Ok(found)
+            let found_indexed = find_term(alloc, scope, form, others)?;
+            Ok(found_indexed)
         }
     }
 }
@@ -54,21 +54,21 @@ fn find_term(
 /// most.
 const FEWEST_TERMS: usize = 2;
 
-/// What a form is, if it is a held one and a scaled index, and has so many terms that its own code may be as long.
+/// What a form is, if it is a held one and a scaled index, and has this many terms that its own code may be as long.
 fn find_indexed(
     alloc: Global,
     scope: &[Held],
     form: &AffineForm,
 ) -> Result<Option<Indexed>, AllocError>
-    ensures is { IfOk result (λ found. IfSome found (IsIndexed scope.now form.now)) }
-    ensures long { IfOk result (λ found. IfSome found (λ own. 2 ≤ length form.now.sum.terms)) }
+    ensures is { IfOk result (λ found_indexed. IfSome found_indexed (IsIndexed scope.now form.now)) }
+    ensures long { IfOk result (λ found_indexed. IfSome found_indexed (λ own. 2 ≤ length form.now.sum.terms)) }
 {
     let terms = form.sum.terms.as_slice();
     if terms.len() < FEWEST_TERMS {
         return Ok(None);
     }
-    let found = find_term(alloc, scope, form, terms)?;
-    Ok(found)
+    let found_indexed = find_term(alloc, scope, form, terms)?;
+    Ok(found_indexed)
 }
 
 /// Appends what makes an address of a held form and a scaled index, and where it then is, if there are such ones. Else

@@ -97,7 +97,7 @@ fn first_half(number: u32) -> u32 {
     if number < 1 << 31 { 2047 } else { 0xffff_f800 }
 }
 
-/// Appends what leaves the sum of a register and a number: nothing where it stands there already, and two immediates
+/// Appends what leaves the sum of a register and a number: nothing where it is there already, and two immediates
 /// where these reach as far, which take no scratch register and one instruction less.
 ///
 /// # Errors

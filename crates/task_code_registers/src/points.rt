@@ -13,18 +13,18 @@ use std::alloc::{AllocError, Global};
 use task_code_scalar::layouts::{BufferLayout, Pixels};
 
 /// Appends terms times a number.
-fn add_times(made: &mut Items<Term>, terms: &[Term], factor: u32) -> Result<(), AllocError>
-    ensures { OnOk result (made.new ≡ made.old ++ times factor terms.now) }
+fn add_times(new_terms: &mut Items<Term>, terms: &[Term], factor: u32) -> Result<(), AllocError>
+    ensures { OnOk result (new_terms.new ≡ new_terms.old ++ times factor terms.now) }
 {
     match terms {
         [] => Ok(()),
         [first, others @ ..] => {
             let stride = words::multiply(first.stride, factor);
-            made.push(Term {
+            new_terms.push(Term {
                 counter: first.counter,
                 stride,
             })?;
-            add_times(made, others, factor)?;
+            add_times(new_terms, others, factor)?;
             Ok(())
         }
     }
@@ -46,23 +46,23 @@ fn bytes_of(pixels: Pixels) -> u32
 /// Memory ran out.
 pub fn point_form(
     alloc: Global,
-    place: &BufferLayout,
+    layout: &BufferLayout,
     x: &Linear,
     y: &Linear,
 ) -> Result<AffineForm, AllocError>
-    ensures { IfOk result (IsPoint place.now x.now y.now) }
+    ensures { IfOk result (IsPoint layout.now x.now y.now) }
 {
-    let bytes = bytes_of(place.pixels);
-    let row = words::multiply(bytes, place.width);
+    let bytes = bytes_of(layout.pixels);
+    let row = words::multiply(bytes, layout.width);
     let mut terms = with_room(alloc, y.terms.len().saturating_add(x.terms.len()))?;
     add_times(&mut terms, y.terms.as_slice(), row)?;
     add_times(&mut terms, x.terms.as_slice(), bytes)?;
     let rows = words::multiply(y.number, row);
     let columns = words::multiply(x.number, bytes);
     let far = words::add(rows, columns);
-    let number = words::add(place.start, far);
+    let number = words::add(layout.start, far);
     Ok(AffineForm {
         sum: Linear { number, terms },
-        per_hart: place.distance,
+        per_hart: layout.distance,
     })
 }

@@ -40,7 +40,6 @@ pub struct Held {
     pub form: AffineForm,
 }
 
-/// Written out, so that a check sees a call wherever one is dropped, and not the drops of its parts.
 impl Drop for Held {
     fn drop(self) {
         let Held { form, register: _ } = self;
@@ -185,7 +184,7 @@ fn last_left(scope: &[Held], end: u8) -> Option<u8>
     }
 }
 
-/// Whether more than so many registers below this one may still be given to forms. They are looked for from the last
+/// Whether more than this many registers below this one may still be given to forms. They are looked for from the last
 /// one on, as more are left there.
 #[tactic(auto, unfolding(crate::specs::Scopes::left_below))]
 fn has_more_left(scope: &[Held], end: u8, reserved: usize) -> bool
@@ -208,7 +207,7 @@ pub fn left_count(scope: &[Held]) -> u8
     left_below(scope, FIRST_VALUE)
 }
 
-/// A register that holds nothing yet and may hold a form, where more than so many are left.
+/// A register that holds nothing yet and may hold a form, where more than this many are left.
 pub fn free_register(scope: &[Held], reserved: usize) -> Option<u8>
     ensures some { IfSome result (λ found. IsLeft scope.now found × (reserved < spec.left_count scope.now)) }
     ensures none { result ≡ None → spec.left_count scope.now ≤ reserved }

@@ -58,10 +58,10 @@ pub fn same_terms(a: &[Term], b: &[Term]) -> bool
 }
 
 /// Whether two sums have the same stride in all, of each loop variable of these terms.
-fn have_same_strides(own: &[Term], a: &[Term], b: &[Term]) -> bool
-    ensures { result ≡ true → AgreeOn own.now a.now b.now }
+fn have_same_strides(new_terms: &[Term], a: &[Term], b: &[Term]) -> bool
+    ensures { result ≡ true → AgreeOn new_terms.now a.now b.now }
 {
-    match own {
+    match new_terms {
         [] => true,
         [first, others @ ..] => {
             stride_of(a, first.counter) == stride_of(b, first.counter)

@@ -6,7 +6,7 @@ use loop_ir::expressions::Term;
 use sqlite_items::Items;
 use std::alloc::{AllocError, Global};
 
-/// No terms yet, and room for so many: sums have few, and are made and dropped often.
+/// No terms yet, and room for this many: sums have few, and are made and dropped often.
 ///
 /// # Errors
 ///

@@ -15,14 +15,14 @@ each-passes : {A : Type 0} (P : A → Type 0) (test : A → Bool) (xs : List A) 
 each-passes P test [] go is = tt
 each-passes P test (x ∷ xs) go is = let k = and_parts (test x) (list_all test xs) is in (go x k.0, each-passes P test xs go k.1)
 
-module _ (own : Setting) (good : IsSetting own) (funcs : Planes) where
+module _ (setting : Setting) (good : IsSetting setting) (funcs : Planes) where
   abbrev w : World
-  w = own.world
+  w = setting.world
 
   abbrev reads : Reads
-  reads = reads_of own.inputs funcs
+  reads = reads_of setting.inputs funcs
 
-  pub loads-may : (memory : List ℕ) → HoldsFuncs own memory funcs → (point : Point) → own.loaded point ≡ true → Loads w own.places memory reads point
+  pub loads-may : (memory : List ℕ) → HoldsFuncs setting memory funcs → (point : Point) → setting.loaded point ≡ true → Loads w setting.places memory reads point
   loads-may memory holds point is =
       let may = good.laid.loads point is in
       record {
@@ -35,10 +35,10 @@ module _ (own : Setting) (good : IsSetting own) (funcs : Planes) where
         whole = may.whole;
       }
     where
-      small : (source : Source) (x y : ℕ) → x < 2 ^ 32 → y < 2 ^ 32 → reads_of own.inputs funcs source x y < 2 ^ 32
+      small : (source : Source) (x y : ℕ) → x < 2 ^ 32 → y < 2 ^ 32 → reads_of setting.inputs funcs source x y < 2 ^ 32
       small (sources.Input k) x y lx ly = good.are_words k x y lx ly
       small (sources.Func k) x y lx ly = holds.are_words k x y lx ly
 
-  pub all-loaded : (memory : List ℕ) → HoldsFuncs own memory funcs → (points : List Point) → list_all own.loaded points ≡ true
-      → AllByRecursion (Loads w own.places memory reads) points
-  all-loaded memory holds points is = each-passes (Loads w own.places memory reads) own.loaded points (loads-may memory holds) is
+  pub all-loaded : (memory : List ℕ) → HoldsFuncs setting memory funcs → (points : List Point) → list_all setting.loaded points ≡ true
+      → AllByRecursion (Loads w setting.places memory reads) points
+  all-loaded memory holds points is = each-passes (Loads w setting.places memory reads) setting.loaded points (loads-may memory holds) is

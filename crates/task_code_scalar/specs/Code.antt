@@ -21,7 +21,7 @@ lower v = if nat_lt (v % 4096) 2048 then pos (v % 4096) else negsuc (4095 - v % 
 abbrev pub literal : ℕ → ℕ → List Insn
 literal r v = Lui r (upper v) ∷ AluImm Addi r r (lower v) ∷ []
 
--- ---- jumps: what they carry of so many words forward, or back
+-- ---- jumps: what they carry of this many words forward, or back
 
 abbrev pub forth : ℕ → ℤ
 forth n = pos (2 * n)
@@ -44,7 +44,7 @@ pixel_bytes pixels.Bytes = 1
 
 -- of a point of the copy of a hart
 abbrev pub address : BufferLayout → ℕ → ℕ → ℕ → ℕ
-address place hart x y = place.start + place.distance * hart + pixel_bytes place.pixels * (y * place.width + x)
+address layout hart x y = layout.start + layout.distance * hart + pixel_bytes layout.pixels * (y * layout.width + x)
 
 -- ---- frames, where values wait for which registers don't suffice
 

@@ -29,49 +29,51 @@ pub record Setting : Type 0 where
   pub in_runs : ℕ → Bool
   pub run : ℕ → ℕ → ℕ → Values → Bool
 
--- a point is one of so many
+-- a point is one of this many
 pub record IsAmong (n : ℕ) (x y : ℕ → ℕ) (a b : ℕ) : Type 0 where
   pub number : ℕ
   pub below : number < n
   pub x_is : x number ≡ a
   pub y_is : y number ≡ b
 
--- So many points of a Func are those of one run: all at which it stores, and no others.
-pub record AreRun (own : Setting) (n func : ℕ) (x y : ℕ → ℕ) : Type 0 where
+-- This many points of a Func are those of one run: all at which it stores, and no others.
+pub record AreRun (setting : Setting) (n func : ℕ) (x y : ℕ → ℕ) : Type 0 where
   pub values : Values
-  pub each : (k : ℕ) → k < n → own.run func (x k) (y k) values ≡ true
-  pub all : (a b : ℕ) → own.run func a b values ≡ true → IsAmong n x y a b
+  pub each : (k : ℕ) → k < n → setting.run func (x k) (y k) values ≡ true
+  pub all : (a b : ℕ) → setting.run func a b values ≡ true → IsAmong n x y a b
 
 -- One turn may write several points, if each may be written, and where their Func is stored in runs, they are a run.
 abbrev pub MayBeWrittenAtOnce : Setting → Type 0
-MayBeWrittenAtOnce own = (n func : ℕ) (x y : ℕ → ℕ) → ((k : ℕ) → k < n → own.written func (x k) (y k) ≡ true)
-    → (own.in_runs func ≡ true → AreRun own n func x y)
-    → Keeps own.world (touched (accesses_to Word n (λ k. address_of own.world own.places (func_point func (x k) (y k)))))
+MayBeWrittenAtOnce setting = (n func : ℕ) (x y : ℕ → ℕ) → ((k : ℕ) → k < n → setting.written func (x k) (y k) ≡ true)
+    → (setting.in_runs func ≡ true → AreRun setting n func x y)
+    → Keeps setting.world (touched (accesses_to Word n (λ k. address_of setting.world setting.places (func_point func (x k) (y k)))))
 
-pub record IsSetting (own : Setting) : Type 0 where
-  pub are_places : ArePlaces own.places
-  pub laid : Laid own.world own.places own.written own.loaded
-  pub have : Have own.written own.points
-  pub are_words : AreWords own.inputs
-  pub at_once : MayBeWrittenAtOnce own
+pub record IsSetting (setting : Setting) : Type 0 where
+  pub are_places : ArePlaces setting.places
+  pub laid : Laid setting.world setting.places setting.written setting.loaded
+  pub have : Have setting.written setting.points
+  pub are_words : AreWords setting.inputs
+  pub at_once : MayBeWrittenAtOnce setting
 
 -- a statement writes and loads what it may, whatever words buffers hold
 abbrev pub SoundIn : Setting → Stmt → Values → Type 0
-SoundIn own statement values =
-    (funcs : Planes) → AreWords funcs → is_sound (reads_of own.inputs funcs) own.written own.loaded statement values ≡ true
+SoundIn setting statement values =
+    (funcs : Planes) → AreWords funcs → is_sound (reads_of setting.inputs funcs) setting.written setting.loaded statement values ≡ true
 
 -- it stores at points of Funcs that are stored in runs by such runs alone, whatever words buffers hold
 abbrev pub RunsIn : Setting → Stmt → Values → Type 0
-RunsIn own statement values = (funcs : Planes) → AreWords funcs → (func : ℕ) → own.in_runs func ≡ true → (x y : ℕ)
-    → stores_in_runs (reads_of own.inputs funcs) func x y (own.run func x y) statement values ≡ true
+RunsIn setting statement values = (funcs : Planes) → AreWords funcs → (func : ℕ) → setting.in_runs func ≡ true
+    → (x y : ℕ)
+    → stores_in_runs (reads_of setting.inputs funcs) func x y (setting.run func x y) statement values ≡ true
 
 -- memory holds bytes, and these buffers
-pub record HoldsFuncs (own : Setting) (memory : List ℕ) (funcs : Planes) : Type 0 where
-  pub size : length memory ≡ own.world.size
+pub record HoldsFuncs (setting : Setting) (memory : List ℕ) (funcs : Planes) : Type 0 where
+  pub size : length memory ≡ setting.world.size
   pub are_bytes : AreBytes memory
   pub are_words : AreWords funcs
-  pub holds : Holds own.world own.places own.loaded memory (reads_of own.inputs funcs)
+  pub holds : Holds setting.world setting.places setting.loaded memory (reads_of setting.inputs funcs)
 
 -- the points of Funcs at which a statement's run stores
 abbrev pub stored_points : Setting → Stmt → Values → Planes → Points
-stored_points own statement values funcs func x y = is_stored_by own.points own.inputs func x y statement values funcs
+stored_points setting statement values funcs func x y = is_stored_by setting.points setting.inputs func x y statement
+    values funcs

@@ -1,4 +1,4 @@
--- Why no code is given: for each fault what stands then. This project's own.
+-- Why no code is given: for each fault what is then. This project's own.
 use Rattle.std.specs.Prelude.{◌≤◌, ◌⊎◌, ℕ, ◌+◌, Option, Some, None}
 use Rattle.loop_ir.specs.declared.expressions.Expr.{Expr}
 use Rattle.loop_ir.specs.Needs.{need}
@@ -6,7 +6,7 @@ use Rattle.task_code_scalar.specs.declared.CodeFault.{CodeFault}
 use Rattle.task_code_scalar.specs.declared.CodeFault.TheVariants as faults
 use Rattle.task_code_scalar.specs.Code.{frame_words}
 
--- what stands where the code is too long, and where it is too deep; memory may always run out
+-- what is where the code is too long, and where it is too deep; memory may always run out
 abbrev pub IsFault : Type 0 → Type 0 → CodeFault → Type 0
 IsFault long deep (faults.OutOfMemory error) = Unit {0}
 IsFault long deep faults.TooLong = long
@@ -17,7 +17,7 @@ abbrev pub LieLow : Option ℕ → Type 0
 LieLow None = Unit {0}
 LieLow (Some start) = start ≤ 4294901760
 
--- A value that needs so many registers has them: the stack has room from a register on,
+-- A value that needs this many registers has them: the stack has room from a register on,
 abbrev pub FitsStack : Expr → ℕ → Type 0
 FitsStack e r = need e + r ≤ 32
 

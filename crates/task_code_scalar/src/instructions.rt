@@ -180,7 +180,7 @@ pub fn branch_below(code: &mut Vec<u32>, r: u8, s: u8) -> Result<(), AllocError>
     Ok(())
 }
 
-/// Appends a jump over so many words, its own among them.
+/// Appends a jump over this many words, its own among them.
 pub fn jump_forth(code: &mut Vec<u32>, words: usize) -> Result<(), CodeFault>
     requires { words ≤ 2 ^ 40 }
     ensures ok { OnOk result (Emits code.old.items code.new.items (Jal 0 (forth words) ∷ [])) }
@@ -195,7 +195,7 @@ pub fn jump_forth(code: &mut Vec<u32>, words: usize) -> Result<(), CodeFault>
     Ok(())
 }
 
-/// Appends a jump back by so many words.
+/// Appends a jump back by this many words.
 pub fn jump_back(code: &mut Vec<u32>, words: usize) -> Result<(), CodeFault>
     requires { (1 ≤ words) × (words ≤ 2 ^ 40) }
     ensures ok { OnOk result (Emits code.old.items code.new.items (Jal 0 (back words) ∷ [])) }

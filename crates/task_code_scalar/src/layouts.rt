@@ -37,7 +37,6 @@ pub struct Places {
     pub frames: Option<u32>,
 }
 
-/// Written out, so that a check sees a call wherever one is dropped, and not the drops of its parts.
 impl Drop for Places {
     fn drop(self) {
         let Places {

@@ -1,4 +1,4 @@
-//! What code of tasks stands on, whichever code it is.
+//! What code of tasks is on, whichever code it is.
 //!
 //! - [`instructions`]: single scalar instructions, appended as words (`specs/Words.antt`); literals and jumps are those
 //!   of `specs/Code.antt`.
@@ -7,7 +7,7 @@
 //! - [`loops`]: loop variables around a statement; `specs/Fitting.antt` adds up the turns of a loop's iterations.
 //! - [`CodeFault`]: why no code is given, and what has room (`specs/Faults.antt`).
 //!
-//! A *setting* (`specs/Doing.antt`) is what stays while a task is done. There stands, too, what is asked of its
+//! A *setting* (`specs/Doing.antt`) is what stays while a task is done. There is, too, what is asked of its
 //! statement, and of memory.
 #![tactic(auto)]
 

@@ -66,73 +66,77 @@ use Rattle.task_code_statements.proofs.Storing.{same-sound}
 
 -- ---- stores
 
-pub store-of : (context : Context) (body : Stmt) (store made : Store) (own : GuardedStore) → IsPlainStore store → body ≡ s.Store store
-    → IsAlikeStore (Meets context) store made → own.store ≡ made → own.guards.items ≡ [] → IsStoreOf context body own
-store-of context body store made own plain eb is es eg = subst (λ b. IsStoreOf context b own) (sym eb) (record {
-  stores = λ reads values named same meets.
-      effect_store reads store values
-      ∙ ap (λ k. Some (record { func = k; x = value reads values store.x; y = value reads values store.y; pixel = value reads values store.value })) (sym
-      is.func_is)
-      ∙ ap (λ k. Some (record { func = made.func; x = k; y = value reads values store.y; pixel = value reads values store.value }))
-      (sym (plain.column.value_is reads values named same) ∙ sym (is.column.value_is reads named meets))
-      ∙ ap (λ k. Some (record { func = made.func; x = value reads named made.x; y = k; pixel = value reads values store.value }))
-      (sym (plain.row.value_is reads values named same) ∙ sym (is.row.value_is reads named meets))
-      ∙ ap (λ k. Some (record { func = made.func; x = value reads named made.x; y = value reads named made.y; pixel = k }))
-      (sym (plain.pixel.value_is reads values named same) ∙ sym (is.pixel.value_is reads named meets))
-      ∙ sym (effect_store reads made named)
-      ∙ sym (ap (λ l. cond (passes l named) (effect reads (s.Store own.store) named) None) eg ∙ ap (λ t. effect reads (s.Store t) named) es);
-  sound = λ reads written loaded values named same meets passed so.
-      ap (λ t. is_sound reads written loaded (s.Store t) named) es
-      ∙ sound_store reads written loaded made named ∙ same-sound (Meets context) store made is named meets reads written loaded
-      ∙ plain-sound store plain values named same reads written loaded ∙ sym (sound_store reads written loaded store values) ∙ so;
-})
+pub store-of : (context : Context) (body : Stmt) (store new_store : Store) (guarded : GuardedStore) → IsPlainStore store → body ≡ s.Store store
+    → IsAlikeStore (Meets context) store new_store → guarded.store ≡ new_store → guarded.guards.items ≡ []
+    → IsStoreOf context body guarded
+store-of context body store new_store guarded plain eb is es eg = subst (λ b. IsStoreOf context b guarded) (sym eb)
+    (record {
+      stores = λ reads values named same meets.
+          effect_store reads store values
+          ∙ ap (λ k. Some (record { func = k; x = value reads values store.x; y = value reads values store.y; pixel = value reads values store.value })) (sym
+          is.func_is)
+          ∙ ap (λ k. Some (record { func = new_store.func; x = k; y = value reads values store.y; pixel = value reads values store.value }))
+          (sym (plain.column.value_is reads values named same) ∙ sym (is.column.value_is reads named meets))
+          ∙ ap (λ k. Some (record { func = new_store.func; x = value reads named new_store.x; y = k; pixel = value reads values store.value }))
+          (sym (plain.row.value_is reads values named same) ∙ sym (is.row.value_is reads named meets))
+          ∙ ap (λ k. Some (record { func = new_store.func; x = value reads named new_store.x; y = value reads named new_store.y; pixel = k }))
+          (sym (plain.pixel.value_is reads values named same) ∙ sym (is.pixel.value_is reads named meets))
+          ∙ sym (effect_store reads new_store named)
+          ∙ sym (ap (λ l. cond (passes l named) (effect reads (s.Store guarded.store) named) None) eg ∙ ap (λ t. effect reads (s.Store t) named) es);
+      sound = λ reads written loaded values named same meets passed so.
+          ap (λ t. is_sound reads written loaded (s.Store t) named) es
+          ∙ sound_store reads written loaded new_store named ∙ same-sound (Meets context) store new_store is named meets reads written loaded
+          ∙ plain-sound store plain values named same reads written loaded ∙ sym (sound_store reads written loaded store values) ∙ so;
+    })
 
 -- ---- values of split loops
 
-module _ (counter : Counter) (made : Store) (lacks : StoreLacks counter made) (values : Values) (v : ℕ) where
+module _ (counter : Counter) (new_store : Store) (lacks : StoreLacks counter new_store) (values : Values) (v : ℕ) where
   abbrev entered : Values
   entered = with counter v values
 
-  pub effect-left : (reads : Reads) → effect reads (s.Store made) entered ≡ effect reads (s.Store made) values
+  pub effect-left : (reads : Reads) → effect reads (s.Store new_store) entered ≡ effect reads (s.Store new_store) values
   effect-left reads =
-      effect_store reads made entered
-      ∙ ap (λ k. Some (record { func = made.func; x = k; y = value reads entered made.y; pixel = value reads entered made.value })) (lacks.column.value_is
+      effect_store reads new_store entered
+      ∙ ap (λ k. Some (record { func = new_store.func; x = k; y = value reads entered new_store.y; pixel = value reads entered new_store.value })) (lacks.column.value_is
       reads values v)
-      ∙ ap (λ k. Some (record { func = made.func; x = value reads values made.x; y = k; pixel = value reads entered made.value })) (lacks.row.value_is
+      ∙ ap (λ k. Some (record { func = new_store.func; x = value reads values new_store.x; y = k; pixel = value reads entered new_store.value })) (lacks.row.value_is
       reads values v)
-      ∙ ap (λ k. Some (record { func = made.func; x = value reads values made.x; y = value reads values made.y; pixel = k })) (lacks.pixel.value_is
+      ∙ ap (λ k. Some (record { func = new_store.func; x = value reads values new_store.x; y = value reads values new_store.y; pixel = k })) (lacks.pixel.value_is
       reads values v)
-      ∙ sym (effect_store reads made values)
+      ∙ sym (effect_store reads new_store values)
 
   pub sound-left : (reads : Reads) (written : Points) (loaded : Point → Bool)
-      → is_sound reads written loaded (s.Store made) entered ≡ is_sound reads written loaded (s.Store made) values
+      → is_sound reads written loaded (s.Store new_store) entered ≡ is_sound reads written loaded (s.Store new_store)
+      values
   sound-left reads written loaded =
-      let x = value reads values made.x in
-      let y = value reads values made.y in
-      let lx = loads reads values made.x in
-      let ly = loads reads values made.y in
-      sound_store reads written loaded made entered
-      ∙ ap (λ k. written made.func k (value reads entered made.y)
-      && list_all loaded (loads reads entered made.x ++ (loads reads entered made.y ++ loads reads entered made.value))) (lacks.column.value_is reads values v)
-      ∙ ap (λ k. written made.func x k
-      && list_all loaded (loads reads entered made.x ++ (loads reads entered made.y ++ loads reads entered made.value))) (lacks.row.value_is reads values v)
-      ∙ ap (λ k. written made.func x y && list_all loaded (k ++ (loads reads entered made.y ++ loads reads entered made.value))) (lacks.column.loads_are
+      let x = value reads values new_store.x in
+      let y = value reads values new_store.y in
+      let lx = loads reads values new_store.x in
+      let ly = loads reads values new_store.y in
+      sound_store reads written loaded new_store entered
+      ∙ ap (λ k. written new_store.func k (value reads entered new_store.y)
+      && list_all loaded (loads reads entered new_store.x ++ (loads reads entered new_store.y ++ loads reads entered new_store.value))) (lacks.column.value_is reads values v)
+      ∙ ap (λ k. written new_store.func x k
+      && list_all loaded (loads reads entered new_store.x ++ (loads reads entered new_store.y ++ loads reads entered new_store.value))) (lacks.row.value_is reads values v)
+      ∙ ap (λ k. written new_store.func x y && list_all loaded (k ++ (loads reads entered new_store.y ++ loads reads entered new_store.value))) (lacks.column.loads_are
       reads values v)
-      ∙ ap (λ k. written made.func x y && list_all loaded (lx ++ (k ++ loads reads entered made.value))) (lacks.row.loads_are reads values v)
-      ∙ ap (λ k. written made.func x y && list_all loaded (lx ++ (ly ++ k))) (lacks.pixel.loads_are reads values v)
-      ∙ sym (sound_store reads written loaded made values)
+      ∙ ap (λ k. written new_store.func x y && list_all loaded (lx ++ (k ++ loads reads entered new_store.value))) (lacks.row.loads_are reads values v)
+      ∙ ap (λ k. written new_store.func x y && list_all loaded (lx ++ (ly ++ k))) (lacks.pixel.loads_are reads values v)
+      ∙ sym (sound_store reads written loaded new_store values)
 
-one-test : (a b : Bool) (own : Option Effect) → cond a (cond b own None) None ≡ cond (cond a b false) own None
-one-test true b own = refl
-one-test false b own = refl
+one-test : (a b : Bool) (own_effect : Option Effect) → cond a (cond b own_effect None) None ≡ cond (cond a b false)
+    own_effect None
+one-test true b own_effect = refl
+one-test false b own_effect = refl
 
 both-pass : (a b : Bool) → cond a b false ≡ true → (a ≡ true) × (b ≡ true)
 both-pass true b is = (refl, is)
 both-pass false b is = absurd (true≢false (sym is))
 
-module _ (context within : Context) (counter : Counter) (whole : Whole) (extent : ℕ) (statement inside body : Stmt) (sum : Linear) (made : GuardedStore)
+module _ (context within : Context) (counter : Counter) (whole : Whole) (extent : ℕ) (statement inside body : Stmt) (sum : Linear) (new_guarded : GuardedStore)
     (es : statement ≡ s.Bind counter whole extent inside) (eb : body ≡ inside) (is : IsSplitSum context whole sum)
-    (meets-sum : MeetsSum context counter sum within) (inner : IsStoreOf within body made) (lacks : StoreLacks counter made.store) where
+    (meets-sum : MeetsSum context counter sum within) (inner : IsStoreOf within body new_guarded) (lacks : StoreLacks counter new_guarded.store) where
   abbrev at : Values → Values
   at values = with counter (whole_value whole values) values
 
@@ -153,37 +157,38 @@ module _ (context within : Context) (counter : Counter) (whole : Whole) (extent 
   statement-is = sym (es ∙ ap (s.Bind counter whole extent) (sym eb))
 
   inside-sound : (reads : Reads) (written : Points) (loaded : Point → Bool) (values named : Values) → AreNamed values named → Meets context named
-      → nat_lt (whole_value whole values) extent ≡ true → passes made.guards.items (at named) ≡ true
-      → is_sound reads written loaded (s.Bind counter whole extent body) values ≡ true → is_sound reads written loaded (s.Store made.store) named ≡ true
+      → nat_lt (whole_value whole values) extent ≡ true → passes new_guarded.guards.items (at named) ≡ true
+      → is_sound reads written loaded (s.Bind counter whole extent body) values ≡ true → is_sound reads written loaded (s.Store new_guarded.store) named ≡ true
   inside-sound reads written loaded values named same meets passed guarded so =
-      sym (sound-left counter made.store lacks named (whole_value whole named) reads written loaded)
+      sym (sound-left counter new_guarded.store lacks named (whole_value whole named) reads written loaded)
       ∙ inner.sound reads written loaded (at values) (at named) (at-named values named same) (inside-meets named meets) guarded
       (sym (ap (λ t. if t then is_sound reads written loaded body (at values) else true) passed)
       ∙ sym (sound_bind reads written loaded counter whole extent body values) ∙ so)
 
-  module _ (lack : GuardsLack counter made.guards.items) where
+  module _ (lack : GuardsLack counter new_guarded.guards.items) where
     -- what the store stores where the tests inside pass, and else nothing
     inside-stores : (reads : Reads) (values named : Values) → AreNamed values named → Meets context named
-        → effect reads body (at values) ≡ cond (passes made.guards.items named) (effect reads (s.Store made.store) named) None
+        → effect reads body (at values) ≡ cond (passes new_guarded.guards.items named) (effect reads (s.Store new_guarded.store) named) None
     inside-stores reads values named same meets =
         inner.stores reads (at values) (at named) (at-named values named same) (inside-meets named meets)
-        ∙ ap (λ t. cond t (effect reads (s.Store made.store) (at named)) None) (lack named (whole_value whole named))
-        ∙ ap (λ k. cond (passes made.guards.items named) k None) (effect-left counter made.store lacks named (whole_value whole named) reads)
+        ∙ ap (λ t. cond t (effect reads (s.Store new_guarded.store) (at named)) None)
+        (lack named (whole_value whole named))
+        ∙ ap (λ k. cond (passes new_guarded.guards.items named) k None) (effect-left counter new_guarded.store lacks named (whole_value whole named) reads)
 
     -- the loop's own test is one of the store's
-    pub split-tested : (own : GuardedStore) → own.store ≡ made.store
-        → TestToo context.bounds.items made.guards.items (record { sum = sum; extent = extent }) own.guards.items → IsStoreOf context statement own
-    split-tested own es more = subst (λ b. IsStoreOf context b own) statement-is (record {
+    pub split-tested : (guarded_store : GuardedStore) → guarded_store.store ≡ new_guarded.store
+        → TestToo context.bounds.items new_guarded.guards.items (record { sum = sum; extent = extent }) guarded_store.guards.items → IsStoreOf context statement guarded_store
+    split-tested guarded_store es more = subst (λ b. IsStoreOf context b guarded_store) statement-is (record {
       stores = λ reads values named same meets.
           let tested = nat_lt (linear_value named sum) extent in
           effect_bind reads counter whole extent body values
           ∙ ap (λ n. cond (nat_lt n extent) (effect reads body (at values)) None) (sym (is.plain values named same) ∙ whole-is named meets)
           ∙ ap (λ k. cond tested k None) (inside-stores reads values named same meets)
-          ∙ one-test tested (passes made.guards.items named) (effect reads (s.Store made.store) named)
-          ∙ sym (ap (λ t. cond t (effect reads (s.Store own.store) named) None) (more named meets.below)
-          ∙ ap (λ t. cond (cond tested (passes made.guards.items named) false) (effect reads (s.Store t) named) None) es);
+          ∙ one-test tested (passes new_guarded.guards.items named) (effect reads (s.Store new_guarded.store) named)
+          ∙ sym (ap (λ t. cond t (effect reads (s.Store guarded_store.store) named) None) (more named meets.below)
+          ∙ ap (λ t. cond (cond tested (passes new_guarded.guards.items named) false) (effect reads (s.Store t) named) None) es);
       sound = λ reads written loaded values named same meets guarded so.
-          let both = both-pass (nat_lt (linear_value named sum) extent) (passes made.guards.items named) (sym (more named meets.below) ∙ guarded) in
+          let both = both-pass (nat_lt (linear_value named sum) extent) (passes new_guarded.guards.items named) (sym (more named meets.below) ∙ guarded) in
           ap (λ t. is_sound reads written loaded (s.Store t) named) es
           ∙ inside-sound reads written loaded values named same meets
           (ap (λ n. nat_lt n extent) (sym (is.plain values named same) ∙ whole-is named meets) ∙ both.0) (lack named (whole_value whole named) ∙ both.1) so;
@@ -260,7 +265,7 @@ and-true false = refl
 
 -- ---- how many iterations are left
 
--- a sum so many strides further on
+-- a sum this many strides further on
 far : (x stride more first here : ℕ) → first ≡ (x + 0 * stride) % 2 ^ 32 → here ≡ (x + more) % 2 ^ 32 → first < 2 ^ 31 → more ≤ 15 * 2 ^ 27
     → here ≡ first + more
 far x stride more first here e0 ei low few = omega (arith, e0, ei, low, few)
@@ -282,7 +287,7 @@ module _ (first extent stride : ℕ) (some : 1 ≤ stride) (begins : first < ext
       go zero l = omega arith
       go (suc p) l = let less : p ≤ p * stride = le-mul_of_pos_right p some in omega (arith, l, less, some, begins)
 
-  -- an iteration passes before so many
+  -- an iteration passes before this many
   passed-by : (i : ℕ) → nat_lt (first + i * stride) extent ≡ nat_lt i (quotient_of first extent stride)
   passed-by i = go (nat_lt i (quotient_of first extent stride)) refl
     where
@@ -298,9 +303,10 @@ module _ (first extent stride : ℕ) (some : 1 ≤ stride) (begins : first < ext
           let high : room_of first extent stride < quotient_of first extent stride * stride + stride = lt-div-mul-add some in
           is-past (first + i * stride) extent (omega (arith, more, high, some, begins))
 
-module _ (context inner : Context) (counter : Counter) (count : ℕ) (group : LaneGroup) (body : Stmt) (made : GuardedStore) (parts : Parted)
-    (ec : count ≡ 4 * registers group) (loop : MeetsLoop context counter count inner) (of : IsStoreOf inner body made)
-    (parted : IsParted counter made.guards.items parts) (values named : Values) (same : AreNamed values named) (meets : Meets context named) where
+module _ (context inner : Context) (counter : Counter) (count : ℕ) (group : LaneGroup) (body : Stmt) (guarded : GuardedStore) (parts : Parted)
+    (ec : count ≡ 4 * registers group) (loop : MeetsLoop context counter count inner)
+    (of : IsStoreOf inner body guarded)
+    (parted : IsParted counter guarded.guards.items parts) (values named : Values) (same : AreNamed values named) (meets : Meets context named) where
   abbrev lanes : VectorLanes
   lanes = record { counter = counter; group = group }
 
@@ -318,19 +324,19 @@ module _ (context inner : Context) (counter : Counter) (count : ℕ) (group : La
   within i few = loop.meets named i (omega (arith, few, ec)) meets
 
   -- tests in an iteration, by those of the first one
-  tests-are : (i : ℕ) → passes made.guards.items (lane_at i) ≡ cond (passes parts.fixed.items (lane_at 0)) (passes parts.hanging.items (lane_at i)) false
+  tests-are : (i : ℕ) → passes guarded.guards.items (lane_at i) ≡ cond (passes parts.fixed.items (lane_at 0)) (passes parts.hanging.items (lane_at i)) false
   tests-are i =
       parted.passes_is (lane_at i)
       ∙ ap (λ t. cond t (passes parts.hanging.items (lane_at i)) false) (parted.lack named i ∙ sym (parted.lack named 0))
 
-  stops : (i : ℕ) → passes made.guards.items (lane_at i) ≡ false → i < 4 * registers group → (reads : Reads) → effect reads body (body_at i) ≡ None
+  stops : (i : ℕ) → passes guarded.guards.items (lane_at i) ≡ false → i < 4 * registers group → (reads : Reads) → effect reads body (body_at i) ≡ None
   stops i stopped few reads =
-      of.stores reads (body_at i) (lane_at i) (same-at i) (within i few) ∙ ap (λ t. cond t (effect reads (s.Store made.store) (lane_at i)) None) stopped
+      of.stores reads (body_at i) (lane_at i) (same-at i) (within i few) ∙ ap (λ t. cond t (effect reads (s.Store guarded.store) (lane_at i)) None) stopped
 
-  goes : (i : ℕ) → passes made.guards.items (lane_at i) ≡ true → i < 4 * registers group → (reads : Reads)
-      → effect reads body (body_at i) ≡ effect reads (s.Store made.store) (lane_at i)
+  goes : (i : ℕ) → passes guarded.guards.items (lane_at i) ≡ true → i < 4 * registers group → (reads : Reads)
+      → effect reads body (body_at i) ≡ effect reads (s.Store guarded.store) (lane_at i)
   goes i passed few reads =
-      of.stores reads (body_at i) (lane_at i) (same-at i) (within i few) ∙ ap (λ t. cond t (effect reads (s.Store made.store) (lane_at i)) None) passed
+      of.stores reads (body_at i) (lane_at i) (same-at i) (within i few) ∙ ap (λ t. cond t (effect reads (s.Store guarded.store) (lane_at i)) None) passed
 
   module _ (bounds : List Bound) (ebs : bounds ≡ inner.bounds.items) where
     below-at : AreBelow bounds (lane_at 0)
@@ -388,14 +394,15 @@ module _ (context inner : Context) (counter : Counter) (count : ℕ) (group : La
     }
 
     -- which pass all tests, where the first one does
-    counts : (guard : Guard) (guards : List Guard) (own : Left) (left : List Left) → AreLeft bounds counter (guard ∷ guards) (own ∷ left)
-        → passes (guard ∷ guards) (lane_at 0) ≡ true → Counts (guard ∷ guards) (least_left counter own left named)
-    counts guard [] own [] are passed = counts-one guard own are.0 (both-pass (is_passed guard (lane_at 0)) true passed).0
-    counts guard [] own (next ∷ left) are passed = absurd are.1
-    counts guard (more ∷ guards) own [] are passed = absurd are.1
-    counts guard (more ∷ guards) own (next ∷ left) are passed =
+    counts : (guard : Guard) (guards : List Guard) (left_store : Left) (left : List Left) → AreLeft bounds counter (guard ∷ guards) (left_store ∷ left)
+        → passes (guard ∷ guards) (lane_at 0) ≡ true → Counts (guard ∷ guards)
+        (least_left counter left_store left named)
+    counts guard [] left_store [] are passed = counts-one guard left_store are.0 (both-pass (is_passed guard (lane_at 0)) true passed).0
+    counts guard [] left_store (next ∷ left) are passed = absurd are.1
+    counts guard (more ∷ guards) left_store [] are passed = absurd are.1
+    counts guard (more ∷ guards) left_store (next ∷ left) are passed =
         let both = both-pass (is_passed guard (lane_at 0)) (passes (more ∷ guards) (lane_at 0)) passed in
-        counts-more guard (more ∷ guards) (left_by counter own named) (least_left counter next left named) (counts-one guard own are.0 both.0)
+        counts-more guard (more ∷ guards) (left_by counter left_store named) (least_left counter next left named) (counts-one guard left_store are.0 both.0)
         (counts more guards next left are.1 both.1)
 
     -- as many iterations as lanes
@@ -413,11 +420,11 @@ module _ (context inner : Context) (counter : Counter) (count : ℕ) (group : La
       passed = λ i less. refl;
       stopped = λ i high few. absurd (omega (arith, high, few));
     }
-    all-or-least [] (own ∷ left) are passed = absurd are
+    all-or-least [] (left_store ∷ left) are passed = absurd are
     all-or-least (guard ∷ guards) [] are passed = absurd are
-    all-or-least (guard ∷ guards) (own ∷ left) are passed =
-        let c = counts guard guards own left are passed in
-        let n = least_left counter own left named in
+    all-or-least (guard ∷ guards) (left_store ∷ left) are passed =
+        let c = counts guard guards left_store left are passed in
+        let n = least_left counter left_store left named in
         let some = c.some in
         let lanes-some = some-lanes group in
         let room = few-lanes group in
@@ -433,7 +440,7 @@ module _ (context inner : Context) (counter : Counter) (count : ℕ) (group : La
         → (i : ℕ) → i < 16 → passes guards (lane_at i) ≡ false
     fails-on [] left are failed i few = absurd (true≢false failed)
     fails-on (guard ∷ guards) [] are failed i few = absurd are
-    fails-on (guard ∷ guards) (own ∷ left) are failed i few =
+    fails-on (guard ∷ guards) (left_store ∷ left) are failed i few =
         go (is_passed guard (lane_at 0)) refl failed (λ rest. fails-on guards left are.1 rest i few)
       where
         go : (t : Bool) → is_passed guard (lane_at 0) ≡ t → cond t (passes guards (lane_at 0)) false ≡ false
@@ -441,18 +448,18 @@ module _ (context inner : Context) (counter : Counter) (count : ℕ) (group : La
             → cond (is_passed guard (lane_at i)) (passes guards (lane_at i)) false ≡ false
         go true is rest on = ap (λ b. cond (is_passed guard (lane_at i)) b false) (on rest) ∙ none-passes (is_passed guard (lane_at i))
         go false is rest on =
-            let step = further guard own are.0 i few in
+            let step = further guard left_store are.0 i few in
             ap (λ b. cond b (passes guards (lane_at i)) false)
             (still-fails (sum_at guard 0) (sum_at guard i) guard.extent (omega (arith, step)) is)
 
     module _ (left : List Left) (are : AreLeft bounds counter parts.hanging.items left) where
       -- where the first iteration passes, as many store as are left
       pub stored-left : passes parts.fixed.items (lane_at 0) ≡ true → passes parts.hanging.items (lane_at 0) ≡ true
-          → StoresAs lanes body made.store values named (left_lanes lanes left named)
+          → StoresAs lanes body guarded.store values named (left_lanes lanes left named)
       stored-left fixed passed =
           let x = all-or-least parts.hanging.items left are passed in
           let most = x.few in
-          let same-tests : (i : ℕ) → passes made.guards.items (lane_at i) ≡ passes parts.hanging.items (lane_at i) =
+          let same-tests : (i : ℕ) → passes guarded.guards.items (lane_at i) ≡ passes parts.hanging.items (lane_at i) =
           λ i. tests-are i ∙ ap (λ t. cond t (passes parts.hanging.items (lane_at i)) false) fixed in
           record {
             some = x.some;
@@ -477,19 +484,20 @@ module _ (context inner : Context) (counter : Counter) (count : ℕ) (group : La
 
 -- ---- runs
 
-pub run-is : (context inner : Context) (lanes : VectorLanes) (count : ℕ) (body : Stmt) (made : GuardedStore) (parts : Parted) (run : VectorStore) (bounds : List Bound)
-    → count ≡ all_lanes lanes → MeetsLoop context lanes.counter count inner → IsStoreOf inner body made → bounds ≡ inner.bounds.items
-    → IsParted lanes.counter made.guards.items parts → AreLeft bounds lanes.counter parts.hanging.items run.left.items
-    → TestFirst bounds lanes.counter parts.fixed.items parts.hanging.items run.fixed.items → run.store ≡ made.store → IsRunOf context lanes body run
-run-is context inner lanes count body made parts run bounds ec loop of ebs parted are first es = record {
+pub run-is : (context inner : Context) (lanes : VectorLanes) (count : ℕ) (body : Stmt) (guarded : GuardedStore) (parts : Parted) (run : VectorStore) (bounds : List Bound)
+    → count ≡ all_lanes lanes → MeetsLoop context lanes.counter count inner → IsStoreOf inner body guarded → bounds ≡ inner.bounds.items
+    → IsParted lanes.counter guarded.guards.items parts → AreLeft bounds lanes.counter parts.hanging.items
+    run.left.items
+    → TestFirst bounds lanes.counter parts.fixed.items parts.hanging.items run.fixed.items → run.store ≡ guarded.store → IsRunOf context lanes body run
+run-is context inner lanes count body guarded parts run bounds ec loop of ebs parted are first es = record {
   does = λ values named same meets passed.
       let both = both-pass (passes parts.fixed.items (with lanes.counter 0 named)) (passes parts.hanging.items (with lanes.counter 0 named))
       (sym (tests named meets) ∙ passed) in
       subst (λ t. StoresAs lanes body t values named (left_lanes lanes run.left.items named)) (sym es)
-      (stored-left context inner lanes.counter count lanes.group body made parts ec loop of parted values named same meets bounds ebs run.left.items are both.0
+      (stored-left context inner lanes.counter count lanes.group body guarded parts ec loop of parted values named same meets bounds ebs run.left.items are both.0
       both.1);
   none = λ values named same meets failed reads i few.
-      stored-none context inner lanes.counter count lanes.group body made parts ec loop of parted values named same meets bounds ebs run.left.items are
+      stored-none context inner lanes.counter count lanes.group body guarded parts ec loop of parted values named same meets bounds ebs run.left.items are
       (sym (tests named meets) ∙ failed) reads i few;
 }
   where
@@ -501,35 +509,35 @@ run-is context inner lanes count body made parts run bounds ec loop of ebs parte
 
 -- ---- code
 
-pub vector-emits : (places : Places) (scope : List Held) (context : Context) (own : Bound) (lanes : VectorLanes) (body : Stmt) (made : VectorStore)
-    (c0 c1 none words : List ℕ) → none ≡ [] → AreLanes scope own lanes → IsRunOf context lanes body made
-    → EmitsRun none words places scope lanes (left_lanes lanes made.left.items) made.store → WordsBehind c0 c1 scope made.fixed.items words
-    → EmitsStatement c0 c1 places scope (Meets context) (s.For own.counter own.count Vectorized body)
-vector-emits places scope context own lanes body made c0 c1 none words en are is x tests =
+pub vector-emits : (places : Places) (scope : List Held) (context : Context) (bound : Bound) (lanes : VectorLanes) (body : Stmt) (vector_store : VectorStore)
+    (c0 c1 none words : List ℕ) → none ≡ [] → AreLanes scope bound lanes → IsRunOf context lanes body vector_store
+    → EmitsRun none words places scope lanes (left_lanes lanes vector_store.left.items) vector_store.store → WordsBehind c0 c1 scope vector_store.fixed.items words
+    → EmitsStatement c0 c1 places scope (Meets context) (s.For bound.counter bound.count Vectorized body)
+vector-emits places scope context bound lanes body vector_store c0 c1 none words en are is x tests =
     let g = tests x.insns (subst (λ c. Emits c words x.insns) en x.emits) in
-    subst (λ k. EmitsStatement c0 c1 places scope (Meets context) (s.For k own.count Vectorized body)) are.counter_is
+    subst (λ k. EmitsStatement c0 c1 places scope (Meets context) (s.For k bound.count Vectorized body)) are.counter_is
     (subst (λ n. EmitsStatement c0 c1 places scope (Meets context) (s.For lanes.counter n Vectorized body)) (sym are.count_is) (record {
       insns = g.insns;
       emits = g.emits;
       turns = λ named. g.turns (length x.insns) (with lanes.counter 0 named);
-      does = λ own good at-places values named same holders meets may f memory funcs holds knows.
+      does = λ bound good at-places values named same holders meets may f memory funcs holds knows.
           let at0 = with lanes.counter 0 named in
-          let k0 = knows-with lanes.counter 0 own.world.hart scope named f none-is knows in
-          let left = run own.points own.inputs (run_of lanes body) values funcs in
-          let stored = stored_points own (run_of lanes body) values funcs in
+          let k0 = knows-with lanes.counter 0 bound.world.hart scope named f none-is knows in
+          let left = run bound.points bound.inputs (run_of lanes body) values funcs in
+          let stored = stored_points bound (run_of lanes body) values funcs in
           did-is refl
-          (left-as (passes made.fixed.items at0) left funcs (λ failed. none-run own lanes body values may funcs holds.are_words (is.none values named same meets
+          (left-as (passes vector_store.fixed.items at0) left funcs (λ failed. none-run bound lanes body values may funcs holds.are_words (is.none values named same meets
           failed)))
           (λ func x y hit.
-          stored-as (passes made.fixed.items at0) stored func x y
-          (λ failed h. none-hit own lanes body values may funcs holds.are_words (is.none values named same meets failed) func x y h) hit)
-          (g.does own at0 (length x.insns) left stored f memory funcs holders holds k0
+          stored-as (passes vector_store.fixed.items at0) stored func x y
+          (λ failed h. none-hit bound lanes body values may funcs holds.are_words (is.none values named same meets failed) func x y h) hit)
+          (g.does bound at0 (length x.insns) left stored f memory funcs holders holds k0
           (λ passed h known.
-          x.does own good at-places values named body holders (is.does values named same meets passed) may h memory funcs holds known));
+          x.does bound good at-places values named body holders (is.does values named same meets passed) may h memory funcs holds known));
     }))
   where
     none-is : mentions lanes.counter scope ≡ false
-    none-is = ap (λ k. mentions k scope) are.counter_is ∙ are.steady
+    none-is = ap (λ k. mentions k scope) are.counter_is ∙ are.loop_invariant
 
     left-as : (t : Bool) (left funcs : Planes) → (t ≡ false → funcs ≡ left) → (if t then left else funcs) ≡ left
     left-as true left funcs same = refl
@@ -541,19 +549,20 @@ vector-emits places scope context own lanes body made c0 c1 none words en are is
     stored-as false stored func x y absent h = absurd (absent refl h)
 
 -- as the emitters call it
-pub vector-behind : (places : Places) (scope : List Held) (context : Context) (own : Bound) (lanes : VectorLanes) (body : Stmt) (made : VectorStore)
-    (c0 c1 none words : List ℕ) (fixed : List Guard) (left : List Left) (seen : List ℕ) → none ≡ [] → AreLanes scope own lanes
-    → IsRunOf context lanes body made → EmitsRun none words places scope lanes (left_lanes lanes left) made.store → left ≡ made.left.items
-    → fixed ≡ made.fixed.items → seen ≡ words
-    → WordsBehind c0 c1 scope fixed seen → EmitsStatement c0 c1 places scope (Meets context) (s.For own.counter own.count Vectorized body)
-vector-behind places scope context own lanes body made c0 c1 none words fixed left seen en are is x el ef es tests =
-    vector-emits places scope context own lanes body made c0 c1 none words en are is
-    (subst (λ l. EmitsRun none words places scope lanes (left_lanes lanes l) made.store) el x)
+pub vector-behind : (places : Places) (scope : List Held) (context : Context) (bound : Bound) (lanes : VectorLanes) (body : Stmt) (vector_store : VectorStore)
+    (c0 c1 none words : List ℕ) (fixed : List Guard) (left : List Left) (seen : List ℕ) → none ≡ [] → AreLanes scope bound lanes
+    → IsRunOf context lanes body vector_store → EmitsRun none words places scope lanes (left_lanes lanes left) vector_store.store → left ≡ vector_store.left.items
+    → fixed ≡ vector_store.fixed.items → seen ≡ words
+    → WordsBehind c0 c1 scope fixed seen → EmitsStatement c0 c1 places scope (Meets context) (s.For bound.counter bound.count Vectorized body)
+vector-behind places scope context bound lanes body vector_store c0 c1 none words fixed left seen en are is x el ef es
+    tests =
+    vector-emits places scope context bound lanes body vector_store c0 c1 none words en are is
+    (subst (λ l. EmitsRun none words places scope lanes (left_lanes lanes l) vector_store.store) el x)
     (subst (λ l. WordsBehind c0 c1 scope l words) ef (subst (λ l. WordsBehind c0 c1 scope fixed l) es tests))
 
-pub vector-arm : (places : Places) (scope : List Held) (context : Context) (own : Stmt) (counter : Counter) (count : ℕ) (kind : LoopKind) (body x : Stmt)
-    (c0 c1 : List ℕ) → own ≡ s.For counter count kind body → x ≡ body → kind ≡ Vectorized
-    → EmitsStatement c0 c1 places scope (Meets context) (s.For counter count Vectorized x) → EmitsStatement c0 c1 places scope (Meets context) own
-vector-arm places scope context own counter count kind body x c0 c1 is ex ek made =
+pub vector-arm : (places : Places) (scope : List Held) (context : Context) (statement : Stmt) (counter : Counter) (count : ℕ) (kind : LoopKind) (body x : Stmt)
+    (c0 c1 : List ℕ) → statement ≡ s.For counter count kind body → x ≡ body → kind ≡ Vectorized
+    → EmitsStatement c0 c1 places scope (Meets context) (s.For counter count Vectorized x) → EmitsStatement c0 c1 places scope (Meets context) statement
+vector-arm places scope context statement counter count kind body x c0 c1 is ex ek made =
     subst (λ y. EmitsStatement c0 c1 places scope (Meets context) y)
     (sym (is ∙ ap (λ k. s.For counter count k body) ek ∙ ap (s.For counter count Vectorized) (sym ex))) made

@@ -1,4 +1,4 @@
--- Code that gives names their values, and what stands after it.
+-- Code that gives names their values, and what is after it.
 use Rattle.std.proofs.Common.{◌≡◌, ℕ, ◌+◌, ◌*◌, ◌%◌, ◌^◌, ◌<◌, List, [], ◌∷◌, ◌++◌, length, length-append, Bool, true, false, refl, ap, ◌∙◌, sym, subst, arith}
 use Rattle.std.proofs.Common.{inl, inr}
 use Rattle.std.specs.Prelude.{Option, Some, None}
@@ -32,7 +32,7 @@ use Rattle.task_code_loops.specs.Beginning.{variable}
 use Rattle.task_code_loops.proofs.Knowledge.{knows-with, stands-at}
 use Rattle.task_code_values.specs.Storing.{MakesValue}
 use Rattle.task_code_values.proofs.Standing.{kept-below}
-use Rattle.task_code_names.specs.Copies.{IsStill}
+use Rattle.task_code_names.specs.Copies.{IsLoadFree}
 use Rattle.task_code_vector_loops.specs.Naming.{is_name}
 use Rattle.task_code_statements.specs.declared.contexts.Context.{Context}
 use Rattle.task_code_statements.specs.declared.names.Naming.{Naming}
@@ -58,34 +58,37 @@ module _ {own : Setting} {code : List Insn} {n : ℕ} {f : ℕ → ℕ} {memory 
   }
 
 -- what was done is left to a larger whole, and nothing is stored in front
-module _ (own : Setting) (scope : List Held) (within_keeps : ℕ → Type 0) (first second : List Insn) (n k t : ℕ) (f : ℕ → ℕ) (memory : List ℕ)
+module _ (setting : Setting) (scope : List Held) (within_keeps : ℕ → Type 0) (first second : List Insn) (n k t : ℕ) (f : ℕ → ℕ) (memory : List ℕ)
     (middle funcs : Planes) (stored : ℕ → ℕ → ℕ → Bool) (kept : (q : ℕ) → IsKept scope q → within_keeps q) (is : n + k ≡ t)
-    (one : Did own first n f memory (IsKept scope) middle no_points) (other : Did own second k one.after one.left within_keeps funcs stored) where
+    (one : Did setting first n f memory (IsKept scope) middle no_points) (other : Did setting second k one.after one.left within_keeps funcs stored) where
   abbrev whole : List Insn
   whole = first ++ second
 
-  abbrev front : Went own whole (λ at. at) (λ at. end at first) n f memory (IsKept scope) middle (points_hit no_points)
+  abbrev front : Went setting whole (λ at. at) (λ at. end at first) n f memory (IsKept scope) middle
+      (points_hit no_points)
   front =
-      within own (λ at. at) (λ at. end at first) (λ at s. stand-front own.world.text at first second s) (λ at. refl) (went-of (λ q h. h) one)
+      within setting (λ at. at) (λ at. end at first) (λ at s. stand-front setting.world.text at first second s) (λ at. refl) (went-of (λ q h. h) one)
 
-  abbrev back : Went own whole (λ at. end at first) (λ at. end at whole) k one.after one.left (IsKept scope) funcs (points_hit stored)
+  abbrev back : Went setting whole (λ at. end at first) (λ at. end at whole) k one.after one.left (IsKept scope) funcs (points_hit stored)
   back =
-      within own (λ at. end at first) (λ at. end at whole) (λ at s. stand-back own.world.text at first second s) (λ at. sym (end-append at first second))
+      within setting (λ at. end at first) (λ at. end at whole) (λ at s. stand-back setting.world.text at first second s) (λ at. sym (end-append at first second))
       (went-of kept other)
 
-  abbrev both : Went own whole (λ at. at) (λ at. end at whole) (n + k) f memory (IsKept scope) funcs (points_hit stored)
-  both = went-hits own (λ func x y hit. inr hit) (went-then own front back)
+  abbrev both : Went setting whole (λ at. at) (λ at. end at whole) (n + k) f memory (IsKept scope) funcs
+      (points_hit stored)
+  both = went-hits setting (λ func x y hit. inr hit) (went-then setting front back)
 
-  abbrev pub done-behind : Did own whole t f memory (IsKept scope) funcs stored
+  abbrev pub done-behind : Did setting whole t f memory (IsKept scope) funcs stored
   done-behind = record {
     after = other.after;
     left = other.left;
-    block = λ at s. subst (λ m. Path own.world at (end at whole) m f memory other.after other.left) is (both.path at s);
+    block = λ at s. subst (λ m. Path setting.world at (end at whole) m f memory other.after other.left) is
+        (both.path at s);
     keeps = both.keeps;
     holds = other.holds;
     elsewhere = both.elsewhere;
     are_bytes = both.are_bytes;
-    writes = λ func x y byte at hit of s. subst (λ m. Writes own.world at m f memory byte) is (both.writes func x y byte at hit of s);
+    writes = λ func x y byte at hit of s. subst (λ m. Writes setting.world at m f memory byte) is (both.writes func x y byte at hit of s);
   }
 
 pub statement-behind : (places : Places) (scope inner : List Held) (is_so within_so : Values → Type 0) (c0 c1 c2 : List ℕ) (statement : Stmt)
@@ -189,12 +192,13 @@ variable-form hart values counter small =
     g
 
 pub name-holds : (places : Places) (scope : List Held) (context : Context) (counter : Counter) (e : Expr) (register : ℕ) (words : List ℕ)
-    (made : Context) (form : AffineForm) (inner : List Held) (c0 c1 : List ℕ) → is_name counter ≡ true → IsStill e → mentions counter scope ≡ false
-    → MeetsName context counter e made → IsLeft scope register → KeepsValue places scope register e words → form ≡ variable counter
+    (new_context : Context) (form : AffineForm) (inner : List Held) (c0 c1 : List ℕ) → is_name counter ≡ true → IsLoadFree e → mentions counter scope ≡ false
+    → MeetsName context counter e new_context → IsLeft scope register → KeepsValue places scope register e words → form ≡ variable counter
     → inner ≡ record { register = register; form = form } ∷ scope → c1 ≡ c0 ++ words
-    → NamesHold c0 c1 places scope (Meets context) inner (Meets made)
-name-holds places scope context counter e register words made form inner c0 c1 is still steady new free x ef ei ec =
-    subst (λ l. NamesHold c0 c1 places scope (Meets context) l (Meets made)) (sym (ei ∙ ap (λ k. record { register = register; form = k } ∷ scope) ef))
+    → NamesHold c0 c1 places scope (Meets context) inner (Meets new_context)
+name-holds places scope context counter e register words new_context form inner c0 c1 is still loop_invariant new free x
+    ef ei ec =
+    subst (λ l. NamesHold c0 c1 places scope (Meets context) l (Meets new_context)) (sym (ei ∙ ap (λ k. record { register = register; form = k } ∷ scope) ef))
     (record {
       insns = x.insns;
       emits = emits-apart c0 c1 words x.insns x.emits ec;
@@ -218,36 +222,37 @@ name-holds places scope context counter e register words made form inner c0 c1 i
             did = a.did;
             knows = (
               a.value ∙ e0 ∙ sym here ∙ sym (variable-form hart (with counter v named) counter small),
-              knows-with counter v hart scope named a.did.after steady (knows-still hart scope named f a.did.after a.did.keeps knows),
+              knows-with counter v hart scope named a.did.after loop_invariant (knows-still hart scope named f a.did.after a.did.keeps knows),
             );
           };
     })
 
 -- ---- as the emitters call them
 
-pub none-given : (places : Places) (scope : List Held) (context : Context) (found : Option Naming) (c0 c1 : List ℕ) → found ≡ None
-    → NamesIf c0 c1 places scope context found → c1 ≡ c0
-none-given places scope context found c0 c1 is all = subst (λ o. NamesIf c0 c1 places scope context o) is all
+pub none-given : (places : Places) (scope : List Held) (context : Context) (naming : Option Naming) (c0 c1 : List ℕ) → naming ≡ None
+    → NamesIf c0 c1 places scope context naming → c1 ≡ c0
+none-given places scope context naming c0 c1 is all = subst (λ o. NamesIf c0 c1 places scope context o) is all
 
-pub some-given : (places : Places) (scope : List Held) (context : Context) (made : Naming) (found : Option Naming) (c0 c1 : List ℕ) → found ≡ Some made
-    → NamesIf c0 c1 places scope context found → NamesHold c0 c1 places scope (Meets context) made.scope.items (Meets made.context)
-some-given places scope context made found c0 c1 is all = subst (λ o. NamesIf c0 c1 places scope context o) is all
+pub some-given : (places : Places) (scope : List Held) (context : Context) (naming : Naming) (found_naming : Option Naming) (c0 c1 : List ℕ) → found_naming ≡ Some naming
+    → NamesIf c0 c1 places scope context found_naming → NamesHold c0 c1 places scope (Meets context) naming.scope.items (Meets naming.context)
+some-given places scope context naming found_naming c0 c1 is all = subst (λ o. NamesIf c0 c1 places scope context o) is
+    all
 
-pub more-if : (places : Places) (scope : List Held) (context : Context) (one more : Naming) (found : Option Naming) (view : List Held) (c0 c1 c2 : List ℕ)
-    → NamesHold c0 c1 places scope (Meets context) one.scope.items (Meets one.context) → found ≡ Some more → view ≡ one.scope.items
-    → NamesIf c1 c2 places view one.context found → NamesHold c0 c2 places scope (Meets context) more.scope.items (Meets more.context)
-more-if places scope context one more found view c0 c1 c2 n is ev all =
+pub more-if : (places : Places) (scope : List Held) (context : Context) (one more : Naming) (naming : Option Naming) (view : List Held) (c0 c1 c2 : List ℕ)
+    → NamesHold c0 c1 places scope (Meets context) one.scope.items (Meets one.context) → naming ≡ Some more → view ≡ one.scope.items
+    → NamesIf c1 c2 places view one.context naming → NamesHold c0 c2 places scope (Meets context) more.scope.items (Meets more.context)
+more-if places scope context one more naming view c0 c1 c2 n is ev all =
     names-then places scope one.scope.items more.scope.items (Meets context) (Meets one.context) (Meets more.context) c0 c1 c2 n
     (subst (λ l. NamesHold c1 c2 places l (Meets one.context) more.scope.items (Meets more.context)) ev
-    (some-given places view one.context more found c1 c2 is all))
+    (some-given places view one.context more naming c1 c2 is all))
 
 -- a loop after them
-pub loop-behind : (places : Places) (scope view : List Held) (context : Context) (made : Naming) (counter : Counter) (count : ℕ) (body : Stmt)
-    (c0 c1 c2 : List ℕ) → NamesHold c0 c1 places scope (Meets context) made.scope.items (Meets made.context) → view ≡ made.scope.items
-    → EmitsLoop c1 c2 places view (Meets made.context) counter count body → EmitsLoop c0 c2 places scope (Meets context) counter count body
-loop-behind places scope view context made counter count body c0 c1 c2 n ev loop kind plain =
-    statement-behind places scope made.scope.items (Meets context) (Meets made.context) c0 c1 c2 (s.For counter count kind body) n
-    (subst (λ l. EmitsStatement c1 c2 places l (Meets made.context) (s.For counter count kind body)) ev (loop kind plain))
+pub loop-behind : (places : Places) (scope view : List Held) (context : Context) (naming : Naming) (counter : Counter) (count : ℕ) (body : Stmt)
+    (c0 c1 c2 : List ℕ) → NamesHold c0 c1 places scope (Meets context) naming.scope.items (Meets naming.context) → view ≡ naming.scope.items
+    → EmitsLoop c1 c2 places view (Meets naming.context) counter count body → EmitsLoop c0 c2 places scope (Meets context) counter count body
+loop-behind places scope view context naming counter count body c0 c1 c2 n ev loop kind plain =
+    statement-behind places scope naming.scope.items (Meets context) (Meets naming.context) c0 c1 c2 (s.For counter count kind body) n
+    (subst (λ l. EmitsStatement c1 c2 places l (Meets naming.context) (s.For counter count kind body)) ev (loop kind plain))
 
 pub loop-alone : (places : Places) (scope : List Held) (is_so : Values → Type 0) (counter : Counter) (count : ℕ) (body : Stmt) (c0 c1 c2 : List ℕ)
     → c1 ≡ c0 → EmitsLoop c1 c2 places scope is_so counter count body → EmitsLoop c0 c2 places scope is_so counter count body
@@ -255,9 +260,9 @@ loop-alone places scope is_so counter count body c0 c1 c2 is loop kind plain =
     subst (λ c. EmitsStatement c c2 places scope is_so (s.For counter count kind body)) is (loop kind plain)
 
 -- a statement after them
-pub statement-after : (places : Places) (scope view : List Held) (context : Context) (made : Naming) (statement : Stmt) (c0 c1 c2 : List ℕ)
-    → NamesHold c0 c1 places scope (Meets context) made.scope.items (Meets made.context) → view ≡ made.scope.items
-    → EmitsStatement c1 c2 places view (Meets made.context) statement → EmitsStatement c0 c2 places scope (Meets context) statement
-statement-after places scope view context made statement c0 c1 c2 n ev x =
-    statement-behind places scope made.scope.items (Meets context) (Meets made.context) c0 c1 c2 statement n
-    (subst (λ l. EmitsStatement c1 c2 places l (Meets made.context) statement) ev x)
+pub statement-after : (places : Places) (scope view : List Held) (context : Context) (naming : Naming) (statement : Stmt) (c0 c1 c2 : List ℕ)
+    → NamesHold c0 c1 places scope (Meets context) naming.scope.items (Meets naming.context) → view ≡ naming.scope.items
+    → EmitsStatement c1 c2 places view (Meets naming.context) statement → EmitsStatement c0 c2 places scope (Meets context) statement
+statement-after places scope view context naming statement c0 c1 c2 n ev x =
+    statement-behind places scope naming.scope.items (Meets context) (Meets naming.context) c0 c1 c2 statement n
+    (subst (λ l. EmitsStatement c1 c2 places l (Meets naming.context) statement) ev x)

@@ -1,4 +1,4 @@
--- Tests that a vectorized loop's store stands after.
+-- Tests that a vectorized loop's store is after.
 use Rattle.std.proofs.Common.{◌≡◌, ℕ, ◌+◌, ◌<◌, ◌≤◌, ◌%◌, ◌^◌, List, [], ◌∷◌, ◌++◌, ◌-◌, length, get_or, take, drop, Bool, true, false, refl, ap, ◌∙◌, sym}
 use Rattle.std.proofs.Common.{subst, arith, cond}
 use Rattle.std.specs.Prelude.{if◌then◌else◌, nat_lt}
@@ -16,7 +16,7 @@ use Rattle.task_code_registers.specs.declared.scopes.Held.{Held}
 use Rattle.task_code_registers.specs.Holding.{IsAt}
 use Rattle.task_code_registers.specs.Scopes.{form_value}
 use Rattle.task_code_registers.specs.Strides.{has_counter, strides}
-use Rattle.task_code_registers.proofs.Striding.{linear-steady}
+use Rattle.task_code_registers.proofs.Striding.{linear-loop_invariant}
 use Rattle.task_code_loops.specs.declared.bounds.Bound.{Bound}
 use Rattle.task_code_loops.specs.Bounds.{IsBelow}
 use Rattle.task_code_loops.specs.Guarding.{GuardsWords, stored_if}
@@ -48,15 +48,15 @@ gathered false false c = refl
 
 -- ---- lists of tests
 
-passes-last : (guards : List Guard) (own : Guard) (values : Values)
-    → passes (guards ++ (own ∷ [])) values ≡ cond (is_passed own values) (passes guards values) false
-passes-last [] own values = refl
-passes-last (first ∷ others) own values =
-    ap (λ t. cond (is_passed first values) t false) (passes-last others own values)
-    ∙ swapped (is_passed first values) (is_passed own values) (passes others values)
+passes-last : (guards : List Guard) (guard : Guard) (values : Values)
+    → passes (guards ++ (guard ∷ [])) values ≡ cond (is_passed guard values) (passes guards values) false
+passes-last [] guard values = refl
+passes-last (first ∷ others) guard values =
+    ap (λ t. cond (is_passed first values) t false) (passes-last others guard values)
+    ∙ swapped (is_passed first values) (is_passed guard values) (passes others values)
 
-pub one-more : (guards made : List Guard) (own : Guard) → made ≡ guards ++ (own ∷ []) → OneMore guards own made
-one-more guards made own is values = ap (λ l. passes l values) is ∙ passes-last guards own values
+pub one-more : (guards made : List Guard) (guard : Guard) → made ≡ guards ++ (guard ∷ []) → OneMore guards guard made
+one-more guards made guard is values = ap (λ l. passes l values) is ∙ passes-last guards guard values
 
 -- a test that always passes is one more too
 pub passes-so : (bounds : List Bound) (guards made : List Guard) (form : AffineForm) (extent : ℕ) → made ≡ guards → IsBelow bounds form extent
@@ -66,12 +66,14 @@ passes-so bounds guards made form extent is below values are =
     is-below (linear_value values form.sum) extent (subst (λ n. n < extent) (first-form values form) (below 0 values are)) in
     ap (λ l. passes l values) is ∙ sym (ap (λ t. cond t (passes guards values) false) passed)
 
-pub tested-so : (bounds : List Bound) (guards made : List Guard) (own : Guard) → made ≡ guards ++ (own ∷ []) → TestToo bounds guards own made
-tested-so bounds guards made own is values are = one-more guards made own is values
+pub tested-so : (bounds : List Bound) (guards made : List Guard) (guard : Guard) → made ≡ guards ++ (guard ∷ []) → TestToo bounds guards guard made
+tested-so bounds guards made guard is values are = one-more guards made guard is values
 
-passed-with : (counter : Counter) (own : Guard) (values : Values) (v : ℕ) → has_counter counter own.sum.terms ≡ false
-    → is_passed own (with counter v values) ≡ is_passed own values
-passed-with counter own values v none = ap (λ n. nat_lt n own.extent) (linear-steady counter v values own.sum none)
+passed-with : (counter : Counter) (guard : Guard) (values : Values) (v : ℕ)
+    → has_counter counter guard.sum.terms ≡ false
+    → is_passed guard (with counter v values) ≡ is_passed guard values
+passed-with counter guard values v none = ap (λ n. nat_lt n guard.extent)
+    (linear-loop_invariant counter v values guard.sum none)
 
 pub none-lack : (counter : Counter) (guards : List Guard) → guards ≡ [] → GuardsLack counter guards
 none-lack counter guards is = subst (GuardsLack counter) (sym is) (λ values v. refl)
@@ -84,29 +86,29 @@ first-lacks counter guards others first is none rest = subst (GuardsLack counter
 
 -- ---- by lanes
 
-module _ (counter : Counter) (guards others : List Guard) (first own : Guard) (rest made : Parted) (is : guards ≡ first ∷ others) (eo : own ≡ first)
+module _ (counter : Counter) (guards others : List Guard) (first guard : Guard) (rest new_parted : Parted) (is : guards ≡ first ∷ others) (eo : guard ≡ first)
     (parted : IsParted counter others rest) where
   first-and : (values : Values)
-      → passes guards values ≡ cond (is_passed own values) (cond (passes rest.fixed.items values) (passes rest.hanging.items values) false) false
+      → passes guards values ≡ cond (is_passed guard values) (cond (passes rest.fixed.items values) (passes rest.hanging.items values) false) false
   first-and values =
       ap (λ l. passes l values) is ∙ ap (λ t. cond (is_passed first values) t false) (parted.passes_is values)
       ∙ ap (λ g. cond (is_passed g values) (cond (passes rest.fixed.items values) (passes rest.hanging.items values) false) false) (sym eo)
 
   -- or not
-  pub fixed-parted : has_counter counter first.sum.terms ≡ false → OneMore rest.fixed.items own made.fixed.items
-      → made.hanging.items ≡ rest.hanging.items → IsParted counter guards made
+  pub fixed-parted : has_counter counter first.sum.terms ≡ false → OneMore rest.fixed.items guard new_parted.fixed.items
+      → new_parted.hanging.items ≡ rest.hanging.items → IsParted counter guards new_parted
   fixed-parted none more hanging = record {
     passes_is = λ values.
-        let a = is_passed own values in
+        let a = is_passed guard values in
         let b = passes rest.fixed.items values in
         first-and values ∙ regrouped a b (passes rest.hanging.items values)
-        ∙ sym (ap (λ t. cond t (passes made.hanging.items values) false) (more values)
+        ∙ sym (ap (λ t. cond t (passes new_parted.hanging.items values) false) (more values)
         ∙ ap (λ l. cond (cond a b false) (passes l values) false) hanging);
     lack = λ values v.
         more (with counter v values)
         ∙ ap (λ t. cond t (passes rest.fixed.items (with counter v values)) false)
-        (passed-with counter own values v (ap (λ (g : Guard). has_counter counter g.sum.terms) eo ∙ none))
-        ∙ ap (λ t. cond (is_passed own values) t false) (parted.lack values v) ∙ sym (more values);
+        (passed-with counter guard values v (ap (λ (g : Guard). has_counter counter g.sum.terms) eo ∙ none))
+        ∙ ap (λ t. cond (is_passed guard values) t false) (parted.lack values v) ∙ sym (more values);
   }
 
 -- ---- how many iterations are left

@@ -133,21 +133,22 @@ idle-emits places scope context statement c idle = record {
 
 -- ---- as they are asked
 
-pub idle-for : (context within : Context) (own : Stmt) (counter : Counter) (count : ℕ) (kind : LoopKind) (body x : Stmt)
-    → own ≡ s.For counter count kind body → x ≡ body
-    → ((values : Values) (i : ℕ) → i < count → Meets context values → Meets within (with counter i values)) → IsIdle within x → IsIdle context own
-idle-for context within own counter count kind body x is ex enters idle =
+pub idle-for : (context within : Context) (statement : Stmt) (counter : Counter) (count : ℕ) (kind : LoopKind)
+    (body x : Stmt)
+    → statement ≡ s.For counter count kind body → x ≡ body
+    → ((values : Values) (i : ℕ) → i < count → Meets context values → Meets within (with counter i values)) → IsIdle within x → IsIdle context statement
+idle-for context within statement counter count kind body x is ex enters idle =
     subst (λ t. IsIdle context t) (sym (is ∙ ap (s.For counter count kind) (sym ex))) (loop-is-idle context within counter count kind x enters idle)
 
-pub idle-past : (context : Context) (own : Stmt) (counter : Counter) (whole : Whole) (extent : ℕ) (body : Stmt) (sum : Linear)
-    → own ≡ s.Bind counter whole extent body → IsSplitSum context whole sum → IsPast context.bounds.items (record { sum = sum; per_hart = 0 }) extent
-    → IsIdle context own
-idle-past context own counter whole extent body sum is value past =
+pub idle-past : (context : Context) (statement : Stmt) (counter : Counter) (whole : Whole) (extent : ℕ) (body : Stmt) (sum : Linear)
+    → statement ≡ s.Bind counter whole extent body → IsSplitSum context whole sum → IsPast context.bounds.items (record { sum = sum; per_hart = 0 }) extent
+    → IsIdle context statement
+idle-past context statement counter whole extent body sum is value past =
     subst (λ t. IsIdle context t) (sym is) (past-is-idle context counter whole extent body sum value past)
 
-pub idle-bind : (context within : Context) (own : Stmt) (counter : Counter) (whole : Whole) (extent : ℕ) (body x : Stmt) (sum : Linear)
-    → own ≡ s.Bind counter whole extent body → x ≡ body → IsSplitSum context whole sum → MeetsSum context counter sum within → IsIdle within x
-    → IsIdle context own
-idle-bind context within own counter whole extent body x sum is ex value meets idle =
+pub idle-bind : (context within : Context) (statement : Stmt) (counter : Counter) (whole : Whole) (extent : ℕ) (body x : Stmt) (sum : Linear)
+    → statement ≡ s.Bind counter whole extent body → x ≡ body → IsSplitSum context whole sum → MeetsSum context counter sum within → IsIdle within x
+    → IsIdle context statement
+idle-bind context within statement counter whole extent body x sum is ex value meets idle =
     subst (λ t. IsIdle context t) (sym (is ∙ ap (s.Bind counter whole extent) (sym ex)))
     (split-is-idle context counter whole extent x sum value within meets idle)

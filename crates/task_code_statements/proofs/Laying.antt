@@ -90,7 +90,7 @@ module _ (places : Places) (scope : List Held) (is_so : Values → Type 0) (coun
         (may-each own counter (suc k) kind body values may plain k (omega arith)) g m p o known)).does f memory funcs holds knows);
   }
 
--- a variable that stands at a number is as known
+-- a variable that is at a number is as known
 pub number-enters : (context within : Context) (counter : Counter) (k : ℕ) (number : Linear) → k < 2 ^ 32
     → ((values : Values) → linear_value values number ≡ k) → MeetsSum context counter number within
     → (values : Values) → Meets context values → Meets within (with counter k values)

@@ -24,7 +24,7 @@ if-false : (t b : Bool) → (if t then true else b) ≡ false → (t ≡ false) 
 if-false true b e = absurd (true≢false e)
 if-false false b e = (refl, e)
 
--- variables that stay below their counts do so wherever another one stands
+-- variables that stay below their counts do so wherever another one is
 below-stays : (counter : Counter) (v : ℕ) (bounds : List Bound) (values : Values) → is_bounded bounds counter ≡ false → AreBelow bounds values
     → AreBelow bounds (with counter v values)
 below-stays counter v [] values free are = tt
@@ -61,11 +61,11 @@ append-named : (first others : List Named) (values : Values) → AreNames first 
 append-named [] others values are more = more
 append-named (own ∷ rest) others values are more = (are.0, append-named rest others values are.1 more)
 
--- a name keeps its value where another variable stands, which its expression lacks
-name-stays : (counter : Counter) (own : Named) (values : Values) (v : ℕ) → same_counter own.counter counter ≡ false → Lacks counter own.e
-    → HasValue own.counter own.e values → HasValue own.counter own.e (with counter v values)
-name-stays counter own values v other lacks k =
-    let e : with counter v values own.counter ≡ values own.counter = ap (λ t. if t then v else values own.counter) other in
+-- a name keeps its value where another variable is, which its expression lacks
+name-stays : (counter : Counter) (named : Named) (values : Values) (v : ℕ) → same_counter named.counter counter ≡ false → Lacks counter named.e
+    → HasValue named.counter named.e values → HasValue named.counter named.e (with counter v values)
+name-stays counter named values v other lacks k =
+    let e : with counter v values named.counter ≡ values named.counter = ap (λ t. if t then v else values named.counter) other in
     record {
       value_is = λ reads. lacks.value_is reads values v ∙ k.value_is reads ∙ sym e;
       none = λ reads. lacks.loads_are reads values v ∙ k.none reads;
@@ -74,30 +74,31 @@ name-stays counter own values v other lacks k =
 
 -- the same expression under the same variable
 abbrev pub SameName : Named → Counter → Expr → Type 0
-SameName own counter e = (own.counter ≡ counter) × (own.e ≡ e)
+SameName named counter e = (named.counter ≡ counter) × (named.e ≡ e)
 
-same-value : (own : Named) (counter : Counter) (e : Expr) (values : Values) → SameName own counter e → HasValue counter e values
-    → HasValue own.counter own.e values
-same-value own counter e values same has =
-    subst (λ n. HasValue n own.e values) (sym same.0) (subst (λ x. HasValue counter x values) (sym same.1) has)
+same-value : (named : Named) (counter : Counter) (e : Expr) (values : Values) → SameName named counter e → HasValue counter e values
+    → HasValue named.counter named.e values
+same-value named counter e values same has =
+    subst (λ n. HasValue n named.e values) (sym same.0) (subst (λ x. HasValue counter x values) (sym same.1) has)
 
-pub one-kept : (counter : Counter) (names others old mid new : List Named) (first own : Named) → names ≡ first ∷ others
-    → same_counter first.counter counter ≡ false → Lacks counter first.e → SameName own first.counter first.e
-    → mid ≡ old ++ (own ∷ []) → KeepsNames counter others mid new → KeepsNames counter names old new
-one-kept counter names others old mid new first own is other lacks same em keeps =
+pub one-kept : (counter : Counter) (names others old mid new : List Named) (first own_named : Named)
+    → names ≡ first ∷ others
+    → same_counter first.counter counter ≡ false → Lacks counter first.e → SameName own_named first.counter first.e
+    → mid ≡ old ++ (own_named ∷ []) → KeepsNames counter others mid new → KeepsNames counter names old new
+one-kept counter names others old mid new first own_named is other lacks same em keeps =
     subst (λ l. KeepsNames counter l old new) (sym is) (λ values v are kept.
-    let here = same-value own first.counter first.e (with counter v values) same (name-stays counter first values v other lacks are.0) in
+    let here = same-value own_named first.counter first.e (with counter v values) same (name-stays counter first values v other lacks are.0) in
     keeps values v are.1 (subst (λ l. AreNames l (with counter v values)) (sym em)
-    (append-named old (own ∷ []) (with counter v values) kept (here, tt))))
+    (append-named old (own_named ∷ []) (with counter v values) kept (here, tt))))
 
 module _ (context : Context) (counter : Counter) where
   abbrev rest : List KnownSum
   rest = without counter context.known.items
 
-  pub loop-meets : (free : is_bounded context.bounds.items counter ≡ false) (count : ℕ) (made : Context) → made.known.items ≡ rest
-      → made.bounds.items ≡ record { counter = counter; count = count } ∷ context.bounds.items → StayNamed counter context.names.items made.names.items
-      → MeetsLoop context counter count made
-  loop-meets free count made ek eb names = record {
+  pub loop-meets : (free : is_bounded context.bounds.items counter ≡ false) (count : ℕ) (new_context : Context) → new_context.known.items ≡ rest
+      → new_context.bounds.items ≡ record { counter = counter; count = count } ∷ context.bounds.items → StayNamed counter context.names.items new_context.names.items
+      → MeetsLoop context counter count new_context
+  loop-meets free count new_context ek eb names = record {
     meets = λ values i less m. record {
       known = subst (λ k. AreKnown k (with counter i values)) (sym ek)
           (known-stays counter i rest values (without-fresh counter context.known.items) (without-known counter context.known.items values m.known));
@@ -107,10 +108,11 @@ module _ (context : Context) (counter : Counter) where
     };
   }
 
-  pub sum-meets : (free : is_bounded context.bounds.items counter ≡ false) (sum : Linear) (made : Context) → has_counter counter sum.terms ≡ false
-      → made.known.items ≡ record { counter = counter; sum = sum } ∷ rest → made.bounds.items ≡ context.bounds.items
-      → StayNamed counter context.names.items made.names.items → MeetsSum context counter sum made
-  sum-meets free sum made none ek eb names = record {
+  pub sum-meets : (free : is_bounded context.bounds.items counter ≡ false) (sum : Linear) (new_context : Context) → has_counter counter sum.terms ≡ false
+      → new_context.known.items ≡ record { counter = counter; sum = sum } ∷ rest
+      → new_context.bounds.items ≡ context.bounds.items
+      → StayNamed counter context.names.items new_context.names.items → MeetsSum context counter sum new_context
+  sum-meets free sum new_context none ek eb names = record {
     meets = λ values v is m. record {
       known = subst (λ k. AreKnown k (with counter v values)) (sym ek)
           (one-more-is-known counter v sum rest values (without-fresh counter context.known.items) none is
@@ -120,10 +122,11 @@ module _ (context : Context) (counter : Counter) where
     };
   }
 
-  pub number-meets : (number : ℕ) (sum : Linear) (made : Context) → number < 2 ^ 32 → ((values : Values) → linear_value values sum ≡ number)
-      → made.known.items ≡ record { counter = counter; sum = sum } ∷ rest → made.bounds.items ≡ context.bounds.items
-      → made.names.items ≡ context.names.items → MeetsNumber context counter number made
-  number-meets number sum made small is ek eb en = record {
+  pub number-meets : (number : ℕ) (sum : Linear) (new_context : Context) → number < 2 ^ 32 → ((values : Values) → linear_value values sum ≡ number)
+      → new_context.known.items ≡ record { counter = counter; sum = sum } ∷ rest
+      → new_context.bounds.items ≡ context.bounds.items
+      → new_context.names.items ≡ context.names.items → MeetsNumber context counter number new_context
+  number-meets number sum new_context small is ek eb en = record {
     meets = λ values stands m. record {
       known = subst (λ k. AreKnown k values) (sym ek) (
         let word : number % 2 ^ 32 ≡ number = omega (arith, small) in
@@ -136,10 +139,11 @@ module _ (context : Context) (counter : Counter) where
   }
 
   -- a new name
-  pub name-meets : (free : is_bounded context.bounds.items counter ≡ false) (e : Expr) (new : Named) (made : Context) (none one : List Named) → Lacks counter e
-      → SameName new counter e → none ≡ [] → one ≡ none ++ (new ∷ []) → KeepsNames counter context.names.items one made.names.items
-      → made.known.items ≡ rest → made.bounds.items ≡ context.bounds.items → MeetsName context counter e made
-  name-meets free e new made none one lacks same e0 e1 keeps ek eb = record {
+  pub name-meets : (free : is_bounded context.bounds.items counter ≡ false) (e : Expr) (new : Named) (new_context : Context) (none one : List Named) → Lacks counter e
+      → SameName new counter e → none ≡ [] → one ≡ none ++ (new ∷ []) → KeepsNames counter context.names.items one new_context.names.items
+      → new_context.known.items ≡ rest → new_context.bounds.items ≡ context.bounds.items
+      → MeetsName context counter e new_context
+  name-meets free e new new_context none one lacks same e0 e1 keeps ek eb = record {
     meets = λ values v small value_is loads_are m.
         let here : with counter v values counter ≡ v = stands-at counter v values in
         let own : HasValue counter e (with counter v values) = record {

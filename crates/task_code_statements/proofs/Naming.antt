@@ -39,34 +39,34 @@ module _ (store : Store) (plain : IsPlainStore store) (values named : Values) (a
       ∙ ap (λ k. written store.func x y && list_all loaded (loads reads values store.x ++ (loads reads values store.y ++ k))) (plain.pixel.loads_are reads
       values named are)
 
-  module _ (own : Setting) where
-    pub sound-plain : SoundIn own (s.Store store) values → SoundIn own (s.Store store) named
+  module _ (setting : Setting) where
+    pub sound-plain : SoundIn setting (s.Store store) values → SoundIn setting (s.Store store) named
     sound-plain sound p words =
-        let reads = reads_of own.inputs p in
-        sound_store reads own.written own.loaded store named ∙ plain-sound reads own.written own.loaded
-        ∙ sym (sound_store reads own.written own.loaded store values) ∙ sound p words
+        let reads = reads_of setting.inputs p in
+        sound_store reads setting.written setting.loaded store named ∙ plain-sound reads setting.written setting.loaded
+        ∙ sym (sound_store reads setting.written setting.loaded store values) ∙ sound p words
 
-    pub runs-plain : RunsIn own (s.Store store) values → RunsIn own (s.Store store) named
+    pub runs-plain : RunsIn setting (s.Store store) values → RunsIn setting (s.Store store) named
     runs-plain sure p words func in_runs x y =
-        let reads = reads_of own.inputs p in
-        ap (λ (r : Runs). r.are_runs named) (runs_store reads func x y (own.run func x y) store)
-        ∙ sym (ap (λ (r : Runs). r.are_runs values) (runs_store reads func x y (own.run func x y) store))
+        let reads = reads_of setting.inputs p in
+        ap (λ (r : Runs). r.are_runs named) (runs_store reads func x y (setting.run func x y) store)
+        ∙ sym (ap (λ (r : Runs). r.are_runs values) (runs_store reads func x y (setting.run func x y) store))
         ∙ sure p words func in_runs x y
 
-    pub run-plain : (funcs : Planes) → run own.points own.inputs (s.Store store) named funcs ≡ run own.points own.inputs (s.Store store) values funcs
+    pub run-plain : (funcs : Planes) → run setting.points setting.inputs (s.Store store) named funcs ≡ run setting.points setting.inputs (s.Store store) values funcs
     run-plain funcs =
-        let reads = reads_of own.inputs funcs in
-        run_store own.points own.inputs store named funcs
-        ∙ ap (λ k. put own.points store.func k (value reads named store.y) (value reads named store.value) funcs) (plain.column.value_is reads values named are)
-        ∙ ap (λ k. put own.points store.func (value reads values store.x) k (value reads named store.value) funcs) (plain.row.value_is reads values named are)
-        ∙ ap (λ k. put own.points store.func (value reads values store.x) (value reads values store.y) k funcs) (plain.pixel.value_is reads values named are)
-        ∙ sym (run_store own.points own.inputs store values funcs)
+        let reads = reads_of setting.inputs funcs in
+        run_store setting.points setting.inputs store named funcs
+        ∙ ap (λ k. put setting.points store.func k (value reads named store.y) (value reads named store.value) funcs) (plain.column.value_is reads values named are)
+        ∙ ap (λ k. put setting.points store.func (value reads values store.x) k (value reads named store.value) funcs) (plain.row.value_is reads values named are)
+        ∙ ap (λ k. put setting.points store.func (value reads values store.x) (value reads values store.y) k funcs) (plain.pixel.value_is reads values named are)
+        ∙ sym (run_store setting.points setting.inputs store values funcs)
 
     pub stored-plain : (funcs : Planes) (func x y : ℕ)
-        → stored_points own (s.Store store) named funcs func x y ≡ stored_points own (s.Store store) values funcs func x y
+        → stored_points setting (s.Store store) named funcs func x y ≡ stored_points setting (s.Store store) values funcs func x y
     stored-plain funcs func x y =
-        let reads = reads_of own.inputs funcs in
-        hit-store own.points own.inputs func x y store named funcs
+        let reads = reads_of setting.inputs funcs in
+        hit-store setting.points setting.inputs func x y store named funcs
         ∙ ap (λ k. store.func == func && (k == x && value reads named store.y == y)) (plain.column.value_is reads values named are)
         ∙ ap (λ k. store.func == func && (value reads values store.x == x && k == y)) (plain.row.value_is reads values named are)
-        ∙ sym (hit-store own.points own.inputs func x y store values funcs)
+        ∙ sym (hit-store setting.points setting.inputs func x y store values funcs)

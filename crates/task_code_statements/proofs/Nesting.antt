@@ -54,35 +54,36 @@ sequence-emits places scope is_so first second c0 c1 c2 x y = record {
       (sym (hit-sequence own.points own.inputs func i j first second values funcs) ∙ h)));
 }
 
-pub sequence-arm : (places : Places) (scope : List Held) (is_so : Values → Type 0) (own first second x y : Stmt) (c0 c1 c2 : List ℕ)
-    → own ≡ s.Sequence first second → x ≡ first → y ≡ second
-    → EmitsStatement c0 c1 places scope is_so x → EmitsStatement c1 c2 places scope is_so y → EmitsStatement c0 c2 places scope is_so own
-sequence-arm places scope is_so own first second x y c0 c1 c2 is ex ey one two =
+pub sequence-arm : (places : Places) (scope : List Held) (is_so : Values → Type 0) (statement first second x y : Stmt) (c0 c1 c2 : List ℕ)
+    → statement ≡ s.Sequence first second → x ≡ first → y ≡ second
+    → EmitsStatement c0 c1 places scope is_so x → EmitsStatement c1 c2 places scope is_so y → EmitsStatement c0 c2 places scope is_so statement
+sequence-arm places scope is_so statement first second x y c0 c1 c2 is ex ey one two =
     subst (λ t. EmitsStatement c0 c2 places scope is_so t) (sym (is ∙ ap (λ t. s.Sequence t second) (sym ex) ∙ ap (s.Sequence x) (sym ey)))
     (sequence-emits places scope is_so x y c0 c1 c2 one two)
 
 -- ---- loops
 
-module _ (own : Setting) (counter : Counter) (body : Stmt) (values : Values) where
+module _ (setting : Setting) (counter : Counter) (body : Stmt) (values : Values) where
   abbrev pub at : ℕ → Values
   at i = with counter i values
 
-  -- what an iteration does, and what so many store
+  -- what an iteration does, and what this many store
   abbrev pub one : ℕ → Planes → Planes
-  one i p = run own.points own.inputs body (at i) p
+  one i p = run setting.points setting.inputs body (at i) p
 
   abbrev pub body_stored : ℕ → Planes → Points
-  body_stored i p = stored_points own body (at i) p
+  body_stored i p = stored_points setting body (at i) p
 
   abbrev pub all_stored : ℕ → Planes → Points
-  all_stored k p func x y = hit_before own.points own.inputs func x y body at k p
+  all_stored k p func x y = hit_before setting.points setting.inputs func x y body at k p
 
   pub stores-all : StoresOf all_stored body_stored one
   stores-all = record {
-    none = λ p func x y h. true≢false (sym h ∙ hit-first own.points own.inputs func x y body at p);
+    none = λ p func x y h. true≢false (sym h ∙ hit-first setting.points setting.inputs func x y body at p);
     more = λ k p func x y h.
-        or_cases (hit_before own.points own.inputs func x y body at k p) (hit own.points own.inputs func x y body (at k)
-        (made own.points own.inputs func x y body at k p)) (sym (hit-later own.points own.inputs func x y body at k p) ∙ h);
+        or_cases (hit_before setting.points setting.inputs func x y body at k p)
+        (hit setting.points setting.inputs func x y body (at k)
+        (made setting.points setting.inputs func x y body at k p)) (sym (hit-later setting.points setting.inputs func x y body at k p) ∙ h);
   }
 
 -- a loop of no iterations is no code
@@ -138,9 +139,9 @@ loop-arm places scope is_so within_so counter count kind body begun view most re
 
 -- ---- as the emitters call them
 
-pub for-arm : (places : Places) (scope : List Held) (is_so : Values → Type 0) (own : Stmt) (counter : Counter) (count : ℕ) (kind : LoopKind) (body x : Stmt)
-    (c0 c1 : List ℕ) → own ≡ s.For counter count kind body → x ≡ body → is_vectorized kind ≡ false
+pub for-arm : (places : Places) (scope : List Held) (is_so : Values → Type 0) (statement : Stmt) (counter : Counter) (count : ℕ) (kind : LoopKind) (body x : Stmt)
+    (c0 c1 : List ℕ) → statement ≡ s.For counter count kind body → x ≡ body → is_vectorized kind ≡ false
     → ((kind : LoopKind) → is_vectorized kind ≡ false → EmitsStatement c0 c1 places scope is_so (s.For counter count kind x))
-    → EmitsStatement c0 c1 places scope is_so own
-for-arm places scope is_so own counter count kind body x c0 c1 is ex plain made =
-    subst (λ y. EmitsStatement c0 c1 places scope is_so y) (sym (is ∙ ap (s.For counter count kind) (sym ex))) (made kind plain)
+    → EmitsStatement c0 c1 places scope is_so statement
+for-arm places scope is_so statement counter count kind body x c0 c1 is ex plain loop_kind =
+    subst (λ y. EmitsStatement c0 c1 places scope is_so y) (sym (is ∙ ap (s.For counter count kind) (sym ex))) (loop_kind kind plain)

@@ -30,28 +30,28 @@ use Rattle.task_code_statements.proofs.Tasking.{task-done}
 
 -- ---- the same setting, where runs are those of stages' variables
 
-module _ (own : Setting) where
+module _ (own_setting : Setting) where
   abbrev by-stages : Setting
   by-stages = record {
-    world = own.world;
-    harts = own.harts;
-    places = own.places;
-    inputs = own.inputs;
-    points = own.points;
-    written = own.written;
-    loaded = own.loaded;
-    in_runs = own.in_runs;
-    run = λ func x y at. own.run func x y (of_stages at);
+    world = own_setting.world;
+    harts = own_setting.harts;
+    places = own_setting.places;
+    inputs = own_setting.inputs;
+    points = own_setting.points;
+    written = own_setting.written;
+    loaded = own_setting.loaded;
+    in_runs = own_setting.in_runs;
+    run = λ func x y at. own_setting.run func x y (of_stages at);
   }
 
-  run-as : (n func : ℕ) (x y : ℕ → ℕ) → AreRun by-stages n func x y → AreRun own n func x y
+  run-as : (n func : ℕ) (x y : ℕ → ℕ) → AreRun by-stages n func x y → AreRun own_setting n func x y
   run-as n func x y are = record {
     values = of_stages are.values;
     each = are.each;
     all = are.all;
   }
 
-  setting-as : IsSetting own → IsSetting by-stages
+  setting-as : IsSetting own_setting → IsSetting by-stages
   setting-as good = record {
     are_places = good.are_places;
     laid = good.laid;
@@ -60,7 +60,8 @@ module _ (own : Setting) where
     at_once = λ n func x y may sure. good.at_once n func x y may (λ in_runs. run-as n func x y (sure in_runs));
   }
 
-  holds-as : (memory : List ℕ) (funcs : Planes) → HoldsFuncs own memory funcs → HoldsFuncs by-stages memory funcs
+  holds-as : (memory : List ℕ) (funcs : Planes) → HoldsFuncs own_setting memory funcs
+      → HoldsFuncs by-stages memory funcs
   holds-as memory funcs holds = record {
     size = holds.size;
     are_bytes = holds.are_bytes;
@@ -68,7 +69,8 @@ module _ (own : Setting) where
     holds = holds.holds;
   }
 
-  holds-back : (memory : List ℕ) (funcs : Planes) → HoldsFuncs by-stages memory funcs → HoldsFuncs own memory funcs
+  holds-back : (memory : List ℕ) (funcs : Planes) → HoldsFuncs by-stages memory funcs
+      → HoldsFuncs own_setting memory funcs
   holds-back memory funcs holds = record {
     size = holds.size;
     are_bytes = holds.are_bytes;
@@ -76,7 +78,7 @@ module _ (own : Setting) where
     holds = holds.holds;
   }
 
-  drawn-as : (task : ℕ) (f : ℕ → ℕ) → HasDrawn own task f → HasDrawn by-stages task f
+  drawn-as : (task : ℕ) (f : ℕ → ℕ) → HasDrawn own_setting task f → HasDrawn by-stages task f
   drawn-as task f is = record {
     none = is.none;
     number = is.number;
@@ -85,7 +87,7 @@ module _ (own : Setting) where
   }
 
   did-back : (code : List Insn) (n : ℕ) (f : ℕ → ℕ) (memory : List ℕ) (keeps_it : ℕ → Type 0) (funcs : Planes) (stored : Points)
-      → Did by-stages code n f memory keeps_it funcs stored → Did own code n f memory keeps_it funcs stored
+      → Did by-stages code n f memory keeps_it funcs stored → Did own_setting code n f memory keeps_it funcs stored
   did-back code n f memory keeps_it funcs stored a = record {
     after = a.after;
     left = a.left;
@@ -99,31 +101,32 @@ module _ (own : Setting) where
 
   -- ---- what is asked of a statement in parts, and what it does
 
-  module _ (body made : Stmt) (values there : Values) (are : AreNumbers values) (stages : of_stages values ≡ there) (is : IsParted body made) where
-    may-parted : MayRun own body there → MayRun by-stages made values
+  module _ (body new_statement : Stmt) (values there : Values) (are : AreNumbers values) (stages : of_stages values ≡ there) (is : IsParted body new_statement) where
+    may-parted : MayRun own_setting body there → MayRun by-stages new_statement values
     may-parted may = record {
       sound = λ funcs words.
-          let reads = reads_of own.inputs funcs in
-          is.sound reads own.written own.loaded values are ∙ ap (is_sound reads own.written own.loaded body) stages ∙ may.sound funcs words;
+          let reads = reads_of own_setting.inputs funcs in
+          is.sound reads own_setting.written own_setting.loaded values are ∙ ap (is_sound reads own_setting.written own_setting.loaded body) stages ∙ may.sound funcs words;
       at_once = λ funcs words.
-          let reads = reads_of own.inputs funcs in
+          let reads = reads_of own_setting.inputs funcs in
           is.at_once reads values are ∙ ap (may_be_at_once reads body) stages ∙ may.at_once funcs words;
       in_runs = λ funcs words func sure x y.
-          let reads = reads_of own.inputs funcs in
-          is.in_runs reads func x y (own.run func x y) values are ∙ ap (stores_in_runs reads func x y (own.run func x y) body) stages
+          let reads = reads_of own_setting.inputs funcs in
+          is.in_runs reads func x y (own_setting.run func x y) values are ∙ ap (stores_in_runs reads func x y (own_setting.run func x y) body) stages
           ∙ may.in_runs funcs words func sure x y;
     }
 
-    run-parted : (funcs : Planes) → run own.points own.inputs made values funcs ≡ run own.points own.inputs body there funcs
+    run-parted : (funcs : Planes) → run own_setting.points own_setting.inputs new_statement values funcs ≡ run own_setting.points own_setting.inputs body there funcs
     run-parted funcs =
-        ap (λ (g : Planes → Planes). g funcs) (is.runs own.points own.inputs values are)
-        ∙ ap (λ v. run own.points own.inputs body v funcs) stages
+        ap (λ (g : Planes → Planes). g funcs) (is.runs own_setting.points own_setting.inputs values are)
+        ∙ ap (λ v. run own_setting.points own_setting.inputs body v funcs) stages
 
-    stored-parted : (funcs : Planes) (func x y : ℕ) → stored_points own made values funcs func x y ≡ stored_points own body there funcs func x y
+    stored-parted : (funcs : Planes) (func x y : ℕ) → stored_points own_setting new_statement values funcs func x y ≡ stored_points own_setting body there funcs func x y
     stored-parted funcs func x y =
         let start : Trace = record { funcs = funcs; is_stored = false } in
-        ap (λ (g : Trace → Trace). (g start).is_stored) (is.traces own.points own.inputs func x y values are)
-        ∙ ap (λ v. stored_points own body v funcs func x y) stages
+        ap (λ (g : Trace → Trace). (g start).is_stored) (is.traces own_setting.points own_setting.inputs func x y values
+        are)
+        ∙ ap (λ v. stored_points own_setting body v funcs func x y) stages
 
 -- ---- tasks
 
@@ -152,10 +155,10 @@ pub whole-appends : (phase : Phase) (places : Places) (ticket : ℕ) (old new : 
 whole-appends phase places ticket old new low blind x =
     parted-appends phase phase.body places ticket old new x.insns x.turns low (blind_parted phase.body blind) x.emits x.few x.of_stages x.does
 
-pub made-appends : (phase made : Phase) (body : Stmt) (places : Places) (ticket : ℕ) (old new : List ℕ) → ticket + 4 < 2 ^ 32
-    → made ≡ record { tasks = phase.tasks; counter = phase.counter; body = body; private = []; bytes = [] } → IsParted phase.body body
-    → AppendsStarted old new made places ticket → AppendsTask old new phase places ticket
-made-appends phase made body places ticket old new low is parted x =
+pub made-appends : (phase new_phase : Phase) (body : Stmt) (places : Places) (ticket : ℕ) (old new : List ℕ) → ticket + 4 < 2 ^ 32
+    → new_phase ≡ record { tasks = phase.tasks; counter = phase.counter; body = body; private = []; bytes = [] } → IsParted phase.body body
+    → AppendsStarted old new new_phase places ticket → AppendsTask old new phase places ticket
+made-appends phase new_phase body places ticket old new low is parted x =
     let y = subst (λ p. AppendsStarted old new p places ticket) is x in
     parted-appends phase body places ticket old new y.insns y.turns low parted y.emits y.few y.of_stages y.does
 

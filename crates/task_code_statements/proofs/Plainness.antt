@@ -55,34 +55,36 @@ sum-plain values named are (first ∷ others) none = by-test (is_name first.coun
     by-test false is h rest =
         ap (λ n. n * first.stride + sum_of named others) (are first.counter is) ∙ ap (λ n. values first.counter * first.stride + n) (rest h)
 
-linear-plain : (values named : Values) → AreNamed values named → (own : Linear) → has_name own.terms ≡ false
-    → linear_value named own ≡ linear_value values own
+linear-plain : (values named : Values) → AreNamed values named → (new_sum : Linear) → has_name new_sum.terms ≡ false
+    → linear_value named new_sum ≡ linear_value values new_sum
 unfolding linear_value
-linear-plain values named are own none = ap (λ n. (own.number + n) % 2 ^ 32) (sum-plain values named are own.terms none)
+linear-plain values named are new_sum none = ap (λ n. (new_sum.number + n) % 2 ^ 32)
+    (sum-plain values named are new_sum.terms none)
 
 -- ---- expressions
 
 abbrev point : Source → ℕ → ℕ → Point
 point source x y = record { source = source; x = x; y = y }
 
-plain-as : (own x : Expr) → own ≡ x → IsPlain x → IsPlain own
-plain-as own x is same = subst IsPlain (sym is) same
+plain-as : (expression x : Expr) → expression ≡ x → IsPlain x → IsPlain expression
+plain-as expression x is same = subst IsPlain (sym is) same
 
-pub plain-number : (own : Expr) (n : ℕ) → own ≡ e.Number n → IsPlain own
-plain-number own n is = plain-as own (e.Number n) is (record {
+pub plain-number : (expression : Expr) (n : ℕ) → expression ≡ e.Number n → IsPlain expression
+plain-number expression n is = plain-as expression (e.Number n) is (record {
   value_is = λ reads values named are. value_number reads named n ∙ sym (value_number reads values n);
   loads_are = λ reads values named are. loads_number reads named n ∙ sym (loads_number reads values n);
 })
 
-pub plain-linear : (own : Expr) (sum : Linear) → own ≡ e.Linear sum → has_name sum.terms ≡ false → IsPlain own
-plain-linear own sum is none = plain-as own (e.Linear sum) is (record {
+pub plain-linear : (expression : Expr) (sum : Linear) → expression ≡ e.Linear sum → has_name sum.terms ≡ false
+    → IsPlain expression
+plain-linear expression sum is none = plain-as expression (e.Linear sum) is (record {
   value_is = λ reads values named are. value_linear reads named sum ∙ linear-plain values named are sum none ∙ sym (value_linear reads values sum);
   loads_are = λ reads values named are. loads_linear reads named sum ∙ sym (loads_linear reads values sum);
 })
 
-pub plain-binary : (own : Expr) (o : Operation) (a b x y : Expr) → own ≡ e.Binary o a b → x ≡ a → y ≡ b → IsPlain x → IsPlain y
-    → IsPlain own
-plain-binary own o a b x y is ex ey one two = plain-as own (e.Binary o x y) (is ∙ ap (λ z. e.Binary o z b) (sym ex) ∙ ap (e.Binary o x) (sym ey)) (record {
+pub plain-binary : (expression : Expr) (o : Operation) (a b x y : Expr) → expression ≡ e.Binary o a b → x ≡ a → y ≡ b → IsPlain x → IsPlain y
+    → IsPlain expression
+plain-binary expression o a b x y is ex ey one two = plain-as expression (e.Binary o x y) (is ∙ ap (λ z. e.Binary o z b) (sym ex) ∙ ap (e.Binary o x) (sym ey)) (record {
   value_is = λ reads values named are. value_binary reads named o x y
       ∙ ap (λ z. word.applied o z (value reads named y)) (one.value_is reads values named are)
       ∙ ap (word.applied o (value reads values x)) (two.value_is reads values named are) ∙ sym (value_binary reads values o x y);
@@ -91,24 +93,27 @@ plain-binary own o a b x y is ex ey one two = plain-as own (e.Binary o x y) (is 
       ∙ ap (λ z. loads reads values x ++ z) (two.loads_are reads values named are) ∙ sym (loads_binary reads values o x y);
 })
 
-pub plain-divide : (own a x : Expr) (c : ℕ) → own ≡ e.Divide a c → x ≡ a → IsPlain x → IsPlain own
-plain-divide own a x c is ex one = plain-as own (e.Divide x c) (is ∙ ap (λ z. e.Divide z c) (sym ex)) (record {
-  value_is = λ reads values named are. value_divide reads named x c ∙ ap (λ z. word.divide z c) (one.value_is reads values named are)
-      ∙ sym (value_divide reads values x c);
-  loads_are = λ reads values named are. loads_divide reads named x c ∙ one.loads_are reads values named are ∙ sym (loads_divide reads values x c);
-})
+pub plain-divide : (expression a x : Expr) (c : ℕ) → expression ≡ e.Divide a c → x ≡ a → IsPlain x → IsPlain expression
+plain-divide expression a x c is ex one = plain-as expression (e.Divide x c) (is ∙ ap (λ z. e.Divide z c) (sym ex))
+    (record {
+      value_is = λ reads values named are. value_divide reads named x c ∙ ap (λ z. word.divide z c) (one.value_is reads values named are)
+          ∙ sym (value_divide reads values x c);
+      loads_are = λ reads values named are. loads_divide reads named x c ∙ one.loads_are reads values named are ∙ sym (loads_divide reads values x c);
+    })
 
-pub plain-remainder : (own a x : Expr) (c : ℕ) → own ≡ e.Remainder a c → x ≡ a → IsPlain x → IsPlain own
-plain-remainder own a x c is ex one = plain-as own (e.Remainder x c) (is ∙ ap (λ z. e.Remainder z c) (sym ex)) (record {
-  value_is = λ reads values named are. value_remainder reads named x c ∙ ap (λ z. word.remainder z c) (one.value_is reads values named are)
-      ∙ sym (value_remainder reads values x c);
-  loads_are = λ reads values named are. loads_remainder reads named x c ∙ one.loads_are reads values named are ∙ sym (loads_remainder reads values x c);
-})
+pub plain-remainder : (expression a x : Expr) (c : ℕ) → expression ≡ e.Remainder a c → x ≡ a → IsPlain x
+    → IsPlain expression
+plain-remainder expression a x c is ex one = plain-as expression (e.Remainder x c)
+    (is ∙ ap (λ z. e.Remainder z c) (sym ex)) (record {
+      value_is = λ reads values named are. value_remainder reads named x c ∙ ap (λ z. word.remainder z c) (one.value_is reads values named are)
+          ∙ sym (value_remainder reads values x c);
+      loads_are = λ reads values named are. loads_remainder reads named x c ∙ one.loads_are reads values named are ∙ sym (loads_remainder reads values x c);
+    })
 
-pub plain-select : (own c a b x y z : Expr) → own ≡ e.Select c a b → x ≡ c → y ≡ a → z ≡ b → IsPlain x → IsPlain y → IsPlain z
-    → IsPlain own
-plain-select own c a b x y z is ex ey ez one two three =
-    plain-as own (e.Select x y z) (is ∙ ap (λ t. e.Select t a b) (sym ex) ∙ ap (λ t. e.Select x t b) (sym ey) ∙ ap (e.Select x y) (sym ez)) (record {
+pub plain-select : (expression c a b x y z : Expr) → expression ≡ e.Select c a b → x ≡ c → y ≡ a → z ≡ b → IsPlain x → IsPlain y → IsPlain z
+    → IsPlain expression
+plain-select expression c a b x y z is ex ey ez one two three =
+    plain-as expression (e.Select x y z) (is ∙ ap (λ t. e.Select t a b) (sym ex) ∙ ap (λ t. e.Select x t b) (sym ey) ∙ ap (e.Select x y) (sym ez)) (record {
       value_is = λ reads values named are. value_select reads named x y z
           ∙ ap (λ t. if t == 0 then value reads named z else value reads named y) (one.value_is reads values named are)
           ∙ ap (λ t. if value reads values x == 0 then value reads named z else t) (two.value_is reads values named are)
@@ -121,10 +126,10 @@ plain-select own c a b x y z is ex ey ez one two three =
           ∙ sym (loads_select reads values x y z);
     })
 
-pub plain-load : (own : Expr) (source : Source) (a b x y : Expr) → own ≡ e.Load source a b → x ≡ a → y ≡ b → IsPlain x → IsPlain y
-    → IsPlain own
-plain-load own source a b x y is ex ey one two =
-    plain-as own (e.Load source x y) (is ∙ ap (λ z. e.Load source z b) (sym ex) ∙ ap (e.Load source x) (sym ey)) (record {
+pub plain-load : (expression : Expr) (source : Source) (a b x y : Expr) → expression ≡ e.Load source a b → x ≡ a → y ≡ b → IsPlain x → IsPlain y
+    → IsPlain expression
+plain-load expression source a b x y is ex ey one two =
+    plain-as expression (e.Load source x y) (is ∙ ap (λ z. e.Load source z b) (sym ex) ∙ ap (e.Load source x) (sym ey)) (record {
       value_is = λ reads values named are. value_load reads named source x y
           ∙ ap (λ z. reads source z (value reads named y)) (one.value_is reads values named are)
           ∙ ap (reads source (value reads values x)) (two.value_is reads values named are) ∙ sym (value_load reads values source x y);

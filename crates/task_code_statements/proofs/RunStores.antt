@@ -56,30 +56,30 @@ module _ (places : Places) (none : places.inputs ≡ []) where
 
 -- ---- where more is so
 
-expr-under : (is_so more_so : Values → Type 0) (own made : Expr) → ((values : Values) → more_so values → is_so values) → IsAlike is_so own made
-    → IsAlike more_so own made
-expr-under is_so more_so own made so is = record {
+expr-under : (is_so more_so : Values → Type 0) (expression new_expression : Expr) → ((values : Values) → more_so values → is_so values) → IsAlike is_so expression new_expression
+    → IsAlike more_so expression new_expression
+expr-under is_so more_so expression new_expression so is = record {
   value_is = λ reads values more. is.value_is reads values (so values more);
   loads_are = λ reads values more. is.loads_are reads values (so values more);
 }
 
-store-under : (is_so more_so : Values → Type 0) (own made : Store) → ((values : Values) → more_so values → is_so values) → IsAlikeStore is_so own made
-    → IsAlikeStore more_so own made
-store-under is_so more_so own made so is = record {
+store-under : (is_so more_so : Values → Type 0) (new_store made : Store) → ((values : Values) → more_so values → is_so values) → IsAlikeStore is_so new_store made
+    → IsAlikeStore more_so new_store made
+store-under is_so more_so new_store made so is = record {
   func_is = is.func_is;
-  column = expr-under is_so more_so own.x made.x so is.column;
-  row = expr-under is_so more_so own.y made.y so is.row;
-  pixel = expr-under is_so more_so own.value made.value so is.pixel;
+  column = expr-under is_so more_so new_store.x made.x so is.column;
+  row = expr-under is_so more_so new_store.y made.y so is.row;
+  pixel = expr-under is_so more_so new_store.value made.value so is.pixel;
 }
 
-pub run-store : (places : Places) (context : Context) (known : List KnownSum) (bounds : List Bound) (names : List Named) (store plain made : Store)
+pub run-store : (places : Places) (context : Context) (known : List KnownSum) (bounds : List Bound) (names : List Named) (store plain new_store : Store)
     → places.inputs ≡ [] → known ≡ context.known.items → bounds ≡ context.bounds.items → names ≡ context.names.items
-    → IsUnclampedStore places known bounds store plain → IsNamedStore names plain made → IsAlikeStore (Meets context) store made
-run-store places context known bounds names store plain made none ek eb en is named =
-    store-under (λ values. (AreKnown known values × AreBelow bounds values) × AreNames names values) (Meets context) store made
+    → IsUnclampedStore places known bounds store plain → IsNamedStore names plain new_store → IsAlikeStore (Meets context) store new_store
+run-store places context known bounds names store plain new_store none ek eb en is named =
+    store-under (λ values. (AreKnown known values × AreBelow bounds values) × AreNames names values) (Meets context) store new_store
     (λ values meets. (
       (subst (λ k. AreKnown k values) (sym ek) meets.known, subst (λ b. AreBelow b values) (sym eb) meets.below),
       subst (λ n. AreNames n values) (sym en) meets.named,
     ))
-    (store-then (λ values. AreKnown known values × AreBelow bounds values) (AreNames names) store plain made
+    (store-then (λ values. AreKnown known values × AreBelow bounds values) (AreNames names) store plain new_store
     (store-then (AreKnown known) (AreBelow bounds) store is.middle plain is.by_others (store-below places none bounds is.middle plain is.without_clamps)) named)

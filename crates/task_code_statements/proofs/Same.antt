@@ -22,11 +22,11 @@ use Rattle.task_code_statements.specs.Rewriting.{IsSameExpr, IsBinary, IsLeafSum
 -- ---- sums
 
 -- a form of no hart is its sum
-pub form-sum : (hart : ℕ) (values : Values) (own : Linear) → form_value hart values (record { sum = own; per_hart = 0 }) ≡ linear_value values own
+pub form-sum : (hart : ℕ) (values : Values) (new_sum : Linear) → form_value hart values (record { sum = new_sum; per_hart = 0 }) ≡ linear_value values new_sum
 unfolding form_value
-form-sum hart values own =
-    let l = linear-small values own in
-    let g : (linear_value values own + hart * 0) % 2 ^ 32 ≡ linear_value values own = omega (arith, l) in
+form-sum hart values new_sum =
+    let l = linear-small values new_sum in
+    let g : (linear_value values new_sum + hart * 0) % 2 ^ 32 ≡ linear_value values new_sum = omega (arith, l) in
     g
 
 pub first-form : (values : Values) (form : AffineForm) → form_value 0 values form ≡ linear_value values form.sum
@@ -38,14 +38,14 @@ first-form values form =
 
 -- ---- operations on sums
 
-pub leaf-number : (own : Expr) (n : ℕ) (sum : Linear) → own ≡ e.Number n → ((values : Values) → linear_value values sum ≡ n) → IsLeafSum own sum
-leaf-number own n sum is made = subst (λ x. IsLeafSum x sum) (sym is) (record {
-  value_is = λ reads values. made values ∙ sym (value_number reads values n);
+pub leaf-number : (expression : Expr) (n : ℕ) (sum : Linear) → expression ≡ e.Number n → ((values : Values) → linear_value values sum ≡ n) → IsLeafSum expression sum
+leaf-number expression n sum is new_values = subst (λ x. IsLeafSum x sum) (sym is) (record {
+  value_is = λ reads values. new_values values ∙ sym (value_number reads values n);
   none = λ reads values. loads_number reads values n;
 })
 
-pub leaf-linear : (own : Expr) (x sum : Linear) → own ≡ e.Linear x → sum ≡ x → IsLeafSum own sum
-leaf-linear own x sum is made = subst (λ y. IsLeafSum y sum) (sym is) (record {
+pub leaf-linear : (expression : Expr) (x sum : Linear) → expression ≡ e.Linear x → sum ≡ x → IsLeafSum expression sum
+leaf-linear expression x sum is made = subst (λ y. IsLeafSum y sum) (sym is) (record {
   value_is = λ reads values. ap (linear_value values) made ∙ sym (value_linear reads values x);
   none = λ reads values. loads_linear reads values x;
 })
@@ -60,26 +60,27 @@ binary-sum o a b x y sum one two is = record {
   loads_are = λ reads values. loads_linear reads values sum ∙ sym (ap (λ l. l ++ loads reads values b) (one.none reads values) ∙ two.none reads values);
 }
 
-pub same-made : (known : List KnownSum) (own : Expr) (o : Operation) (a b x y p q made : Expr) → own ≡ e.Binary o a b → x ≡ a → y ≡ b
-    → IsSameExpr known x p → IsSameExpr known y q → IsBinary o p q made → IsSameExpr known own made
-same-made known own o a b x y p q made is ex ey one two m =
-    let whole = alike-binary (AreKnown known) own o a b x y p q is ex ey one two in
+pub same-made : (known : List KnownSum) (expression : Expr) (o : Operation) (a b x y p q new_expression : Expr) → expression ≡ e.Binary o a b → x ≡ a → y ≡ b
+    → IsSameExpr known x p → IsSameExpr known y q → IsBinary o p q new_expression
+    → IsSameExpr known expression new_expression
+same-made known expression o a b x y p q new_expression is ex ey one two m =
+    let whole = alike-binary (AreKnown known) expression o a b x y p q is ex ey one two in
     record {
       value_is = λ reads values are. m.value_is reads values ∙ sym (value_binary reads values o p q) ∙ whole.value_is reads values are;
       loads_are = λ reads values are. m.loads_are reads values ∙ sym (loads_binary reads values o p q) ∙ whole.loads_are reads values are;
     }
 
 -- as the emitter calls them
-pub leaf-found : (own : Expr) (x : Linear) (found : Option Linear) → found ≡ Some x → IfSome found (IsLeafSum own) → IsLeafSum own x
-leaf-found own x found e is = subst (λ o. IfSome o (IsLeafSum own)) e is
+pub leaf-found : (expression : Expr) (x : Linear) (new_sum : Option Linear) → new_sum ≡ Some x → IfSome new_sum (IsLeafSum expression) → IsLeafSum expression x
+leaf-found expression x new_sum e is = subst (λ o. IfSome o (IsLeafSum expression)) e is
 
-pub sum-found : (o : Operation) (b : Expr) (x y : Linear) (found : Option Linear) → IsLeafSum b y → IfSome found (IsCombined o x y)
-    → IfSome found (λ sum. (a : Expr) → IsLeafSum a x → IsBinary o a b (e.Linear sum))
+pub sum-found : (o : Operation) (b : Expr) (x y : Linear) (new_sum : Option Linear) → IsLeafSum b y → IfSome new_sum (IsCombined o x y)
+    → IfSome new_sum (λ sum. (a : Expr) → IsLeafSum a x → IsBinary o a b (e.Linear sum))
 sum-found o b x y None two is = tt
 sum-found o b x y (Some sum) two is = λ a one. binary-sum o a b x y sum one two is
 
-pub sums-found : (o : Operation) (a b : Expr) (x : Linear) (found : Option Linear) → IsLeafSum a x
-    → IfSome found (λ sum. (p : Expr) → IsLeafSum p x → IsBinary o p b (e.Linear sum)) → IfSome found (λ sum. IsBinary o a b (e.Linear sum))
+pub sums-found : (o : Operation) (a b : Expr) (x : Linear) (new_sum : Option Linear) → IsLeafSum a x
+    → IfSome new_sum (λ sum. (p : Expr) → IsLeafSum p x → IsBinary o p b (e.Linear sum)) → IfSome new_sum (λ sum. IsBinary o a b (e.Linear sum))
 sums-found o a b x None one is = tt
 sums-found o a b x (Some sum) one is = is a one
 

@@ -50,19 +50,20 @@ whole-plain whole outer inner values named are =
 
 -- ---- where a run begins
 
-product-made : (whole : Whole) (own : Linear) (none one : List Term) → none ≡ [] → one ≡ none ++ (record { counter = whole.outer; stride = whole.factor } ∷ [])
-    → own ≡ record { number = 0; terms = one } → (values : Values) → linear_value values own ≡ product whole values
+product-made : (whole : Whole) (new_sum : Linear) (none one : List Term) → none ≡ [] → one ≡ none ++ (record { counter = whole.outer; stride = whole.factor } ∷ [])
+    → new_sum ≡ record { number = 0; terms = one } → (values : Values)
+    → linear_value values new_sum ≡ product whole values
 unfolding linear_value word.multiply
-product-made whole own none one e0 e1 es values =
+product-made whole new_sum none one e0 e1 es values =
     let n = values whole.outer * whole.factor in
     let g : (0 + (n + 0)) % 2 ^ 32 ≡ n % 2 ^ 32 = omega arith in
     ap (linear_value values) (es ∙ ap (λ l. record { number = 0; terms = l }) (e1
     ∙ ap (λ l. l ++ (record { counter = whole.outer; stride = whole.factor } ∷ [])) e0)) ∙ g
 
-pub product-is : (context : Context) (known : List KnownSum) (whole : Whole) (none one : List Term) (made : Linear) → known ≡ context.known.items → none ≡ []
-    → one ≡ none ++ (record { counter = whole.outer; stride = whole.factor } ∷ []) → IsRewrittenSum known (record { number = 0; terms = one }) made
-    → IsProduct context whole made
-product-is context known whole none one made ek e0 e1 same = record {
+pub product-is : (context : Context) (known : List KnownSum) (whole : Whole) (none one : List Term) (new_sum : Linear) → known ≡ context.known.items → none ≡ []
+    → one ≡ none ++ (record { counter = whole.outer; stride = whole.factor } ∷ []) → IsRewrittenSum known (record { number = 0; terms = one }) new_sum
+    → IsProduct context whole new_sum
+product-is context known whole none one new_sum ek e0 e1 same = record {
   value_is = λ values are.
       same values (subst (λ k. AreKnown k values) (sym ek) are)
       ∙ product-made whole (record { number = 0; terms = one }) none one e0 e1 refl values;
@@ -78,24 +79,25 @@ number-value sum values none small =
     let g : (sum.number + 0) % 2 ^ 32 ≡ sum.number = omega (arith, small) in
     ap (λ l. linear_value values (record { number = sum.number; terms = l })) (none-there sum.terms none) ∙ g
 
-module _ (context : Context) (whole : Whole) (last : ℕ) (made : Linear) (el : whole.last ≡ Some last) (is : IsProduct context whole made) where
+module _ (context : Context) (whole : Whole) (last : ℕ) (new_sum : Linear) (el : whole.last ≡ Some last) (is : IsProduct context whole new_sum) where
   last-is : (values : Values) → at_most whole.last (product whole values) ≡ min (product whole values) last
   last-is values = ap (λ o. at_most o (product whole values)) el
 
-  pub number-begins : (number : ℕ) → length made.terms ≡ 0 → made.number < 2 ^ 32 → number ≡ min made.number last
+  pub number-begins : (number : ℕ) → length new_sum.terms ≡ 0 → new_sum.number < 2 ^ 32
+      → number ≡ min new_sum.number last
       → BeginsRun context whole (starts.Number number)
   number-begins number none small e values meets =
-      last-is values ∙ ap (λ n. min n last) (sym (is.value_is values meets.known) ∙ number-value made values none small) ∙ sym e
+      last-is values ∙ ap (λ n. min n last) (sym (is.value_is values meets.known) ∙ number-value new_sum values none small) ∙ sym e
 
   pub product-begins : (next : ℕ) (bounds : List Bound) → bounds ≡ context.bounds.items → next ≤ last + 1
-      → IsBelow bounds (record { sum = made; per_hart = 0 }) next → BeginsRun context whole starts.Product
+      → IsBelow bounds (record { sum = new_sum; per_hart = 0 }) next → BeginsRun context whole starts.Product
   product-begins next bounds eb most below values meets =
       let less : product whole values < next =
-      subst (λ n. n < next) (form-sum 0 values made ∙ is.value_is values meets.known)
+      subst (λ n. n < next) (form-sum 0 values new_sum ∙ is.value_is values meets.known)
       (below 0 values (subst (λ b. AreBelow b values) (sym eb) meets.below)) in
       last-is values ∙ min-eq_left (omega (arith, less, most))
 
-  pub name-begins : (counter : Counter) → HasLesser context made last counter → BeginsRun context whole (starts.Name counter)
+  pub name-begins : (counter : Counter) → HasLesser context new_sum last counter → BeginsRun context whole (starts.Name counter)
   name-begins counter has values meets =
       last-is values ∙ ap (λ n. min n last) (sym (is.value_is values meets.known)) ∙ sym (has values meets)
 
@@ -134,10 +136,10 @@ name-adds whole start name none one both es e0 e1 e2 other values =
     (two-terms (record { counter = name; stride = 1 }) (record { counter = whole.inner; stride = 1 }) none one both e0 e1 e2)
     ∙ g ∙ sym (ap (λ k. word.add (start_value whole other k values) (values whole.inner)) es)
 
-pub split-is : (context : Context) (known : List KnownSum) (whole : Whole) (start : TaskStart) (found : Option Linear) (own made : Linear)
-    → known ≡ context.known.items → found ≡ Some own → is_name whole.outer ≡ false → is_name whole.inner ≡ false → BeginsRun context whole start
-    → IfSome found (AddsInner whole start) → IsRewrittenSum known own made → IsSplitSum context whole made
-split-is context known whole start found own made ek ef outer inner begins adds same = record {
+pub split-is : (context : Context) (known : List KnownSum) (whole : Whole) (start : TaskStart) (found_sum : Option Linear) (new_sum linear : Linear)
+    → known ≡ context.known.items → found_sum ≡ Some new_sum → is_name whole.outer ≡ false → is_name whole.inner ≡ false → BeginsRun context whole start
+    → IfSome found_sum (AddsInner whole start) → IsRewrittenSum known new_sum linear → IsSplitSum context whole linear
+split-is context known whole start found_sum new_sum linear ek ef outer inner begins adds same = record {
   plain = whole-plain whole outer inner;
   value_is = λ values meets.
       let here = at_most whole.last (product whole values) in
@@ -230,12 +232,12 @@ module _ (places : Places) (scope : List Held) (context within : Context) (count
 
 -- ---- as the emitters call them
 
-pub found-sum : (context : Context) (whole : Whole) (sum : Linear) (found : Option Linear) → found ≡ Some sum → IfSome found (IsSplitSum context whole)
+pub found-sum : (context : Context) (whole : Whole) (sum : Linear) (new_sum : Option Linear) → new_sum ≡ Some sum → IfSome new_sum (IsSplitSum context whole)
     → IsSplitSum context whole sum
-found-sum context whole sum found e is = subst (λ o. IfSome o (IsSplitSum context whole)) e is
+found-sum context whole sum new_sum e is = subst (λ o. IfSome o (IsSplitSum context whole)) e is
 
-pub bind-arm : (places : Places) (scope : List Held) (is_so : Values → Type 0) (own : Stmt) (counter : Counter) (whole : Whole) (extent : ℕ) (body x : Stmt)
-    (c0 c1 : List ℕ) → own ≡ s.Bind counter whole extent body → x ≡ body → EmitsStatement c0 c1 places scope is_so (s.Bind counter whole extent x)
-    → EmitsStatement c0 c1 places scope is_so own
-bind-arm places scope is_so own counter whole extent body x c0 c1 is ex made =
+pub bind-arm : (places : Places) (scope : List Held) (is_so : Values → Type 0) (statement : Stmt) (counter : Counter) (whole : Whole) (extent : ℕ) (body x : Stmt)
+    (c0 c1 : List ℕ) → statement ≡ s.Bind counter whole extent body → x ≡ body → EmitsStatement c0 c1 places scope is_so (s.Bind counter whole extent x)
+    → EmitsStatement c0 c1 places scope is_so statement
+bind-arm places scope is_so statement counter whole extent body x c0 c1 is ex made =
     subst (λ y. EmitsStatement c0 c1 places scope is_so y) (sym (is ∙ ap (s.Bind counter whole extent) (sym ex))) made

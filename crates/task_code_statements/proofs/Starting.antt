@@ -72,30 +72,30 @@ sum-below : (bounds : List Bound) (form : AffineForm) → IsBelow bounds form (2
     → linear_value values form.sum < 2 ^ 31
 sum-below bounds form below values are = subst (λ n. n < 2 ^ 31) (first-form values form) (below 0 values are)
 
-lesser-has : (context : Context) (names : List Named) (bounds : List Bound) (sum : Linear) (last : ℕ) (own : Expr) (counter : Counter)
+lesser-has : (context : Context) (names : List Named) (bounds : List Bound) (sum : Linear) (last : ℕ) (expression : Expr) (counter : Counter)
     → names ≡ context.names.items → bounds ≡ context.bounds.items → last < 2 ^ 31 → IsBelow bounds (record { sum = sum; per_hart = 0 }) (2 ^ 31)
-    → IsLesser sum last own → IsNameOf names own counter → HasLesser context sum last counter
-lesser-has context names bounds sum last own counter en eb small below lesser is values meets =
+    → IsLesser sum last expression → IsNameOf names expression counter → HasLesser context sum last counter
+lesser-has context names bounds sum last expression counter en eb small below lesser is values meets =
     let low = sum-below bounds (record { sum = sum; per_hart = 0 }) below values (subst (λ b. AreBelow b values) (sym eb) meets.below) in
     let has = is values (subst (λ l. AreNames l values) (sym en) meets.named) in
     sym (has.value_is no_reads) ∙ lesser.value_is no_reads values ∙ least-is (linear_value values sum) last low small
 
 -- and where a run begins, which needs no name
-pub lesser-begins : (context : Context) (whole : Whole) (bounds : List Bound) (sum : Linear) (last : ℕ) (own : Expr) → whole.last ≡ Some last
+pub lesser-begins : (context : Context) (whole : Whole) (bounds : List Bound) (sum : Linear) (last : ℕ) (expression : Expr) → whole.last ≡ Some last
     → bounds ≡ context.bounds.items → last < 2 ^ 31 → IsBelow bounds (record { sum = sum; per_hart = 0 }) (2 ^ 31) → IsProduct context whole sum
-    → IsLesser sum last own → BeginsAt context whole own
-lesser-begins context whole bounds sum last own el eb small below is lesser reads values meets =
+    → IsLesser sum last expression → BeginsAt context whole expression
+lesser-begins context whole bounds sum last expression el eb small below is lesser reads values meets =
     let low = sum-below bounds (record { sum = sum; per_hart = 0 }) below values (subst (λ b. AreBelow b values) (sym eb) meets.below) in
     lesser.value_is reads values ∙ least-is (linear_value values sum) last low small
     ∙ ap (λ n. min n last) (is.value_is values meets.known) ∙ sym (ap (λ o. at_most o (product whole values)) el)
 
 -- where it has a name
-pub has-if : (context : Context) (names : List Named) (bounds : List Bound) (sum : Linear) (last : ℕ) (own : Expr) (found : Option Counter)
+pub has-if : (context : Context) (names : List Named) (bounds : List Bound) (sum : Linear) (last : ℕ) (new_expression : Expr) (loop_counter : Option Counter)
     → names ≡ context.names.items → bounds ≡ context.bounds.items → last < 2 ^ 31 → IsBelow bounds (record { sum = sum; per_hart = 0 }) (2 ^ 31)
-    → IsLesser sum last own → IfSome found (λ counter. IsNameOf names own counter) → IfSome found (HasLesser context sum last)
-has-if context names bounds sum last own None en eb small below lesser is = tt
-has-if context names bounds sum last own (Some counter) en eb small below lesser is =
-    lesser-has context names bounds sum last own counter en eb small below lesser is
+    → IsLesser sum last new_expression → IfSome loop_counter (λ counter. IsNameOf names new_expression counter) → IfSome loop_counter (HasLesser context sum last)
+has-if context names bounds sum last new_expression None en eb small below lesser is = tt
+has-if context names bounds sum last new_expression (Some counter) en eb small below lesser is =
+    lesser-has context names bounds sum last new_expression counter en eb small below lesser is
 
 -- an expression that is one
 pub lesser-both : (a b : Expr) (sum : Linear) (number : ℕ) → b ≡ e.Number number → IsLeafSum a sum → IsLesser sum number (e.Binary op.Minimum a b)
@@ -105,26 +105,27 @@ lesser-both a b sum number eb leaf = record {
       ∙ ap (word.minimum (linear_value values sum)) (ap (value reads values) eb ∙ value_number reads values number);
 }
 
-pub lesser-arm : (own : Expr) (o : Operation) (a b x y : Expr) (P : Expr → Type 0) → own ≡ e.Binary o a b → o ≡ op.Minimum → x ≡ a → y ≡ b
-    → P (e.Binary op.Minimum x y) → P own
-lesser-arm own o a b x y P is eo ex ey p =
+pub lesser-arm : (expression : Expr) (o : Operation) (a b x y : Expr) (P : Expr → Type 0) → expression ≡ e.Binary o a b → o ≡ op.Minimum → x ≡ a → y ≡ b
+    → P (e.Binary op.Minimum x y) → P expression
+lesser-arm expression o a b x y P is eo ex ey p =
     subst P (sym (is ∙ ap (λ k. e.Binary k a b) eo ∙ ap (λ k. e.Binary op.Minimum k b) (sym ex) ∙ ap (e.Binary op.Minimum x) (sym ey))) p
 
-pub lesser-below : (bounds : List Bound) (own : Expr) (form : AffineForm) (last : ℕ) → IsLesser form.sum last own → last < 2 ^ 31 → IsBelow bounds form (2 ^ 31)
-    → StaysBelow bounds own (last + 1)
-lesser-below bounds own form last is small below reads values are =
+pub lesser-below : (bounds : List Bound) (expression : Expr) (form : AffineForm) (last : ℕ) → IsLesser form.sum last expression → last < 2 ^ 31 → IsBelow bounds form (2 ^ 31)
+    → StaysBelow bounds expression (last + 1)
+lesser-below bounds expression form last is small below reads values are =
     let low = sum-below bounds form below values are in
-    let here : value reads values own ≡ min (linear_value values form.sum) last =
+    let here : value reads values expression ≡ min (linear_value values form.sum) last =
     is.value_is reads values ∙ least-is (linear_value values form.sum) last low small in
     omega (arith, here)
 
 -- ---- a name that stays below a number
 
-pub value-meets : (context within made : Context) (counter : Counter) (own : Expr) (count : ℕ) (bounds : List Bound) → bounds ≡ context.bounds.items
-    → MeetsName context counter own within → StaysBelow bounds own count → made.known.items ≡ within.known.items
-    → made.bounds.items ≡ record { counter = counter; count = count } ∷ within.bounds.items → made.names.items ≡ within.names.items
-    → MeetsName context counter own made
-value-meets context within made counter own count bounds eb new below ek ebs en = record {
+pub value-meets : (context within new_context : Context) (counter : Counter) (expression : Expr) (count : ℕ) (bounds : List Bound) → bounds ≡ context.bounds.items
+    → MeetsName context counter expression within → StaysBelow bounds expression count
+    → new_context.known.items ≡ within.known.items
+    → new_context.bounds.items ≡ record { counter = counter; count = count } ∷ within.bounds.items → new_context.names.items ≡ within.names.items
+    → MeetsName context counter expression new_context
+value-meets context within new_context counter expression count bounds eb new below ek ebs en = record {
   meets = λ values v small value_is loads_are m.
       let at = with counter v values in
       let inner = new.meets values v small value_is loads_are m in

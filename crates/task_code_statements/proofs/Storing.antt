@@ -23,59 +23,62 @@ use Rattle.task_code_registers.specs.declared.scopes.Held.{Held}
 use Rattle.task_code_names.specs.Alike.{IsAlikeStore}
 use Rattle.task_code_statements.specs.Statements.{EmitsStatement}
 
-module _ (is_so : Values → Type 0) (store made : Store) (is : IsAlikeStore is_so store made) (values : Values) (are : is_so values) where
+module _ (is_so : Values → Type 0) (store new_store : Store) (is : IsAlikeStore is_so store new_store) (values : Values) (are : is_so values) where
   pub same-sound : (reads : Reads) (written : Points) (loaded : Point → Bool)
-      → is_sound_store reads written loaded made values ≡ is_sound_store reads written loaded store values
+      → is_sound_store reads written loaded new_store values ≡ is_sound_store reads written loaded store values
   same-sound reads written loaded =
       let x = value reads values store.x in
       let y = value reads values store.y in
-      let one : written made.func (value reads values made.x) (value reads values made.y) ≡ written store.func x y =
-      ap (λ k. written k (value reads values made.x) (value reads values made.y)) is.func_is
-      ∙ ap (λ k. written store.func k (value reads values made.y)) (is.column.value_is reads values are)
+      let one : written new_store.func (value reads values new_store.x) (value reads values new_store.y) ≡ written
+      store.func x y =
+      ap (λ k. written k (value reads values new_store.x) (value reads values new_store.y)) is.func_is
+      ∙ ap (λ k. written store.func k (value reads values new_store.y)) (is.column.value_is reads values are)
       ∙ ap (written store.func x) (is.row.value_is reads values are) in
-      ap (λ b. b && list_all loaded (loads reads values made.x ++ (loads reads values made.y ++ loads reads values made.value))) one
-      ∙ ap (λ l. written store.func x y && list_all loaded (l ++ (loads reads values made.y ++ loads reads values made.value))) (is.column.loads_are
+      ap (λ b. b && list_all loaded (loads reads values new_store.x ++ (loads reads values new_store.y ++ loads reads values new_store.value))) one
+      ∙ ap (λ l. written store.func x y && list_all loaded (l ++ (loads reads values new_store.y ++ loads reads values new_store.value))) (is.column.loads_are
       reads values are)
-      ∙ ap (λ l. written store.func x y && list_all loaded (loads reads values store.x ++ (l ++ loads reads values made.value))) (is.row.loads_are reads
+      ∙ ap (λ l. written store.func x y && list_all loaded (loads reads values store.x ++ (l ++ loads reads values new_store.value))) (is.row.loads_are reads
       values are)
       ∙ ap (λ l. written store.func x y && list_all loaded (loads reads values store.x ++ (loads reads values store.y ++ l))) (is.pixel.loads_are reads
       values are)
 
-  module _ (own : Setting) where
-    pub sound-made : SoundIn own (s.Store store) values → SoundIn own (s.Store made) values
+  module _ (setting : Setting) where
+    pub sound-made : SoundIn setting (s.Store store) values → SoundIn setting (s.Store new_store) values
     sound-made sound p words =
-        let reads = reads_of own.inputs p in
-        sound_store reads own.written own.loaded made values ∙ same-sound reads own.written own.loaded
-        ∙ sym (sound_store reads own.written own.loaded store values) ∙ sound p words
+        let reads = reads_of setting.inputs p in
+        sound_store reads setting.written setting.loaded new_store values ∙ same-sound reads setting.written
+        setting.loaded
+        ∙ sym (sound_store reads setting.written setting.loaded store values) ∙ sound p words
 
-    pub runs-made : RunsIn own (s.Store store) values → RunsIn own (s.Store made) values
+    pub runs-made : RunsIn setting (s.Store store) values → RunsIn setting (s.Store new_store) values
     runs-made sure p words func in_runs x y =
-        let reads = reads_of own.inputs p in
-        ap (λ (r : Runs). r.are_runs values) (runs_store reads func x y (own.run func x y) made)
+        let reads = reads_of setting.inputs p in
+        ap (λ (r : Runs). r.are_runs values) (runs_store reads func x y (setting.run func x y) new_store)
         ∙ ap (λ k. not (k == func)) is.func_is
-        ∙ sym (ap (λ (r : Runs). r.are_runs values) (runs_store reads func x y (own.run func x y) store))
+        ∙ sym (ap (λ (r : Runs). r.are_runs values) (runs_store reads func x y (setting.run func x y) store))
         ∙ sure p words func in_runs x y
 
-    pub run-made : (funcs : Planes) → run own.points own.inputs (s.Store made) values funcs ≡ run own.points own.inputs (s.Store store) values funcs
+    pub run-made : (funcs : Planes) → run setting.points setting.inputs (s.Store new_store) values funcs ≡ run setting.points setting.inputs (s.Store store) values funcs
     run-made funcs =
-        let reads = reads_of own.inputs funcs in
-        run_store own.points own.inputs made values funcs
-        ∙ ap (λ k. put own.points k (value reads values made.x) (value reads values made.y) (value reads values made.value) funcs) is.func_is
-        ∙ ap (λ k. put own.points store.func k (value reads values made.y) (value reads values made.value) funcs) (is.column.value_is reads values are)
-        ∙ ap (λ k. put own.points store.func (value reads values store.x) k (value reads values made.value) funcs) (is.row.value_is reads values are)
-        ∙ ap (λ k. put own.points store.func (value reads values store.x) (value reads values store.y) k funcs) (is.pixel.value_is reads values are)
-        ∙ sym (run_store own.points own.inputs store values funcs)
+        let reads = reads_of setting.inputs funcs in
+        run_store setting.points setting.inputs new_store values funcs
+        ∙ ap (λ k. put setting.points k (value reads values new_store.x) (value reads values new_store.y) (value reads values new_store.value) funcs) is.func_is
+        ∙ ap (λ k. put setting.points store.func k (value reads values new_store.y) (value reads values new_store.value) funcs) (is.column.value_is reads values are)
+        ∙ ap (λ k. put setting.points store.func (value reads values store.x) k (value reads values new_store.value) funcs) (is.row.value_is reads values are)
+        ∙ ap (λ k. put setting.points store.func (value reads values store.x) (value reads values store.y) k funcs) (is.pixel.value_is reads values are)
+        ∙ sym (run_store setting.points setting.inputs store values funcs)
 
     pub stored-made : (funcs : Planes) (func x y : ℕ)
-        → stored_points own (s.Store made) values funcs func x y ≡ stored_points own (s.Store store) values funcs func x y
+        → stored_points setting (s.Store new_store) values funcs func x y ≡ stored_points setting (s.Store store) values funcs func x y
     stored-made funcs func x y =
-        let reads = reads_of own.inputs funcs in
-        hit-store own.points own.inputs func x y made values funcs
-        ∙ ap (λ k. k == func && (value reads values made.x == x && value reads values made.y == y)) is.func_is
-        ∙ ap (λ k. store.func == func && (k == x && value reads values made.y == y)) (is.column.value_is reads values are)
+        let reads = reads_of setting.inputs funcs in
+        hit-store setting.points setting.inputs func x y new_store values funcs
+        ∙ ap (λ k. k == func && (value reads values new_store.x == x && value reads values new_store.y == y)) is.func_is
+        ∙ ap (λ k. store.func == func && (k == x && value reads values new_store.y == y)) (is.column.value_is reads values are)
         ∙ ap (λ k. store.func == func && (value reads values store.x == x && k == y)) (is.row.value_is reads values are)
-        ∙ sym (hit-store own.points own.inputs func x y store values funcs)
+        ∙ sym (hit-store setting.points setting.inputs func x y store values funcs)
 
-pub arm : (places : Places) (scope : List Held) (is_so : Values → Type 0) (own x : Stmt) (c0 c1 : List ℕ) → own ≡ x
-    → EmitsStatement c0 c1 places scope is_so x → EmitsStatement c0 c1 places scope is_so own
-arm places scope is_so own x c0 c1 is e = subst (λ y. EmitsStatement c0 c1 places scope is_so y) (sym is) e
+pub arm : (places : Places) (scope : List Held) (is_so : Values → Type 0) (statement x : Stmt) (c0 c1 : List ℕ)
+    → statement ≡ x
+    → EmitsStatement c0 c1 places scope is_so x → EmitsStatement c0 c1 places scope is_so statement
+arm places scope is_so statement x c0 c1 is e = subst (λ y. EmitsStatement c0 c1 places scope is_so y) (sym is) e

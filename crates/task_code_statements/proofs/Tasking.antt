@@ -52,10 +52,10 @@ none-begins counter tasks scope context ep es empty = subst (λ s. Begins counte
   meets = λ task less. empty-meets context empty (starts counter task);
 })
 
-pub drawn-begins : (own : Option Counter) (tasks : ℕ) (counter : Counter) (scope : List Held) (outside context : Context) → own ≡ Some counter
+pub drawn-begins : (loop_counter : Option Counter) (tasks : ℕ) (counter : Counter) (scope : List Held) (outside context : Context) → loop_counter ≡ Some counter
     → is_border counter ≡ false
-    → scope ≡ drawn counter → tasks < 2 ^ 32 → IsEmpty outside → MeetsLoop outside counter tasks context → Begins own tasks scope context
-drawn-begins own tasks counter scope outside context ep not es small empty within = subst (λ s. Begins own tasks s context) (sym es) (record {
+    → scope ≡ drawn counter → tasks < 2 ^ 32 → IsEmpty outside → MeetsLoop outside counter tasks context → Begins loop_counter tasks scope context
+drawn-begins loop_counter tasks counter scope outside context ep not es small empty within = subst (λ s. Begins loop_counter tasks s context) (sym es) (record {
   of_stages = subst IsOfStages (sym ep) not;
   holders = (inl refl, (apart, tt));
   knows = λ hart task f less zero number is.
@@ -117,26 +117,26 @@ module _ (phase : Phase) (places : Places) (ticket : ℕ) where
   -- code does a phase's statement wherever a task's number was drawn
   abbrev pub DoesBody : List Insn → (ℕ → ℕ) → List Held → Type 0
   DoesBody insns turns scope =
-      (own : Setting) → IsSetting own → own.places ≡ places → (task : ℕ) → task < phase.tasks → MayRun own phase.body (task_values phase.counter task)
-      → (f : ℕ → ℕ) (memory : List ℕ) (funcs : Planes) → HoldsFuncs own memory funcs → HasDrawn own task f
-      → Did own insns (turns task) f memory (IsKept scope) (run own.points own.inputs phase.body (task_values phase.counter task) funcs)
-      (stored_points own phase.body (task_values phase.counter task) funcs)
+      (setting : Setting) → IsSetting setting → setting.places ≡ places → (task : ℕ) → task < phase.tasks → MayRun setting phase.body (task_values phase.counter task)
+      → (f : ℕ → ℕ) (memory : List ℕ) (funcs : Planes) → HoldsFuncs setting memory funcs → HasDrawn setting task f
+      → Did setting insns (turns task) f memory (IsKept scope) (run setting.points setting.inputs phase.body (task_values phase.counter task) funcs)
+      (stored_points setting phase.body (task_values phase.counter task) funcs)
 
-  -- after it stands what leaves the numbers that are looked for
+  -- after it is what leaves the numbers that are looked for
   pub task-done : (insns : List Insn) (turns : ℕ → ℕ) (scope : List Held) → ticket + 4 < 2 ^ 32 → phase.tasks < 2 ^ 32 → DoesBody insns turns scope
       → DoesTask places phase ticket (insns ++ restored ticket phase.tasks)
   task-done insns turns scope lt ls body =
       let ends = restored ticket phase.tasks in
       record {
         turns = λ task. turns task + length ends;
-        does = λ own good at-places task less sound once sure f memory funcs holds is.
-            let a = body own good at-places task less (record { sound = sound; at_once = once; in_runs = sure }) f memory funcs holds is in
-            let b = restores own.world a.left a.holds.size a.after ticket phase.tasks lt ls in
+        does = λ setting good at-places task less sound once sure f memory funcs holds is.
+            let a = body setting good at-places task less (record { sound = sound; at_once = once; in_runs = sure }) f memory funcs holds is in
+            let b = restores setting.world a.left a.holds.size a.after ticket phase.tasks lt ls in
             let k = kept-harts scope in
             record {
               after = b.after;
               left = a.left;
-              block = block-then own.world insns ends (turns task) (length ends) f a.after b.after memory a.left a.left a.block b.line;
+              block = block-then setting.world insns ends (turns task) (length ends) f a.after b.after memory a.left a.left a.block b.line;
               number = b.others 10 (omega arith) ∙ a.keeps 10 k.0 ∙ is.number;
               all = b.others 11 (omega arith) ∙ a.keeps 11 k.1 ∙ is.all;
               ticket_is = b.ticket_is;
@@ -147,8 +147,8 @@ module _ (phase : Phase) (places : Places) (ticket : ℕ) where
               elsewhere = a.elsewhere;
               are_bytes = a.are_bytes;
               writes = λ func x' y byte at stored of stand.
-                  writes-first own.world at (turns task) (length ends) f memory byte
-                  (a.writes func x' y byte at stored of (stand-front own.world.text at insns ends stand));
+                  writes-first setting.world at (turns task) (length ends) f memory byte
+                  (a.writes func x' y byte at stored of (stand-front setting.world.text at insns ends stand));
             };
       }
 
@@ -161,10 +161,10 @@ module _ (phase : Phase) (places : Places) (ticket : ℕ) where
     few = few;
     of_stages = begins.of_stages;
     turns = λ task. x.turns (starts phase.counter task);
-    does = λ own good at-places task less may f memory funcs holds is.
+    does = λ setting good at-places task less may f memory funcs holds is.
         let values = starts phase.counter task in
-        let a = x.does own good at-places values values (named-same values) begins.holders (begins.meets task less) may f memory funcs holds
-        (begins.knows own.world.hart task f less is.none is.number is.drawn) in
+        let a = x.does setting good at-places values values (named-same values) begins.holders (begins.meets task less) may f memory funcs holds
+        (begins.knows setting.world.hart task f less is.none is.number is.drawn) in
         record {
           after = a.after;
           left = a.left;
@@ -179,27 +179,30 @@ module _ (phase : Phase) (places : Places) (ticket : ℕ) where
 
 -- ---- variables that no loop has
 
-pub stays-same : (own : Option Counter) (context : Context) → StaysMet own context context
-stays-same own context = record { meets = λ task meets. meets }
+pub stays-same : (counter : Option Counter) (context : Context) → StaysMet counter context context
+stays-same counter context = record { meets = λ task meets. meets }
 
-pub stays-at-zero : (own : Option Counter) (counter : Counter) (context made : Context) (t b : Bool) → t ≡ is_own own counter → t ≡ false
-    → b ≡ is_border counter → b ≡ false → MeetsNumber context counter 0 made → StaysMet own context made
-stays-at-zero own counter context made t b et ft eb fb zero = record {
-  meets = λ task meets. zero.meets (starts own task) (starts-at-zero own counter task (sym et ∙ ft) (sym eb ∙ fb)) meets;
+pub stays-at-zero : (loop_counter : Option Counter) (counter : Counter) (context new_context : Context) (t b : Bool) → t ≡ is_own loop_counter counter → t ≡ false
+    → b ≡ is_border counter → b ≡ false → MeetsNumber context counter 0 new_context
+    → StaysMet loop_counter context new_context
+stays-at-zero loop_counter counter context new_context t b et ft eb fb zero = record {
+  meets = λ task meets. zero.meets (starts loop_counter task) (starts-at-zero loop_counter counter task (sym et ∙ ft) (sym eb ∙ fb)) meets;
 }
 
-pub stays-at-number : (own : Option Counter) (counter : Counter) (n : ℕ) (context made : Context) → counter ≡ number n
-    → MeetsNumber context counter n made → StaysMet own context made
-stays-at-number own counter n context made is stands = record {
-  meets = λ task meets. stands.meets (starts own task) (starts-at-number own counter n task is) meets;
+pub stays-at-number : (loop_counter : Option Counter) (counter : Counter) (n : ℕ) (context new_context : Context)
+    → counter ≡ number n
+    → MeetsNumber context counter n new_context → StaysMet loop_counter context new_context
+stays-at-number loop_counter counter n context new_context is stands = record {
+  meets = λ task meets. stands.meets (starts loop_counter task) (starts-at-number loop_counter counter n task is) meets;
 }
 
-pub stays-then : (own : Option Counter) (context next made : Context) → StaysMet own context next → StaysMet own next made → StaysMet own context made
-stays-then own context next made first rest = record { meets = λ task meets. rest.meets task (first.meets task meets) }
+pub stays-then : (counter : Option Counter) (context next new_context : Context) → StaysMet counter context next → StaysMet counter next new_context → StaysMet counter context new_context
+stays-then counter context next new_context first rest = record
+    { meets = λ task meets. rest.meets task (first.meets task meets) }
 
-pub begins-met : (own : Option Counter) (tasks : ℕ) (scope : List Held) (context made : Context) → Begins own tasks scope context
-    → StaysMet own context made → Begins own tasks scope made
-begins-met own tasks scope context made begins stays = record {
+pub begins-met : (counter : Option Counter) (tasks : ℕ) (scope : List Held) (context new_context : Context) → Begins counter tasks scope context
+    → StaysMet counter context new_context → Begins counter tasks scope new_context
+begins-met counter tasks scope context new_context begins stays = record {
   of_stages = begins.of_stages;
   holders = begins.holders;
   knows = begins.knows;

@@ -59,100 +59,106 @@ byte-below text memory are a = by-test (nat_lt a data_start) refl
 number-below : (text memory : List ℕ) → AreBytes memory → (a : ℕ) → number_in text memory Byte a < 256
 number-below text memory are a = let b = byte-below text memory are a in omega (arith, b)
 
-module _ (own : Setting) (memory : List ℕ) (funcs : Planes) (holds : HoldsFuncs own memory funcs) where
+module _ (setting : Setting) (memory : List ℕ) (funcs : Planes) (holds : HoldsFuncs setting memory funcs) where
   -- what memory holds of an input of bytes is a byte
-  input-byte : (k x y : ℕ) → own.loaded (record { source = sources.Input k; x = x; y = y }) ≡ true
-      → IsByte own.places (sources.Input k) (own.inputs k x y)
+  input-byte : (k x y : ℕ) → setting.loaded (record { source = sources.Input k; x = x; y = y }) ≡ true
+      → IsByte setting.places (sources.Input k) (setting.inputs k x y)
   input-byte k x y is bytes =
-      let a = address_of own.world own.places (record { source = sources.Input k; x = x; y = y }) in
+      let a = address_of setting.world setting.places (record { source = sources.Input k; x = x; y = y }) in
       let h = holds.holds (record { source = sources.Input k; x = x; y = y }) is in
-      let n : number_in own.world.text memory Byte a ≡ own.inputs k x y =
-      subst (λ p. number_in own.world.text memory (load_size (load_op p)) a ≡ own.inputs k x y) bytes h in
-      subst (λ v. v < 256) n (number-below own.world.text memory holds.are_bytes a)
+      let n : number_in setting.world.text memory Byte a ≡ setting.inputs k x y =
+      subst (λ p. number_in setting.world.text memory (load_size (load_op p)) a ≡ setting.inputs k x y) bytes h in
+      subst (λ v. v < 256) n (number-below setting.world.text memory holds.are_bytes a)
 
-  point-byte : (p : Planes) (x y : ℕ) (source : Source) → own.loaded (record { source = source; x = x; y = y }) ≡ true
-      → IsByte own.places source (reads_of own.inputs p source x y)
+  point-byte : (p : Planes) (x y : ℕ) (source : Source) → setting.loaded (record { source = source; x = x; y = y }) ≡
+      true
+      → IsByte setting.places source (reads_of setting.inputs p source x y)
   point-byte p x y (sources.Input k) is = input-byte k x y is
   point-byte p x y (sources.Func k) is = tt
 
   -- whatever Funcs' buffers hold
-  all-bytes : (p : Planes) (points : List Point) → list_all own.loaded points ≡ true → AreBytesAt own.places (reads_of own.inputs p) points
+  all-bytes : (p : Planes) (points : List Point) → list_all setting.loaded points ≡ true → AreBytesAt setting.places (reads_of setting.inputs p) points
   all-bytes p [] is = tt
   all-bytes p (point ∷ points) is =
-      let k = and_parts (own.loaded point) (list_all own.loaded points) is in
+      let k = and_parts (setting.loaded point) (list_all setting.loaded points) is in
       (point-byte p point.x point.y point.source k.0, all-bytes p points k.1)
 
 -- ---- two stores that are the same where buffers hold this
 
-record AreSame (reads : Reads) (values : Values) (store made : Store) : Type 0 where
-  pub func_is : made.func ≡ store.func
-  pub x_is : value reads values made.x ≡ value reads values store.x
-  pub y_is : value reads values made.y ≡ value reads values store.y
-  pub value_is : value reads values made.value ≡ value reads values store.value
-  pub x_loads : loads reads values made.x ≡ loads reads values store.x
-  pub y_loads : loads reads values made.y ≡ loads reads values store.y
-  pub value_loads : loads reads values made.value ≡ loads reads values store.value
+record AreSame (reads : Reads) (values : Values) (store new_store : Store) : Type 0 where
+  pub func_is : new_store.func ≡ store.func
+  pub x_is : value reads values new_store.x ≡ value reads values store.x
+  pub y_is : value reads values new_store.y ≡ value reads values store.y
+  pub value_is : value reads values new_store.value ≡ value reads values store.value
+  pub x_loads : loads reads values new_store.x ≡ loads reads values store.x
+  pub y_loads : loads reads values new_store.y ≡ loads reads values store.y
+  pub value_loads : loads reads values new_store.value ≡ loads reads values store.value
 
-sound-same : (reads : Reads) (values : Values) (store made : Store) (written : Points) (loaded : Point → Bool) → AreSame reads values store made
-    → is_sound_store reads written loaded made values ≡ is_sound_store reads written loaded store values
-sound-same reads values store made written loaded same =
+sound-same : (reads : Reads) (values : Values) (store new_store : Store) (written : Points) (loaded : Point → Bool) → AreSame reads values store new_store
+    → is_sound_store reads written loaded new_store values ≡ is_sound_store reads written loaded store values
+sound-same reads values store new_store written loaded same =
     let x = value reads values store.x in
     let y = value reads values store.y in
-    let one : written made.func (value reads values made.x) (value reads values made.y) ≡ written store.func x y =
-    ap (λ k. written k (value reads values made.x) (value reads values made.y)) same.func_is
-    ∙ ap (λ k. written store.func k (value reads values made.y)) same.x_is ∙ ap (written store.func x) same.y_is in
-    ap (λ b. b && list_all loaded (loads reads values made.x ++ (loads reads values made.y ++ loads reads values made.value))) one
-    ∙ ap (λ l. written store.func x y && list_all loaded (l ++ (loads reads values made.y ++ loads reads values made.value))) same.x_loads
-    ∙ ap (λ l. written store.func x y && list_all loaded (loads reads values store.x ++ (l ++ loads reads values made.value))) same.y_loads
+    let one : written new_store.func (value reads values new_store.x) (value reads values new_store.y) ≡ written
+    store.func x y =
+    ap (λ k. written k (value reads values new_store.x) (value reads values new_store.y)) same.func_is
+    ∙ ap (λ k. written store.func k (value reads values new_store.y)) same.x_is ∙ ap (written store.func x) same.y_is in
+    ap (λ b. b && list_all loaded (loads reads values new_store.x ++ (loads reads values new_store.y ++ loads reads values new_store.value))) one
+    ∙ ap (λ l. written store.func x y && list_all loaded (l ++ (loads reads values new_store.y ++ loads reads values new_store.value))) same.x_loads
+    ∙ ap (λ l. written store.func x y && list_all loaded (loads reads values store.x ++ (l ++ loads reads values new_store.value))) same.y_loads
     ∙ ap (λ l. written store.func x y && list_all loaded (loads reads values store.x ++ (loads reads values store.y ++ l))) same.value_loads
 
-module _ (own : Setting) (values : Values) (store made : Store) where
-  run-same : (funcs : Planes) → AreSame (reads_of own.inputs funcs) values store made
-      → run own.points own.inputs (s.Store made) values funcs ≡ run own.points own.inputs (s.Store store) values funcs
+module _ (setting : Setting) (values : Values) (store new_store : Store) where
+  run-same : (funcs : Planes) → AreSame (reads_of setting.inputs funcs) values store new_store
+      → run setting.points setting.inputs (s.Store new_store) values funcs ≡ run setting.points setting.inputs
+      (s.Store store) values funcs
   run-same funcs same =
-      let reads = reads_of own.inputs funcs in
-      run_store own.points own.inputs made values funcs
-      ∙ ap (λ k. put own.points k (value reads values made.x) (value reads values made.y) (value reads values made.value) funcs) same.func_is
-      ∙ ap (λ k. put own.points store.func k (value reads values made.y) (value reads values made.value) funcs) same.x_is
-      ∙ ap (λ k. put own.points store.func (value reads values store.x) k (value reads values made.value) funcs) same.y_is
-      ∙ ap (λ k. put own.points store.func (value reads values store.x) (value reads values store.y) k funcs) same.value_is
-      ∙ sym (run_store own.points own.inputs store values funcs)
+      let reads = reads_of setting.inputs funcs in
+      run_store setting.points setting.inputs new_store values funcs
+      ∙ ap (λ k. put setting.points k (value reads values new_store.x) (value reads values new_store.y) (value reads values new_store.value) funcs) same.func_is
+      ∙ ap (λ k. put setting.points store.func k (value reads values new_store.y) (value reads values new_store.value) funcs) same.x_is
+      ∙ ap (λ k. put setting.points store.func (value reads values store.x) k (value reads values new_store.value) funcs) same.y_is
+      ∙ ap (λ k. put setting.points store.func (value reads values store.x) (value reads values store.y) k funcs) same.value_is
+      ∙ sym (run_store setting.points setting.inputs store values funcs)
 
-  stored-same : (funcs : Planes) (func x y : ℕ) → AreSame (reads_of own.inputs funcs) values store made
-      → stored_points own (s.Store made) values funcs func x y ≡ stored_points own (s.Store store) values funcs func x y
+  stored-same : (funcs : Planes) (func x y : ℕ) → AreSame (reads_of setting.inputs funcs) values store new_store
+      → stored_points setting (s.Store new_store) values funcs func x y ≡ stored_points setting (s.Store store) values
+      funcs func x y
   stored-same funcs func x y same =
-      let reads = reads_of own.inputs funcs in
-      hit-store own.points own.inputs func x y made values funcs
-      ∙ ap (λ k. k == func && (value reads values made.x == x && value reads values made.y == y)) same.func_is
-      ∙ ap (λ k. store.func == func && (k == x && value reads values made.y == y)) same.x_is
+      let reads = reads_of setting.inputs funcs in
+      hit-store setting.points setting.inputs func x y new_store values funcs
+      ∙ ap (λ k. k == func && (value reads values new_store.x == x && value reads values new_store.y == y)) same.func_is
+      ∙ ap (λ k. store.func == func && (k == x && value reads values new_store.y == y)) same.x_is
       ∙ ap (λ k. store.func == func && (value reads values store.x == x && k == y)) same.y_is
-      ∙ sym (hit-store own.points own.inputs func x y store values funcs)
+      ∙ sym (hit-store setting.points setting.inputs func x y store values funcs)
 
-  runs-same : made.func ≡ store.func → RunsIn own (s.Store store) values → RunsIn own (s.Store made) values
+  runs-same : new_store.func ≡ store.func → RunsIn setting (s.Store store) values
+      → RunsIn setting (s.Store new_store) values
   runs-same func_is sure p words func in_runs x y =
-      let reads = reads_of own.inputs p in
-      ap (λ (r : Runs). r.are_runs values) (runs_store reads func x y (own.run func x y) made)
+      let reads = reads_of setting.inputs p in
+      ap (λ (r : Runs). r.are_runs values) (runs_store reads func x y (setting.run func x y) new_store)
       ∙ ap (λ k. not (k == func)) func_is
-      ∙ sym (ap (λ (r : Runs). r.are_runs values) (runs_store reads func x y (own.run func x y) store))
+      ∙ sym (ap (λ (r : Runs). r.are_runs values) (runs_store reads func x y (setting.run func x y) store))
       ∙ sure p words func in_runs x y
 
 -- ---- without clamps
 
-module _ (own : Setting) (values : Values) (bounds : List Bound) (below : AreBelow bounds values) (memory : List ℕ) (funcs : Planes)
-    (holds : HoldsFuncs own memory funcs) (store made : Store) (is : clamps.IsSameStore own.places bounds store made) where
-  are-same : (p : Planes) → is_sound_store (reads_of own.inputs p) own.written own.loaded store values ≡ true
-      → AreSame (reads_of own.inputs p) values store made
+module _ (setting : Setting) (values : Values) (bounds : List Bound) (below : AreBelow bounds values) (memory : List ℕ) (funcs : Planes)
+    (holds : HoldsFuncs setting memory funcs) (store new_store : Store) (is : clamps.IsSameStore setting.places bounds store new_store) where
+  are-same : (p : Planes) → is_sound_store (reads_of setting.inputs p) setting.written setting.loaded store values ≡
+      true
+      → AreSame (reads_of setting.inputs p) values store new_store
   are-same p sound =
-      let reads = reads_of own.inputs p in
-      let k = and_parts (own.written store.func (value reads values store.x) (value reads values store.y))
-      (list_all own.loaded (store_loads reads values store)) sound in
-      let u = and_parts (list_all own.loaded (loads reads values store.x)) _
-      (sym (list_all-append own.loaded (loads reads values store.x) (loads reads values store.y ++ loads reads values store.value)) ∙ k.1) in
-      let v = and_parts (list_all own.loaded (loads reads values store.y)) (list_all own.loaded (loads reads values store.value))
-      (sym (list_all-append own.loaded (loads reads values store.y) (loads reads values store.value)) ∙ u.1) in
-      let bx = all-bytes own memory funcs holds p (loads reads values store.x) u.0 in
-      let by = all-bytes own memory funcs holds p (loads reads values store.y) v.0 in
-      let bv = all-bytes own memory funcs holds p (loads reads values store.value) v.1 in
+      let reads = reads_of setting.inputs p in
+      let k = and_parts (setting.written store.func (value reads values store.x) (value reads values store.y))
+      (list_all setting.loaded (store_loads reads values store)) sound in
+      let u = and_parts (list_all setting.loaded (loads reads values store.x)) _
+      (sym (list_all-append setting.loaded (loads reads values store.x) (loads reads values store.y ++ loads reads values store.value)) ∙ k.1) in
+      let v = and_parts (list_all setting.loaded (loads reads values store.y)) (list_all setting.loaded (loads reads values store.value))
+      (sym (list_all-append setting.loaded (loads reads values store.y) (loads reads values store.value)) ∙ u.1) in
+      let bx = all-bytes setting memory funcs holds p (loads reads values store.x) u.0 in
+      let by = all-bytes setting memory funcs holds p (loads reads values store.y) v.0 in
+      let bv = all-bytes setting memory funcs holds p (loads reads values store.value) v.1 in
       record {
         func_is = is.func_is;
         x_is = is.column.value_is reads values below bx;
@@ -163,25 +169,25 @@ module _ (own : Setting) (values : Values) (bounds : List Bound) (below : AreBel
         value_loads = is.pixel.loads_are reads values below bv;
       }
 
-  sound-unclamped : SoundIn own (s.Store store) values → SoundIn own (s.Store made) values
+  sound-unclamped : SoundIn setting (s.Store store) values → SoundIn setting (s.Store new_store) values
   sound-unclamped sound p words =
-      let reads = reads_of own.inputs p in
-      let e = sym (sound_store reads own.written own.loaded store values) ∙ sound p words in
-      sound_store reads own.written own.loaded made values ∙ sound-same reads values store made own.written own.loaded (are-same p e) ∙ e
+      let reads = reads_of setting.inputs p in
+      let e = sym (sound_store reads setting.written setting.loaded store values) ∙ sound p words in
+      sound_store reads setting.written setting.loaded new_store values ∙ sound-same reads values store new_store setting.written setting.loaded (are-same p e) ∙ e
 
-  here-same : SoundIn own (s.Store store) values → AreSame (reads_of own.inputs funcs) values store made
+  here-same : SoundIn setting (s.Store store) values → AreSame (reads_of setting.inputs funcs) values store new_store
   here-same sound =
-      are-same funcs (sym (sound_store (reads_of own.inputs funcs) own.written own.loaded store values) ∙ sound funcs holds.are_words)
+      are-same funcs (sym (sound_store (reads_of setting.inputs funcs) setting.written setting.loaded store values) ∙ sound funcs holds.are_words)
 
-pub made-is : (places : Places) (context : Context) (known : List KnownSum) (bounds : List Bound) (names : List Named) (store first second made : Store)
+pub made-is : (places : Places) (context : Context) (known : List KnownSum) (bounds : List Bound) (names : List Named) (store first second new_store : Store)
     → known ≡ context.known.items → bounds ≡ context.bounds.items → names ≡ context.names.items → IsSameStore known store first
-    → clamps.IsSameStore places bounds first second → IsNamedStore names second made → IsMadeStore places context store made
-made-is places context known bounds names store first second made ek eb en one two three = record {
+    → clamps.IsSameStore places bounds first second → IsNamedStore names second new_store → IsMadeStore places context store new_store
+made-is places context known bounds names store first second new_store ek eb en one two three = record {
   first = first;
   second = second;
   by_others = subst (λ k. IsSameStore k store first) ek one;
   without_clamps = subst (λ b. clamps.IsSameStore places b first second) eb two;
-  by_names = subst (λ n. IsNamedStore n second made) en three;
+  by_names = subst (λ n. IsNamedStore n second new_store) en three;
 }
 
 pub made-emits : (places : Places) (scope : List Held) (context : Context) (store final : Store) (c0 c1 : List ℕ) → IsPlainStore store

@@ -28,27 +28,28 @@ pub record IsEmpty (context : Context) : Type 0 where
   pub names : context.names.items ≡ []
 
 -- Where one context is met, another one is in each iteration of a loop,
-pub record MeetsLoop (context : Context) (counter : Counter) (count : ℕ) (made : Context) : Type 0 where
-  pub meets : (values : Values) (i : ℕ) → i < count → Meets context values → Meets made (with counter i values)
+pub record MeetsLoop (context : Context) (counter : Counter) (count : ℕ) (new_context : Context) : Type 0 where
+  pub meets : (values : Values) (i : ℕ) → i < count → Meets context values → Meets new_context (with counter i values)
 
--- where a variable stands at the value of a sum,
-pub record MeetsSum (context : Context) (counter : Counter) (sum : Linear) (made : Context) : Type 0 where
-  pub meets : (values : Values) (v : ℕ) → v % 2 ^ 32 ≡ linear_value values sum → Meets context values → Meets made (with counter v values)
+-- where a variable is at the value of a sum,
+pub record MeetsSum (context : Context) (counter : Counter) (sum : Linear) (new_context : Context) : Type 0 where
+  pub meets : (values : Values) (v : ℕ) → v % 2 ^ 32 ≡ linear_value values sum → Meets context values → Meets new_context (with counter v values)
 
--- where one stands at a number,
-pub record MeetsNumber (context : Context) (counter : Counter) (number : ℕ) (made : Context) : Type 0 where
-  pub meets : (values : Values) → values counter ≡ number → Meets context values → Meets made values
+-- where one is at a number,
+pub record MeetsNumber (context : Context) (counter : Counter) (number : ℕ) (new_context : Context) : Type 0 where
+  pub meets : (values : Values) → values counter ≡ number → Meets context values → Meets new_context values
 
 -- and where a name has the value of an expression that is a word and loads nothing.
-pub record MeetsName (context : Context) (counter : Counter) (e : Expr) (made : Context) : Type 0 where
+pub record MeetsName (context : Context) (counter : Counter) (e : Expr) (new_context : Context) : Type 0 where
   pub meets : (values : Values) (v : ℕ) → v < 2 ^ 32 → ((reads : Reads) → value reads values e ≡ v) → ((reads : Reads) → loads reads values e ≡ [])
-      → Meets context values → Meets made (with counter v values)
+      → Meets context values → Meets new_context (with counter v values)
 
 -- ---- names
 
--- names have their values wherever a variable stands
+-- names have their values wherever a variable is
 abbrev pub StayNamed : Counter → List Named → List Named → Type 0
-StayNamed counter names made = (values : Values) (v : ℕ) → AreNames names values → AreNames made (with counter v values)
+StayNamed counter names named_parts = (values : Values) (v : ℕ) → AreNames names values
+    → AreNames named_parts (with counter v values)
 
 -- so it is with those after others
 abbrev pub KeepsNames : Counter → List Named → List Named → List Named → Type 0

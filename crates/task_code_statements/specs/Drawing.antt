@@ -14,7 +14,7 @@ use Rattle.task_code_statements.specs.Starts.{IsOfStages, starts}
 abbrev pub drawn : Counter → List Held
 drawn counter = record { register = 12; form = variable counter } ∷ []
 
--- Where the number of one of so many tasks is drawn registers hold the scope's forms, and loop variables are as known; a stage has that of the task.
+-- Where the number of one of this many tasks is drawn registers hold the scope's forms, and loop variables are as known; a stage has that of the task.
 pub record Begins (counter : Option Counter) (tasks : ℕ) (scope : List Held) (context : Context) : Type 0 where
   pub of_stages : IsOfStages counter
   pub holders : AreHolders scope
@@ -30,5 +30,5 @@ is_own None counter = false
 is_own (Some own) counter = same_counter counter own
 
 -- Wherever variables stand before a task, another context is met there if one is.
-pub record StaysMet (own : Option Counter) (context made : Context) : Type 0 where
-  pub meets : (task : ℕ) → Meets context (starts own task) → Meets made (starts own task)
+pub record StaysMet (counter : Option Counter) (context new_context : Context) : Type 0 where
+  pub meets : (task : ℕ) → Meets context (starts counter task) → Meets new_context (starts counter task)

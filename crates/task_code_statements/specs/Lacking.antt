@@ -7,13 +7,13 @@ use Rattle.loop_ir.specs.declared.statements.Store.{Store}
 use Rattle.loop_ir.specs.Counters.{Values, with}
 use Rattle.loop_ir.specs.Expressions.{value, loads}
 
--- an expression comes to the same wherever the variable stands, and loads the same points
-pub record Lacks (counter : Counter) (own : Expr) : Type 0 where
-  pub value_is : (reads : Reads) (values : Values) (v : ℕ) → value reads (with counter v values) own ≡ value reads values own
-  pub loads_are : (reads : Reads) (values : Values) (v : ℕ) → loads reads (with counter v values) own ≡ loads reads values own
+-- an expression comes to the same wherever the variable is, and loads the same points
+pub record Lacks (counter : Counter) (expression : Expr) : Type 0 where
+  pub value_is : (reads : Reads) (values : Values) (v : ℕ) → value reads (with counter v values) expression ≡ value reads values expression
+  pub loads_are : (reads : Reads) (values : Values) (v : ℕ) → loads reads (with counter v values) expression ≡ loads reads values expression
 
 -- so do all parts of a store
-pub record StoreLacks (counter : Counter) (own : Store) : Type 0 where
-  pub column : Lacks counter own.x
-  pub row : Lacks counter own.y
-  pub pixel : Lacks counter own.value
+pub record StoreLacks (counter : Counter) (store : Store) : Type 0 where
+  pub column : Lacks counter store.x
+  pub row : Lacks counter store.y
+  pub pixel : Lacks counter store.value

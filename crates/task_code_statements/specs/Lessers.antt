@@ -10,8 +10,8 @@ use Rattle.task_code_loops.specs.declared.bounds.Bound.{Bound}
 use Rattle.task_code_loops.specs.Bounds.{AreBelow}
 
 -- an expression is the lesser of a sum and a number, as numbers with a sign
-pub record IsLesser (sum : Linear) (number : ℕ) (made : Expr) : Type 0 where
-  pub value_is : (reads : Reads) (values : Values) → value reads values made ≡ word.minimum (linear_value values sum) number
+pub record IsLesser (sum : Linear) (number : ℕ) (new_expression : Expr) : Type 0 where
+  pub value_is : (reads : Reads) (values : Values) → value reads values new_expression ≡ word.minimum (linear_value values sum) number
 
 -- an expression stays below a number wherever variables are below their counts
 abbrev pub StaysBelow : List Bound → Expr → ℕ → Type 0

@@ -17,34 +17,35 @@ use Rattle.task_code_statements.specs.declared.contexts.Context.{Context}
 use Rattle.task_code_statements.specs.Rewriting.{IsSameExpr, IsSameStore}
 
 -- an expression without clamps that cut nothing off, made of one by other loop variables than the known ones
-pub record IsUnclamped (places : Places) (known : List KnownSum) (bounds : List Bound) (own made : Expr) : Type 0 where
+pub record IsUnclamped (places : Places) (known : List KnownSum) (bounds : List Bound)
+    (expression new_expression : Expr) : Type 0 where
   pub middle : Expr
-  pub by_others : IsSameExpr known own middle
-  pub without_clamps : clamps.IsSame places bounds middle made
+  pub by_others : IsSameExpr known expression middle
+  pub without_clamps : clamps.IsSame places bounds middle new_expression
 
 -- and it lies in a range
-pub record IsUnclampedIn (places : Places) (known : List KnownSum) (bounds : List Bound) (own : Expr) (made : Ranged) : Type 0 where
+pub record IsUnclampedIn (places : Places) (known : List KnownSum) (bounds : List Bound) (expression : Expr) (new_ranged : Ranged) : Type 0 where
   pub middle : Expr
-  pub by_others : IsSameExpr known own middle
-  pub ranged : clamps.IsRanged places bounds middle made
+  pub by_others : IsSameExpr known expression middle
+  pub ranged : clamps.IsRanged places bounds middle new_ranged
 
 -- so is a store
-pub record IsUnclampedStore (places : Places) (known : List KnownSum) (bounds : List Bound) (own made : Store) : Type 0 where
+pub record IsUnclampedStore (places : Places) (known : List KnownSum) (bounds : List Bound) (new_store made : Store) : Type 0 where
   pub middle : Store
-  pub by_others : IsSameStore known own middle
+  pub by_others : IsSameStore known new_store middle
   pub without_clamps : clamps.IsSameStore places bounds middle made
 
 -- a store by other loop variables than the known ones, without clamps that cut nothing off, and with names in place of parts
-pub record IsMadeStore (places : Places) (context : Context) (own made : Store) : Type 0 where
+pub record IsMadeStore (places : Places) (context : Context) (store new_store : Store) : Type 0 where
   pub first : Store
   pub second : Store
-  pub by_others : IsSameStore context.known.items own first
+  pub by_others : IsSameStore context.known.items store first
   pub without_clamps : clamps.IsSameStore places context.bounds.items first second
-  pub by_names : IsNamedStore context.names.items second made
+  pub by_names : IsNamedStore context.names.items second new_store
 
--- Code stands in front of a loop whose variable no held form has: registers hold some forms, with so many registers left.
-pub record BeginsIterations (old new : List ℕ) (own : Bound) (scope : List Held) (begun : BegunLoop) : Type 0 where
+-- Code is in front of a loop whose variable no held form has: registers hold some forms, with this many registers left.
+pub record BeginsIterations (old new : List ℕ) (bound : Bound) (scope : List Held) (begun : BegunLoop) : Type 0 where
   pub wanted : List AffineForm
   pub reserved : ℕ
-  pub begins : Begins old new wanted own.counter own.count scope reserved begun
-  pub steady : mentions own.counter scope ≡ false
+  pub begins : Begins old new wanted bound.counter bound.count scope reserved begun
+  pub loop_invariant : mentions bound.counter scope ≡ false

@@ -30,10 +30,10 @@ abbrev pub no_points : Points
 no_points func x y = false
 
 -- Code comes to its end and leaves the scope's registers and what buffers hold. Registers then hold the forms of another scope.
-pub record GivesNames (own : Setting) (insns : List Insn) (f : ℕ → ℕ) (memory : List ℕ) (scope : List Held) (funcs : Planes) (inner : List Held)
+pub record GivesNames (setting : Setting) (insns : List Insn) (f : ℕ → ℕ) (memory : List ℕ) (scope : List Held) (funcs : Planes) (inner : List Held)
     (named : Values) : Type 0 where
-  pub did : Did own insns (length insns) f memory (IsKept scope) funcs no_points
-  pub knows : Knows own.world.hart inner named did.after
+  pub did : Did setting insns (length insns) f memory (IsKept scope) funcs no_points
+  pub knows : Knows setting.world.hart inner named did.after
 
 -- Appended code does so, wherever registers hold the scope's forms and something is so of loop variables and names: another scope holds theirs,
 -- which keeps those registers, some names have other values, and something else is so.
@@ -45,11 +45,12 @@ pub record NamesHold (old new : List ℕ) (places : Places) (scope : List Held) 
   pub are_named : (values named : Values) → AreNamed values named → AreNamed values (named_as named)
   pub holders : AreHolders scope → AreHolders inner
   pub kept : (q : ℕ) → IsKept scope q → IsKept inner q
-  pub meets : (own : Setting) → IsSetting own → own.places ≡ places → (named : Values) → AreHolders scope → is_so named → (f : ℕ → ℕ) (memory : List ℕ)
-      (funcs : Planes) → HoldsFuncs own memory funcs → Knows own.world.hart scope named f → within_so (named_as named)
-  pub does : (own : Setting) → IsSetting own → own.places ≡ places → (named : Values) → AreHolders scope → is_so named → (f : ℕ → ℕ) (memory : List ℕ)
-      (funcs : Planes) → HoldsFuncs own memory funcs → Knows own.world.hart scope named f
-      → GivesNames own insns f memory scope funcs inner (named_as named)
+  pub meets : (setting : Setting) → IsSetting setting → setting.places ≡ places → (named : Values) → AreHolders scope → is_so named → (f : ℕ → ℕ) (memory : List ℕ)
+      (funcs : Planes) → HoldsFuncs setting memory funcs → Knows setting.world.hart scope named f
+      → within_so (named_as named)
+  pub does : (setting : Setting) → IsSetting setting → setting.places ≡ places → (named : Values) → AreHolders scope → is_so named → (f : ℕ → ℕ) (memory : List ℕ)
+      (funcs : Planes) → HoldsFuncs setting memory funcs → Knows setting.world.hart scope named f
+      → GivesNames setting insns f memory scope funcs inner (named_as named)
 
 -- where it appends any
 abbrev pub NamesIf : List ℕ → List ℕ → Places → List Held → Context → Option Naming → Type 0
@@ -59,8 +60,8 @@ NamesIf old new places scope context (Some made) = NamesHold old new places scop
 -- ---- code that leaves a value in a register
 
 -- Code comes to its end and leaves a number in a register, beside the scope's registers and what buffers hold.
-pub record LeavesIn (own : Setting) (insns : List Insn) (f : ℕ → ℕ) (memory : List ℕ) (scope : List Held) (funcs : Planes) (register v : ℕ) : Type 0 where
-  pub did : Did own insns (length insns) f memory (IsKept scope) funcs no_points
+pub record LeavesIn (setting : Setting) (insns : List Insn) (f : ℕ → ℕ) (memory : List ℕ) (scope : List Held) (funcs : Planes) (register v : ℕ) : Type 0 where
+  pub did : Did setting insns (length insns) f memory (IsKept scope) funcs no_points
   pub value : did.after register ≡ v
   pub small : v < 2 ^ 32
 
@@ -68,7 +69,7 @@ pub record LeavesIn (own : Setting) (insns : List Insn) (f : ℕ → ℕ) (memor
 pub record KeepsValue (places : Places) (scope : List Held) (register : ℕ) (e : Expr) (words : List ℕ) : Type 0 where
   pub insns : List Insn
   pub emits : Emits [] words insns
-  pub does : (own : Setting) → IsSetting own → own.places ≡ places → (named : Values) → AreHolders scope → IsLeft scope register
-      → ((reads : Reads) → loads reads named e ≡ []) → (f : ℕ → ℕ) (memory : List ℕ) (funcs : Planes) → HoldsFuncs own memory funcs
-      → Knows own.world.hart scope named f
-      → LeavesIn own insns f memory scope funcs register (value (reads_of own.inputs funcs) named e)
+  pub does : (setting : Setting) → IsSetting setting → setting.places ≡ places → (named : Values) → AreHolders scope → IsLeft scope register
+      → ((reads : Reads) → loads reads named e ≡ []) → (f : ℕ → ℕ) (memory : List ℕ) (funcs : Planes) → HoldsFuncs setting memory funcs
+      → Knows setting.world.hart scope named f
+      → LeavesIn setting insns f memory scope funcs register (value (reads_of setting.inputs funcs) named e)

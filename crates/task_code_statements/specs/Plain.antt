@@ -8,12 +8,12 @@ use Rattle.loop_ir.specs.Expressions.{value, loads}
 use Rattle.task_code_vector_loops.specs.Naming.{AreNamed}
 
 -- an expression comes to the same whatever values names have, and loads the same points
-pub record IsPlain (own : Expr) : Type 0 where
-  pub value_is : (reads : Reads) (values named : Values) → AreNamed values named → value reads named own ≡ value reads values own
-  pub loads_are : (reads : Reads) (values named : Values) → AreNamed values named → loads reads named own ≡ loads reads values own
+pub record IsPlain (expression : Expr) : Type 0 where
+  pub value_is : (reads : Reads) (values named : Values) → AreNamed values named → value reads named expression ≡ value reads values expression
+  pub loads_are : (reads : Reads) (values named : Values) → AreNamed values named → loads reads named expression ≡ loads reads values expression
 
 -- so do all parts of a store
-pub record IsPlainStore (own : Store) : Type 0 where
-  pub column : IsPlain own.x
-  pub row : IsPlain own.y
-  pub pixel : IsPlain own.value
+pub record IsPlainStore (store : Store) : Type 0 where
+  pub column : IsPlain store.x
+  pub row : IsPlain store.y
+  pub pixel : IsPlain store.value

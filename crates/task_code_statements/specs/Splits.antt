@@ -22,11 +22,11 @@ pub record IsSplitSum (context : Context) (whole : Whole) (sum : Linear) : Type 
   pub value_is : (values : Values) → Meets context values → linear_value values sum ≡ whole_value whole values
   pub plain : (values named : Values) → AreNamed values named → whole_value whole named ≡ whole_value whole values
 
--- where a split loop's variable stands at its value, which is a form
-pub record EntersSplit (context : Context) (counter : Counter) (whole : Whole) (made : Entered) : Type 0 where
-  pub value_is : IsSplitSum context whole made.form.sum
-  pub meets : MeetsSum context counter made.form.sum made.inner
-  pub form_is : made.form ≡ record { sum = made.form.sum; per_hart = 0 }
+-- where a split loop's variable is at its value, which is a form
+pub record EntersSplit (context : Context) (counter : Counter) (whole : Whole) (entered : Entered) : Type 0 where
+  pub value_is : IsSplitSum context whole entered.form.sum
+  pub meets : MeetsSum context counter entered.form.sum entered.inner
+  pub form_is : entered.form ≡ record { sum = entered.form.sum; per_hart = 0 }
 
 -- ---- where a run of the inner loop begins
 

@@ -18,7 +18,7 @@ use Rattle.task_code_registers.specs.Scopes.{IsKept}
 use Rattle.task_code_vector_loops.specs.AtOnce.{MayRun}
 use Rattle.task_code_statements.specs.Tasks.{HasDrawn, restored}
 
--- the number at which a variable stands that has one
+-- the number at which a variable is that has one
 abbrev pub number_in : LoopId → ℕ
 number_in (ids.Outer n) = 0
 number_in (ids.Inner n) = n
@@ -30,20 +30,21 @@ numbered values counter = if is_border counter then number_in counter.id else va
 
 -- where variables stand before a task
 abbrev pub starts : Option Counter → ℕ → Values
-starts own task = numbered (task_values own task)
+starts counter task = numbered (task_values counter task)
 
 -- a stage has the variable of the task's number, if there is one
 abbrev pub IsOfStages : Option Counter → Type 0
 IsOfStages None = Unit {0}
 IsOfStages (Some own) = is_border own ≡ false
 
--- instructions do a statement for each of so many tasks, wherever its number was drawn
+-- instructions do a statement for each of this many tasks, wherever its number was drawn
 abbrev pub DoesStarted : Places → Option Counter → ℕ → Stmt → List Insn → (ℕ → ℕ) → Type 0
 DoesStarted places counter tasks body insns turns =
-    (own : Setting) → IsSetting own → own.places ≡ places → (task : ℕ) → task < tasks → MayRun own body (starts counter task)
-    → (f : ℕ → ℕ) (memory : List ℕ) (funcs : Planes) → HoldsFuncs own memory funcs → HasDrawn own task f
-    → Did own insns (turns task) f memory (IsKept []) (run own.points own.inputs body (starts counter task) funcs)
-    (stored_points own body (starts counter task) funcs)
+    (setting : Setting) → IsSetting setting → setting.places ≡ places → (task : ℕ) → task < tasks → MayRun setting body (starts counter task)
+    → (f : ℕ → ℕ) (memory : List ℕ) (funcs : Planes) → HoldsFuncs setting memory funcs → HasDrawn setting task f
+    → Did setting insns (turns task) f memory (IsKept []) (run setting.points setting.inputs body (starts counter task)
+    funcs)
+    (stored_points setting body (starts counter task) funcs)
 
 -- words of such instructions for a phase's statement, and of those that leave then the numbers that the draw and the gate look for
 pub record AppendsStarted (old new : List ℕ) (phase : Phase) (places : Places) (ticket : ℕ) : Type 0 where

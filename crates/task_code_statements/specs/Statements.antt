@@ -24,10 +24,10 @@ pub record EmitsStatement (old new : List ℕ) (places : Places) (scope : List H
   pub insns : List Insn
   pub emits : Emits old new insns
   pub turns : Values → ℕ
-  pub does : (own : Setting) → IsSetting own → own.places ≡ places → (values named : Values) → AreNamed values named → AreHolders scope
-      → is_so named → MayRun own statement values
-      → (f : ℕ → ℕ) (memory : List ℕ) (funcs : Planes) → HoldsFuncs own memory funcs → Knows own.world.hart scope named f
-      → Did own insns (turns named) f memory (IsKept scope) (run own.points own.inputs statement values funcs) (stored_points own statement values funcs)
+  pub does : (setting : Setting) → IsSetting setting → setting.places ≡ places → (values named : Values) → AreNamed values named → AreHolders scope
+      → is_so named → MayRun setting statement values
+      → (f : ℕ → ℕ) (memory : List ℕ) (funcs : Planes) → HoldsFuncs setting memory funcs → Knows setting.world.hart scope named f
+      → Did setting insns (turns named) f memory (IsKept scope) (run setting.points setting.inputs statement values funcs) (stored_points setting statement values funcs)
 
 -- so it is of a loop that isn't vectorized, of whichever kind it is
 abbrev pub EmitsLoop : List ℕ → List ℕ → Places → List Held → (Values → Type 0) → Counter → ℕ → Stmt → Type 0

@@ -16,38 +16,39 @@ use Rattle.task_code_scalar.specs.Words.{Emits}
 use Rattle.task_code_vector_loops.specs.AtOnce.{AtOnceIn}
 
 -- where a task begins: its number was drawn
-pub record HasDrawn (own : Setting) (task : ℕ) (f : ℕ → ℕ) : Type 0 where
+pub record HasDrawn (setting : Setting) (task : ℕ) (f : ℕ → ℕ) : Type 0 where
   pub none : f 0 ≡ 0
-  pub number : f 10 ≡ own.world.hart
-  pub all : f 11 ≡ own.harts
+  pub number : f 10 ≡ setting.world.hart
+  pub all : f 11 ≡ setting.harts
   pub drawn : f 12 ≡ task
 
--- The instructions come to their end in so many turns, and memory holds what the task leaves.
-pub record TaskEnds (own : Setting) (phase : Phase) (insns : List Insn) (turns ticket task : ℕ) (f : ℕ → ℕ) (memory : List ℕ) (funcs : Planes) : Type 0 where
+-- The instructions come to their end in this many turns, and memory holds what the task leaves.
+pub record TaskEnds (setting : Setting) (phase : Phase) (insns : List Insn) (turns ticket task : ℕ) (f : ℕ → ℕ) (memory : List ℕ) (funcs : Planes) : Type 0 where
   pub after : ℕ → ℕ
   pub left : List ℕ
-  pub block : Block own.world insns turns f memory after left
-  pub number : after 10 ≡ own.world.hart
-  pub all : after 11 ≡ own.harts
+  pub block : Block setting.world insns turns f memory after left
+  pub number : after 10 ≡ setting.world.hart
+  pub all : after 11 ≡ setting.harts
   pub ticket_is : after 13 ≡ ticket
   pub gate_is : after 14 ≡ ticket + 4
   pub one : after 15 ≡ 1
   pub tasks_are : after 16 ≡ phase.tasks
-  pub holds : HoldsFuncs own left (run_task own.points own.inputs phase task funcs)
-  pub elsewhere : (byte : ℕ) → IsElsewhere own.world own.places own.written byte → byte_at own.world.text left byte ≡ byte_at own.world.text memory byte
+  pub holds : HoldsFuncs setting left (run_task setting.points setting.inputs phase task funcs)
+  pub elsewhere : (byte : ℕ) → IsElsewhere setting.world setting.places setting.written byte → byte_at setting.world.text left byte ≡ byte_at setting.world.text memory byte
   pub are_bytes : AreBytes memory → AreBytes left
   -- every byte of a point at which the task stores is written
-  pub writes : (func x y byte at : ℕ) → is_stored_by_task own.points own.inputs phase task func x y funcs ≡ true → IsOf own.world own.places func x y byte
-      → Stand own.world.text at insns → Writes own.world at turns f memory byte
+  pub writes : (func x y byte at : ℕ) → is_stored_by_task setting.points setting.inputs phase task func x y funcs ≡ true → IsOf setting.world setting.places func x y byte
+      → Stand setting.world.text at insns → Writes setting.world at turns f memory byte
 
 -- Each task ends so, in as many turns as are given for it, from wherever its hart has drawn its number and memory holds the buffers.
 abbrev pub EachTaskEnds : Places → Phase → ℕ → List Insn → (ℕ → ℕ) → Type 0
 EachTaskEnds places phase ticket insns turns =
-    (own : Setting) → IsSetting own → own.places ≡ places → (task : ℕ) → task < phase.tasks
-    → SoundIn own phase.body (task_values phase.counter task) → AtOnceIn own phase.body (task_values phase.counter task)
-    → RunsIn own phase.body (task_values phase.counter task)
-    → (f : ℕ → ℕ) (memory : List ℕ) (funcs : Planes) → HoldsFuncs own memory funcs → HasDrawn own task f
-    → TaskEnds own phase insns (turns task) ticket task f memory funcs
+    (setting : Setting) → IsSetting setting → setting.places ≡ places → (task : ℕ) → task < phase.tasks
+    → SoundIn setting phase.body (task_values phase.counter task)
+    → AtOnceIn setting phase.body (task_values phase.counter task)
+    → RunsIn setting phase.body (task_values phase.counter task)
+    → (f : ℕ → ℕ) (memory : List ℕ) (funcs : Planes) → HoldsFuncs setting memory funcs → HasDrawn setting task f
+    → TaskEnds setting phase insns (turns task) ticket task f memory funcs
 
 -- These instructions do each task of the phase, wherever they stand, in turns that depend on the task alone.
 pub record DoesTask (places : Places) (phase : Phase) (ticket : ℕ) (insns : List Insn) : Type 0 where

@@ -30,7 +30,7 @@ use Rattle.task_code_statements.specs.declared.contexts.Context.{Context}
 use Rattle.task_code_statements.specs.declared.guards.Guard.{Guard}
 use Rattle.task_code_statements.specs.declared.guards.Parted.{Parted}
 use Rattle.task_code_statements.specs.declared.guards.Tests.{Tests}
-use Rattle.task_code_statements.specs.declared.replacing.Standing.{Standing}
+use Rattle.task_code_statements.specs.declared.replacing.Replacement.{Replacement}
 use Rattle.task_code_statements.specs.declared.vectorizing.GuardedStore.{GuardedStore}
 use Rattle.task_code_statements.specs.declared.vectorizing.VectorStore.{VectorStore}
 use Rattle.task_code_statements.specs.Contexts.{Meets}
@@ -46,46 +46,46 @@ abbrev pub passes : List Guard → Values → Bool
 passes [] values = true
 passes (guard ∷ others) values = cond (is_passed guard values) (passes others values) false
 
--- tests say the same wherever a variable stands
+-- tests say the same wherever a variable is
 abbrev pub GuardsLack : Counter → List Guard → Type 0
 GuardsLack counter guards = (values : Values) (v : ℕ) → passes guards (with counter v values) ≡ passes guards values
 
 -- so it is of a store and its tests
-pub record GuardedLacks (counter : Counter) (own : GuardedStore) : Type 0 where
-  pub store : StoreLacks counter own.store
-  pub guards : GuardsLack counter own.guards.items
+pub record GuardedLacks (counter : Counter) (guarded : GuardedStore) : Type 0 where
+  pub store : StoreLacks counter guarded.store
+  pub guards : GuardsLack counter guarded.guards.items
 
 -- An expression stands for a variable in a store, and neither the expression nor what is left has it.
-pub record ReplacesIn (old : GuardedStore) (own : Standing) (made : GuardedStore) : Type 0 where
-  pub store : IsReplacedStore own old.store made.store
-  pub guards_are : made.guards ≡ old.guards
-  pub lacks : GuardedLacks own.counter made
-  pub own_lacks : Lacks own.counter own.e
+pub record ReplacesIn (old : GuardedStore) (replacement : Replacement) (guarded : GuardedStore) : Type 0 where
+  pub store : IsReplacedStore replacement old.store guarded.store
+  pub guards_are : guarded.guards ≡ old.guards
+  pub lacks : GuardedLacks replacement.counter guarded
+  pub own_lacks : Lacks replacement.counter replacement.e
 
 -- one more test
 abbrev pub OneMore : List Guard → Guard → List Guard → Type 0
-OneMore guards own made = (values : Values) → passes made values ≡ cond (is_passed own values) (passes guards values) false
+OneMore guards guard made = (values : Values) → passes made values ≡ cond (is_passed guard values) (passes guards values) false
 
 -- one more test, wherever variables are below their counts
 abbrev pub TestToo : List Bound → List Guard → Guard → List Guard → Type 0
-TestToo bounds guards own made =
-    (values : Values) → AreBelow bounds values → passes made values ≡ cond (is_passed own values) (passes guards values) false
+TestToo bounds guards guard made =
+    (values : Values) → AreBelow bounds values → passes made values ≡ cond (is_passed guard values) (passes guards values) false
 
 -- Where all tests pass, a statement stores what the store stores, wherever loop variables and names are as known, and is sound there only if that is;
 -- else it stores nothing.
-pub record IsStoreOf (context : Context) (body : Stmt) (made : GuardedStore) : Type 0 where
+pub record IsStoreOf (context : Context) (body : Stmt) (guarded : GuardedStore) : Type 0 where
   pub stores : (reads : Reads) (values named : Values) → AreNamed values named → Meets context named
-      → effect reads body values ≡ cond (passes made.guards.items named) (effect reads (statements.Store made.store) named) None
+      → effect reads body values ≡ cond (passes guarded.guards.items named) (effect reads (statements.Store guarded.store) named) None
   pub sound : (reads : Reads) (written : Points) (loaded : Point → Bool) (values named : Values) → AreNamed values named → Meets context named
-      → passes made.guards.items named ≡ true → is_sound reads written loaded body values ≡ true
-      → is_sound reads written loaded (statements.Store made.store) named ≡ true
+      → passes guarded.guards.items named ≡ true → is_sound reads written loaded body values ≡ true
+      → is_sound reads written loaded (statements.Store guarded.store) named ≡ true
 
 -- ---- tests of lanes
 
 -- Of tests some depend on no lane, and the others may.
-pub record IsParted (counter : Counter) (guards : List Guard) (made : Parted) : Type 0 where
-  pub passes_is : (values : Values) → passes guards values ≡ cond (passes made.fixed.items values) (passes made.hanging.items values) false
-  pub lack : GuardsLack counter made.fixed.items
+pub record IsParted (counter : Counter) (guards : List Guard) (parted : Parted) : Type 0 where
+  pub passes_is : (values : Values) → passes guards values ≡ cond (passes parted.fixed.items values) (passes parted.hanging.items values) false
+  pub lack : GuardsLack counter parted.fixed.items
 
 -- How many strides go into a sum says how many iterations of a loop pass a test, where the first one passes. They are the first ones, since the tested
 -- sum grows.
@@ -115,25 +115,25 @@ TestFirst bounds counter fixed hanging made =
     → passes made (with counter 0 values) ≡ cond (passes fixed (with counter 0 values)) (passes hanging (with counter 0 values)) false
 
 -- what of tests is asked in front of a loop: those of its first iteration, and how many iterations pass from there on
-pub record AreTests (bounds : List Bound) (counter : Counter) (guards : List Guard) (made : Tests) : Type 0 where
+pub record AreTests (bounds : List Bound) (counter : Counter) (guards : List Guard) (tests : Tests) : Type 0 where
   pub parts : Parted
   pub parted : IsParted counter guards parts
-  pub left : AreLeft bounds counter parts.hanging.items made.left.items
-  pub first : TestFirst bounds counter parts.fixed.items parts.hanging.items made.fixed.items
+  pub left : AreLeft bounds counter parts.hanging.items tests.left.items
+  pub first : TestFirst bounds counter parts.fixed.items parts.hanging.items tests.fixed.items
 
 -- ---- runs
 
 -- there is a lane for each iteration of a loop, whose variable no held form has
-pub record AreLanes (scope : List Held) (own : Bound) (lanes : VectorLanes) : Type 0 where
-  pub counter_is : lanes.counter ≡ own.counter
-  pub count_is : own.count ≡ all_lanes lanes
-  pub steady : mentions own.counter scope ≡ false
+pub record AreLanes (scope : List Held) (bound : Bound) (lanes : VectorLanes) : Type 0 where
+  pub counter_is : lanes.counter ≡ bound.counter
+  pub count_is : bound.count ≡ all_lanes lanes
+  pub loop_invariant : mentions bound.counter scope ≡ false
 
 -- Where all tests pass in the first iteration, a body does a run's store in as many iterations; else it stores nothing.
-pub record IsRunOf (context : Context) (lanes : VectorLanes) (body : Stmt) (made : VectorStore) : Type 0 where
-  pub does : (values named : Values) → AreNamed values named → Meets context named → passes made.fixed.items (with lanes.counter 0 named) ≡ true
-      → StoresAs lanes body made.store values named (left_lanes lanes made.left.items named)
-  pub none : (values named : Values) → AreNamed values named → Meets context named → passes made.fixed.items (with lanes.counter 0 named) ≡ false
+pub record IsRunOf (context : Context) (lanes : VectorLanes) (body : Stmt) (vector_store : VectorStore) : Type 0 where
+  pub does : (values named : Values) → AreNamed values named → Meets context named → passes vector_store.fixed.items (with lanes.counter 0 named) ≡ true
+      → StoresAs lanes body vector_store.store values named (left_lanes lanes vector_store.left.items named)
+  pub none : (values named : Values) → AreNamed values named → Meets context named → passes vector_store.fixed.items (with lanes.counter 0 named) ≡ false
       → (reads : Reads) (i : ℕ) → i < all_lanes lanes → effect reads body (with lanes.counter i values) ≡ None
 
 -- Appended code does what a body does where all tests pass, and else nothing. Its turns depend on those of the body and on variables' values alone.
@@ -141,10 +141,10 @@ pub record StandsBehind (old new : List ℕ) (scope : List Held) (guards : List 
   pub insns : List Insn
   pub emits : Emits old new insns
   pub turns : ℕ → Values → ℕ
-  pub does : (own : Setting) (values : Values) (t : ℕ) (left : Planes) (stored : Points) (f : ℕ → ℕ) (memory : List ℕ) (funcs : Planes)
-      → AreHolders scope → HoldsFuncs own memory funcs → Knows own.world.hart scope values f
-      → (passes guards values ≡ true → (g : ℕ → ℕ) → Knows own.world.hart scope values g → Did own body t g memory (IsKept scope) left stored)
-      → Did own insns (turns t values) f memory (IsKept scope) (if passes guards values then left else funcs) (stored_if (passes guards values) stored)
+  pub does : (setting : Setting) (values : Values) (t : ℕ) (left : Planes) (stored : Points) (f : ℕ → ℕ) (memory : List ℕ) (funcs : Planes)
+      → AreHolders scope → HoldsFuncs setting memory funcs → Knows setting.world.hart scope values f
+      → (passes guards values ≡ true → (g : ℕ → ℕ) → Knows setting.world.hart scope values g → Did setting body t g memory (IsKept scope) left stored)
+      → Did setting insns (turns t values) f memory (IsKept scope) (if passes guards values then left else funcs) (stored_if (passes guards values) stored)
 
 -- so it is of a body whose words were made apart
 abbrev pub WordsBehind : List ℕ → List ℕ → List Held → List Guard → List ℕ → Type 0

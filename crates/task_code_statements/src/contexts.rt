@@ -31,7 +31,7 @@ pub enum Holding {
 }
 
 impl Holding {
-    /// Whether a loop around so many others holds its variable first.
+    /// Whether a loop around this many others holds its variable first.
     pub fn has_variable(self, inside: usize) -> bool {
         match self {
             Holding::Pointers => false,
@@ -101,11 +101,11 @@ pub fn nothing_known(alloc: Global, manner: Manner) -> Context
 /// Appends copies of those that are neither of a loop variable nor a sum of it.
 fn keep_others(
     alloc: Global,
-    made: &mut Vec<KnownSum>,
+    sums: &mut Vec<KnownSum>,
     known: &[KnownSum],
     counter: Counter,
 ) -> Result<(), AllocError>
-    ensures { OnOk result (made.new.items ≡ made.old.items ++ contexts.without counter known.now) }
+    ensures { OnOk result (sums.new.items ≡ sums.old.items ++ contexts.without counter known.now) }
 {
     match known {
         [] => Ok(()),
@@ -113,15 +113,15 @@ fn keep_others(
             if same_counter(first.counter, counter)
                 || has_term(first.sum.terms.as_slice(), counter)
             {
-                keep_others(alloc, made, others, counter)?;
+                keep_others(alloc, sums, others, counter)?;
                 return Ok(());
             }
             let sum = first.sum.copy(alloc)?;
-            made.push(KnownSum {
+            sums.push(KnownSum {
                 counter: first.counter,
                 sum,
             })?;
-            keep_others(alloc, made, others, counter)?;
+            keep_others(alloc, sums, others, counter)?;
             Ok(())
         }
     }
@@ -150,22 +150,22 @@ fn with_known(
     counter: Counter,
     sum: &Linear,
 ) -> Result<Vec<KnownSum>, AllocError>
-    ensures { IfOk result (λ made. made.items
+    ensures { IfOk result (λ sums. sums.items
         ≡ record { counter = counter; sum = sum.now } ∷ contexts.without counter known.now) }
 {
     let sum = sum.copy(alloc)?;
-    let mut made = Vec::new(alloc);
-    made.push(KnownSum { counter, sum })?;
-    keep_others(alloc, &mut made, known, counter)?;
-    Ok(made)
+    let mut sums = Vec::new(alloc);
+    sums.push(KnownSum { counter, sum })?;
+    keep_others(alloc, &mut sums, known, counter)?;
+    Ok(sums)
 }
 
 /// These and one more in front.
-fn with_bound(alloc: Global, bounds: &[Bound], own: Bound) -> Result<Vec<Bound>, AllocError>
-    ensures { IfOk result (λ made. made.items ≡ own ∷ bounds.now) }
+fn with_bound(alloc: Global, bounds: &[Bound], bound: Bound) -> Result<Vec<Bound>, AllocError>
+    ensures { IfOk result (λ made. made.items ≡ bound ∷ bounds.now) }
 {
     let mut made = Vec::new(alloc);
-    made.push(own)?;
+    made.push(bound)?;
     made.extend_from_slice(bounds)?;
     Ok(made)
 }
@@ -181,22 +181,22 @@ fn copy_bounds(alloc: Global, bounds: &[Bound]) -> Result<Vec<Bound>, AllocError
 /// Appends copies of the names of what lacks a loop variable.
 fn keep_names(
     alloc: Global,
-    made: &mut Vec<Named>,
+    named_parts: &mut Vec<Named>,
     names: &[Named],
     counter: Counter,
 ) -> Result<(), AllocError>
-    ensures { OnOk result (KeepsNames counter names.now made.old.items made.new.items) }
+    ensures { OnOk result (KeepsNames counter names.now named_parts.old.items named_parts.new.items) }
 {
     match names {
         [] => Ok(()),
         [first, others @ ..] => {
             if same_counter(first.counter, counter) || !lacks(&first.e, counter) {
-                keep_names(alloc, made, others, counter)?;
+                keep_names(alloc, named_parts, others, counter)?;
                 return Ok(());
             }
             let own = new_named(alloc, first.counter, &first.e)?;
-            made.push(own)?;
-            keep_names(alloc, made, others, counter)?;
+            named_parts.push(own)?;
+            keep_names(alloc, named_parts, others, counter)?;
             Ok(())
         }
     }
@@ -204,11 +204,11 @@ fn keep_names(
 
 /// The names of what lacks a loop variable.
 fn names_lacking(alloc: Global, names: &[Named], counter: Counter) -> Result<Vec<Named>, AllocError>
-    ensures { IfOk result (λ made. StayNamed counter names.now made.items) }
+    ensures { IfOk result (λ named_parts. StayNamed counter names.now named_parts.items) }
 {
-    let mut made = Vec::new(alloc);
-    keep_names(alloc, &mut made, names, counter)?;
-    Ok(made)
+    let mut named_parts = Vec::new(alloc);
+    keep_names(alloc, &mut named_parts, names, counter)?;
+    Ok(named_parts)
 }
 
 /// What is known in the iterations of a loop.
@@ -216,16 +216,16 @@ fn names_lacking(alloc: Global, names: &[Named], counter: Counter) -> Result<Vec
 /// # Errors
 ///
 /// Memory ran out, or the loop variable stands for a loop outside too.
-pub fn in_loop(alloc: Global, context: &Context, own: Bound) -> Result<Context, CodeFault>
-    ensures { IfOk result (MeetsLoop context.now own.counter own.count) }
+pub fn in_loop(alloc: Global, context: &Context, bound: Bound) -> Result<Context, CodeFault>
+    ensures { IfOk result (MeetsLoop context.now bound.counter bound.count) }
 {
-    if is_bounded(context.bounds.as_slice(), own.counter) {
+    if is_bounded(context.bounds.as_slice(), bound.counter) {
         return Err(CodeFault::TooDeep);
     }
     let mut known = Vec::new(alloc);
-    keep_others(alloc, &mut known, context.known.as_slice(), own.counter)?;
-    let bounds = with_bound(alloc, context.bounds.as_slice(), own)?;
-    let names = names_lacking(alloc, context.names.as_slice(), own.counter)?;
+    keep_others(alloc, &mut known, context.known.as_slice(), bound.counter)?;
+    let bounds = with_bound(alloc, context.bounds.as_slice(), bound)?;
+    let names = names_lacking(alloc, context.names.as_slice(), bound.counter)?;
     Ok(Context {
         known,
         bounds,
@@ -234,7 +234,7 @@ pub fn in_loop(alloc: Global, context: &Context, own: Bound) -> Result<Context, 
     })
 }
 
-/// What is known where a loop variable stands at the value of a sum.
+/// What is known where a loop variable is at the value of a sum.
 ///
 /// # Errors
 ///
@@ -262,7 +262,7 @@ pub fn with_sum(
     })
 }
 
-/// What is known where a loop variable stands at a number.
+/// What is known where a loop variable is at a number.
 ///
 /// # Errors
 ///
@@ -326,17 +326,21 @@ pub fn with_value(
 ) -> Result<Option<Context>, AllocError>
     ensures { IfOk result (λ found. IfSome found (MeetsName context.now counter e.now)) }
 {
-    let Some(made) = with_name(alloc, context, counter, e)? else {
+    let Some(new_context) = with_name(alloc, context, counter, e)? else {
         return Ok(None);
     };
     let Some(count) = count_below(alloc, context.bounds.as_slice(), e)? else {
-        return Ok(Some(made));
+        return Ok(Some(new_context));
     };
-    let bounds = with_bound(alloc, made.bounds.as_slice(), Bound { counter, count })?;
+    let bounds = with_bound(
+        alloc,
+        new_context.bounds.as_slice(),
+        Bound { counter, count },
+    )?;
     Ok(Some(Context {
-        known: made.known,
+        known: new_context.known,
         bounds,
-        names: made.names,
-        manner: made.manner,
+        names: new_context.names,
+        manner: new_context.manner,
     }))
 }

@@ -4,13 +4,13 @@
 use crate::stages::Code;
 use std::alloc::{AllocError, Global};
 
-/// Under so many loops in one another registers may be better spent than on pointers.
+/// Under this many loops in one another registers may be better spent than on pointers.
 const MANY_LOOPS: usize = 2;
 
 /// Any turn fewer makes code faster.
 pub(crate) const ANY: u64 = u64::MAX;
 
-/// One turn fewer in so many makes it much faster: that inner loops are entered often is guessed too low.
+/// One turn fewer in this many makes it much faster: that inner loops are entered often is guessed too low.
 pub(crate) const MUCH: u64 = 16;
 
 /// How many loops in one another are told apart; each is guessed to have 16 iterations.
@@ -32,7 +32,7 @@ fn loop_start(place: usize, word: u32) -> Option<usize> {
     place.checked_sub(back(word)?)
 }
 
-/// In how many loops each word stands.
+/// In how many loops each word is.
 fn depths(alloc: Global, words: &[u32]) -> Result<Vec<u32>, AllocError> {
     let mut begun: Vec<u32> = vec![in alloc; 0; words.len()]?;
     for (place, word) in words.iter().enumerate() {
@@ -43,20 +43,20 @@ fn depths(alloc: Global, words: &[u32]) -> Result<Vec<u32>, AllocError> {
         }
     }
     let mut depth: u32 = 0;
-    let mut found = Vec::new(alloc);
+    let mut new_words = Vec::new(alloc);
     for (place, word) in words.iter().enumerate() {
         if let Some(count) = begun.get(place) {
             depth = depth.saturating_add(*count);
         }
-        found.push(depth)?;
+        new_words.push(depth)?;
         if loop_start(place, *word).is_some() {
             depth = depth.saturating_sub(1);
         }
     }
-    Ok(found)
+    Ok(new_words)
 }
 
-/// How many turns words take, where each loop has so many iterations as is guessed.
+/// How many turns words take, where each loop has this many iterations as is guessed.
 ///
 /// # Errors
 ///
@@ -98,7 +98,7 @@ fn may_hold_more(alloc: Global, words: &[u32]) -> Result<bool, AllocError> {
     Ok(false)
 }
 
-/// Whether code is guessed to take fewer turns than other code, by one in so many, or there is no other.
+/// Whether code is guessed to take fewer turns than other code, by one in this many, or there is no other.
 pub(crate) fn is_faster(
     alloc: Global,
     code: &Option<Code>,
@@ -117,7 +117,7 @@ pub(crate) fn is_faster(
     }
 }
 
-/// Whether code stands under so many loops that registers may be better spent than it does.
+/// Whether code is under this many loops that registers may be better spent than it does.
 pub(crate) fn is_worth_more(
     alloc: Global,
     loops: usize,
@@ -134,7 +134,7 @@ pub(crate) fn is_worth_more(
     }
 }
 
-/// Whether there is code, of so many words at most.
+/// Whether there is code, of this many words at most.
 pub(crate) fn is_no_longer(code: &Option<Code>, most: usize) -> bool {
     match code {
         None => false,

@@ -1,4 +1,4 @@
-//! Tests that a vectorized loop's store stands under: those that depend on no lane pass for all lanes or for none, and
+//! Tests that a vectorized loop's store is under: those that depend on no lane pass for all lanes or for none, and
 //! the others for the first lanes alone.
 
 ghost use Rattle.std.specs.Prelude.{◌≡◌, IfOk, OnOk, true, [], ◌∷◌, ◌++◌};
@@ -29,7 +29,6 @@ pub struct Guard {
     pub extent: u32,
 }
 
-/// Written out, so that a check sees a call wherever one is dropped, and not the drops of its parts.
 impl Drop for Guard {
     fn drop(self) {
         let Guard { sum, extent: _ } = self;
@@ -145,10 +144,10 @@ fn left_of(
 }
 
 /// Adds what a test leaves to what others do.
-fn push_left(left: &mut Vec<Left>, own: Left) -> Result<(), AllocError>
-    ensures { OnOk result (left.new.items ≡ left.old.items ++ (own ∷ [])) }
+fn push_left(left: &mut Vec<Left>, left_store: Left) -> Result<(), AllocError>
+    ensures { OnOk result (left.new.items ≡ left.old.items ++ (left_store ∷ [])) }
 {
-    left.push(own)?;
+    left.push(left_store)?;
     Ok(())
 }
 

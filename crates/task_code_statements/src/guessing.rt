@@ -8,7 +8,7 @@ use crate::plain::{is_name, name};
 use crate::room::is_in_order;
 use crate::splits::{Entered, enter_split, unnamed_start};
 use crate::statements::made_store;
-use crate::staying::{add, is_among, is_same_in_all, may_stay_in, staying};
+use crate::staying::{add, is_among, is_invariant_over, may_stay_in, staying};
 use crate::vectorizing::{is_at_once, run_store};
 use loop_ir::expressions::{Counter, Expr, Linear};
 use loop_ir::parts::StmtParts;
@@ -46,21 +46,21 @@ fn ready_store(
 fn ready_loop(
     alloc: Global,
     context: &Context,
-    own: Bound,
+    bound: Bound,
     kind: LoopKind,
-    made: Boxed<Stmt>,
+    new_statement: Boxed<Stmt>,
     named: &mut Vec<Expr>,
 ) -> Result<Stmt, CodeFault> {
-    if is_at_once(kind) || is_laid_out(kind, own.count) || !context.manner.holding.has_names() {
-        return Ok(Stmt::For(own.counter, own.count, kind, made));
+    if is_at_once(kind) || is_laid_out(kind, bound.count) || !context.manner.holding.has_names() {
+        return Ok(Stmt::For(bound.counter, bound.count, kind, new_statement));
     }
-    let all = staying(alloc, context.bounds.as_slice(), made.get())?;
+    let all = staying(alloc, context.bounds.as_slice(), new_statement.get())?;
     if all.is_empty() {
-        return Ok(Stmt::For(own.counter, own.count, kind, made));
+        return Ok(Stmt::For(bound.counter, bound.count, kind, new_statement));
     }
     let names = new_names(alloc, all.as_slice(), named)?;
-    let body = part_by_names(alloc, names.as_slice(), made)?;
-    Ok(Stmt::For(own.counter, own.count, kind, body))
+    let body = part_by_names(alloc, names.as_slice(), new_statement)?;
+    Ok(Stmt::For(bound.counter, bound.count, kind, body))
 }
 
 /// A loop, without last iterations that are other ones.
@@ -68,12 +68,12 @@ fn without_cut(
     alloc: Global,
     context: &Context,
     body: &Stmt,
-    own: Bound,
+    bound: Bound,
 ) -> Result<Bound, CodeFault> {
-    let first = loop_part(alloc, context, own, body)?;
-    let count = if first == 0 { own.count } else { first };
+    let first = loop_part(alloc, context, bound, body)?;
+    let count = if first == 0 { bound.count } else { first };
     Ok(Bound {
-        counter: own.counter,
+        counter: bound.counter,
         count,
     })
 }
@@ -84,7 +84,7 @@ fn push_expr(named: &mut Vec<Expr>, e: Expr) -> Result<(), AllocError> {
     Ok(())
 }
 
-/// Where a split loop's variable stands at its value, with a name for where its run begins, where that needs one: it is
+/// Where a split loop's variable is at its value, with a name for where its run begins, where that needs one: it is
 /// added to what gets one.
 fn enter_named(
     alloc: Global,
@@ -134,8 +134,8 @@ fn ready(
 ) -> Result<Stmt, CodeFault> {
     match statement {
         Stmt::Store(store) => {
-            let own = ready_store(alloc, places, context, with_cuts, store)?;
-            Ok(Stmt::Store(own))
+            let new_statement = ready_store(alloc, places, context, with_cuts, store)?;
+            Ok(Stmt::Store(new_statement))
         }
         Stmt::Sequence(first, second) => {
             let one = ready_part(alloc, places, context, with_cuts, first.get(), named)?;
@@ -143,19 +143,19 @@ fn ready(
             Ok(Stmt::Sequence(one, other))
         }
         Stmt::For(counter, count, kind, body) => {
-            let own = Bound {
+            let new_statement = Bound {
                 counter: *counter,
                 count: *count,
             };
-            let own = if is_in_order(*kind, *count) {
-                without_cut(alloc, context, body.get(), own)?
+            let new_statement = if is_in_order(*kind, *count) {
+                without_cut(alloc, context, body.get(), new_statement)?
             } else {
-                own
+                new_statement
             };
             let within = with_cuts && !is_at_once(*kind);
-            let inner = in_loop(alloc, context, own)?;
+            let inner = in_loop(alloc, context, new_statement)?;
             let made = ready_part(alloc, places, &inner, within, body.get(), named)?;
-            ready_loop(alloc, context, own, *kind, made, named)
+            ready_loop(alloc, context, new_statement, *kind, made, named)
         }
         Stmt::Bind(counter, whole, extent, body) => {
             let entered = enter_named(alloc, context, *counter, whole, named)?;
@@ -216,9 +216,9 @@ fn statement_by_names(alloc: Global, names: &[Named], statement: Stmt) -> Result
 }
 
 /// A sum as it is in the first iterations of all loops but these, if names are no part of it.
-fn first_sum(alloc: Global, bounds: &[Bound], own: &Linear) -> Result<Option<Linear>, AllocError> {
-    let mut terms = with_room(alloc, own.terms.len())?;
-    for term in own.terms.as_slice() {
+fn first_sum(alloc: Global, bounds: &[Bound], sum: &Linear) -> Result<Option<Linear>, AllocError> {
+    let mut terms = with_room(alloc, sum.terms.len())?;
+    for term in sum.terms.as_slice() {
         if is_among(bounds, term.counter) {
             terms.push(*term)?;
         } else if is_name(term.counter) {
@@ -226,7 +226,7 @@ fn first_sum(alloc: Global, bounds: &[Bound], own: &Linear) -> Result<Option<Lin
         }
     }
     Ok(Some(Linear {
-        number: own.number,
+        number: sum.number,
         terms,
     }))
 }
@@ -237,28 +237,28 @@ pub fn add_sums(
     alloc: Global,
     bounds: &[Bound],
     e: &Expr,
-    found: &mut Vec<AffineForm>,
+    forms: &mut Vec<AffineForm>,
 ) -> Result<(), AllocError> {
     match e {
         Expr::Number(_) => Ok(()),
         Expr::Linear(own) => {
             if let Some(sum) = first_sum(alloc, bounds, own)? {
                 if !sum.terms.as_slice().is_empty() {
-                    found.push(AffineForm { sum, per_hart: 0 })?;
+                    forms.push(AffineForm { sum, per_hart: 0 })?;
                 }
             }
             Ok(())
         }
         Expr::Binary(_, a, b) => {
-            add_sums(alloc, bounds, a.get(), found)?;
-            add_sums(alloc, bounds, b.get(), found)
+            add_sums(alloc, bounds, a.get(), forms)?;
+            add_sums(alloc, bounds, b.get(), forms)
         }
-        Expr::Divide(a, _) => add_sums(alloc, bounds, a.get(), found),
-        Expr::Remainder(a, _) => add_sums(alloc, bounds, a.get(), found),
+        Expr::Divide(a, _) => add_sums(alloc, bounds, a.get(), forms),
+        Expr::Remainder(a, _) => add_sums(alloc, bounds, a.get(), forms),
         Expr::Select(c, a, b) => {
-            add_sums(alloc, bounds, c.get(), found)?;
-            add_sums(alloc, bounds, a.get(), found)?;
-            add_sums(alloc, bounds, b.get(), found)
+            add_sums(alloc, bounds, c.get(), forms)?;
+            add_sums(alloc, bounds, a.get(), forms)?;
+            add_sums(alloc, bounds, b.get(), forms)
         }
         Expr::Load(_, _, _) => Ok(()),
     }
@@ -316,15 +316,15 @@ pub fn ready_to_stay(
     alloc: Global,
     places: &Places,
     context: &Context,
-    own: Bound,
+    bound: Bound,
     body: &Stmt,
 ) -> Result<Option<Guess>, CodeFault> {
-    if !context.manner.holding.has_names() || !may_stay_in(alloc, own.counter, body)? {
+    if !context.manner.holding.has_names() || !may_stay_in(alloc, bound.counter, body)? {
         return Ok(None);
     }
-    let inner = in_loop(alloc, context, own)?;
-    let made = ready_in(alloc, places, &inner, body)?;
-    Ok(Some(made))
+    let inner = in_loop(alloc, context, bound)?;
+    let guess = ready_in(alloc, places, &inner, body)?;
+    Ok(Some(guess))
 }
 
 /// The largest parts of a loop's body that stay the same in all iterations of this loop and those inside.
@@ -356,13 +356,13 @@ fn add_starts(
     bounds: &[Bound],
     context: &Context,
     statement: &Stmt,
-    found: &mut Vec<Expr>,
+    expressions: &mut Vec<Expr>,
 ) -> Result<(), CodeFault> {
     match statement {
         Stmt::Store(_) => Ok(()),
         Stmt::Sequence(first, second) => {
-            add_starts(alloc, bounds, context, first.get(), found)?;
-            add_starts(alloc, bounds, context, second.get(), found)
+            add_starts(alloc, bounds, context, first.get(), expressions)?;
+            add_starts(alloc, bounds, context, second.get(), expressions)
         }
         Stmt::For(counter, count, _, body) => {
             let own = Bound {
@@ -371,17 +371,17 @@ fn add_starts(
             };
             let own = without_cut(alloc, context, body.get(), own)?;
             let inner = in_loop(alloc, context, own)?;
-            add_starts(alloc, bounds, &inner, body.get(), found)
+            add_starts(alloc, bounds, &inner, body.get(), expressions)
         }
         Stmt::Bind(counter, whole, _, body) => {
             let mut named = Vec::new(alloc);
             let entered = enter_named(alloc, context, *counter, whole, &mut named)?;
             for e in named.as_slice() {
-                if is_same_in_all(bounds, e) {
-                    add(alloc, found, e)?;
+                if is_invariant_over(bounds, e) {
+                    add(alloc, expressions, e)?;
                 }
             }
-            add_starts(alloc, bounds, &entered.inner, body.get(), found)
+            add_starts(alloc, bounds, &entered.inner, body.get(), expressions)
         }
     }
 }
@@ -394,14 +394,20 @@ fn add_starts(
 pub fn starts_in(
     alloc: Global,
     context: &Context,
-    own: Bound,
+    bound: Bound,
     body: &Stmt,
 ) -> Result<Vec<Expr>, CodeFault> {
-    let mut found = Vec::new(alloc);
+    let mut expressions = Vec::new(alloc);
     if !has_last(body) {
-        return Ok(found);
+        return Ok(expressions);
     }
-    let inner = in_loop(alloc, context, own)?;
-    add_starts(alloc, context.bounds.as_slice(), &inner, body, &mut found)?;
-    Ok(found)
+    let inner = in_loop(alloc, context, bound)?;
+    add_starts(
+        alloc,
+        context.bounds.as_slice(),
+        &inner,
+        body,
+        &mut expressions,
+    )?;
+    Ok(expressions)
 }

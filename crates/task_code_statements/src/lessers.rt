@@ -51,13 +51,13 @@ fn lesser_of_both(alloc: Global, a: &Expr, b: &Expr) -> Result<Option<Lesser>, A
 
 /// The sum and the number that an expression is the lesser of.
 fn parts_of(alloc: Global, e: &Expr) -> Result<Option<Lesser>, AllocError>
-    ensures { IfOk result (λ found. IfSome found (λ own. IsLesser own.form.sum own.number e.now)) }
+    ensures { IfOk result (λ found_lesser. IfSome found_lesser (λ own. IsLesser own.form.sum own.number e.now)) }
 {
     match e {
         Expr::Binary(operation, a, b) => match operation {
             Operation::Minimum => {
-                let found = lesser_of_both(alloc, a.get(), b.get())?;
-                Ok(found)
+                let found_lesser = lesser_of_both(alloc, a.get(), b.get())?;
+                Ok(found_lesser)
             }
             _ => Ok(None),
         },

@@ -27,14 +27,14 @@ fn unclamped_binary(
     b: Ranged,
     may_be_tests: bool,
 ) -> Result<Ranged, AllocError>
-    ensures { IfOk result (λ made. (places : Places) (x y : Expr) → IsRanged places bounds.now x a
-        → IsRanged places bounds.now y b → IsRanged places bounds.now (expressions.Binary operation x y) made) }
+    ensures { IfOk result (λ new_ranged. (places : Places) (x y : Expr) → IsRanged places bounds.now x a
+        → IsRanged places bounds.now y b → IsRanged places bounds.now (expressions.Binary operation x y) new_ranged) }
 {
     match sum_of_both(alloc, operation, &a.e, &b.e)? {
         Some(sum) => Ok(of_linear(sum, bounds)),
         None => {
-            let made = of_both(alloc, operation, a, b, may_be_tests)?;
-            Ok(made)
+            let new_ranged = of_both(alloc, operation, a, b, may_be_tests)?;
+            Ok(new_ranged)
         }
     }
 }
@@ -78,8 +78,15 @@ fn unclamped(
         Expr::Binary(operation, a, b) => {
             let first = unclamped(alloc, places, known, bounds, may_be_tests, a.get())?;
             let second = unclamped(alloc, places, known, bounds, may_be_tests, b.get())?;
-            let made = unclamped_binary(alloc, bounds, *operation, first, second, may_be_tests)?;
-            Ok(made)
+            let new_ranged = unclamped_binary(
+                alloc,
+                bounds,
+                *operation,
+                first,
+                second,
+                may_be_tests,
+            )?;
+            Ok(new_ranged)
         }
         Expr::Divide(a, divisor) => {
             let first = unclamped_part(alloc, places, known, bounds, may_be_tests, a.get())?;

@@ -11,79 +11,83 @@ fn is_one_of(counters: &[Counter], counter: Counter) -> bool {
 }
 
 /// Adds a loop variable, unless it is there.
-fn add(found: &mut Vec<Counter>, counter: Counter) -> Result<(), AllocError> {
-    if !is_one_of(found.as_slice(), counter) {
-        found.push(counter)?;
+fn add(counters: &mut Vec<Counter>, counter: Counter) -> Result<(), AllocError> {
+    if !is_one_of(counters.as_slice(), counter) {
+        counters.push(counter)?;
     }
     Ok(())
 }
 
 /// Adds the variables of a sum but those of the loops around it.
-fn add_sum(found: &mut Vec<Counter>, around: &[Counter], own: &Linear) -> Result<(), AllocError> {
-    for term in own.terms.as_slice() {
+fn add_sum(
+    counters: &mut Vec<Counter>,
+    around: &[Counter],
+    sum: &Linear,
+) -> Result<(), AllocError> {
+    for term in sum.terms.as_slice() {
         if !is_one_of(around, term.counter) {
-            add(found, term.counter)?;
+            add(counters, term.counter)?;
         }
     }
     Ok(())
 }
 
-fn add_expr(found: &mut Vec<Counter>, around: &[Counter], e: &Expr) -> Result<(), AllocError> {
+fn add_expr(counters: &mut Vec<Counter>, around: &[Counter], e: &Expr) -> Result<(), AllocError> {
     match e {
         Expr::Number(_) => Ok(()),
-        Expr::Linear(own) => add_sum(found, around, own),
+        Expr::Linear(own) => add_sum(counters, around, own),
         Expr::Binary(_, a, b) => {
-            add_expr(found, around, a.get())?;
-            add_expr(found, around, b.get())
+            add_expr(counters, around, a.get())?;
+            add_expr(counters, around, b.get())
         }
-        Expr::Divide(a, _) => add_expr(found, around, a.get()),
-        Expr::Remainder(a, _) => add_expr(found, around, a.get()),
+        Expr::Divide(a, _) => add_expr(counters, around, a.get()),
+        Expr::Remainder(a, _) => add_expr(counters, around, a.get()),
         Expr::Select(c, a, b) => {
-            add_expr(found, around, c.get())?;
-            add_expr(found, around, a.get())?;
-            add_expr(found, around, b.get())
+            add_expr(counters, around, c.get())?;
+            add_expr(counters, around, a.get())?;
+            add_expr(counters, around, b.get())
         }
         Expr::Load(_, x, y) => {
-            add_expr(found, around, x.get())?;
-            add_expr(found, around, y.get())
+            add_expr(counters, around, x.get())?;
+            add_expr(counters, around, y.get())
         }
     }
 }
 
 fn add_store(
-    found: &mut Vec<Counter>,
+    counters: &mut Vec<Counter>,
     around: &[Counter],
     store: &Store,
 ) -> Result<(), AllocError> {
-    add_expr(found, around, &store.x)?;
-    add_expr(found, around, &store.y)?;
-    add_expr(found, around, &store.value)
+    add_expr(counters, around, &store.x)?;
+    add_expr(counters, around, &store.y)?;
+    add_expr(counters, around, &store.value)
 }
 
 /// Adds those of a statement inside of these loops.
 fn add_statement(
-    found: &mut Vec<Counter>,
+    counters: &mut Vec<Counter>,
     around: &mut Vec<Counter>,
     statement: &Stmt,
 ) -> Result<(), AllocError> {
     match statement {
-        Stmt::Store(store) => add_store(found, around.as_slice(), store),
+        Stmt::Store(store) => add_store(counters, around.as_slice(), store),
         Stmt::Sequence(first, second) => {
-            add_statement(found, around, first.get())?;
-            add_statement(found, around, second.get())
+            add_statement(counters, around, first.get())?;
+            add_statement(counters, around, second.get())
         }
         Stmt::For(counter, _, _, body) => {
             around.push(*counter)?;
-            add_statement(found, around, body.get())?;
+            add_statement(counters, around, body.get())?;
             around.pop();
             Ok(())
         }
         Stmt::Bind(counter, whole, _, body) => {
             if is_border(whole.inner) {
-                add(found, whole.inner)?;
+                add(counters, whole.inner)?;
             }
             around.push(*counter)?;
-            add_statement(found, around, body.get())?;
+            add_statement(counters, around, body.get())?;
             around.pop();
             Ok(())
         }
@@ -97,8 +101,8 @@ fn add_statement(
 ///
 /// Memory ran out.
 pub fn mentioned_variables(alloc: Global, statement: &Stmt) -> Result<Vec<Counter>, AllocError> {
-    let mut found = Vec::new(alloc);
+    let mut counters = Vec::new(alloc);
     let mut around = Vec::new(alloc);
-    add_statement(&mut found, &mut around, statement)?;
-    Ok(found)
+    add_statement(&mut counters, &mut around, statement)?;
+    Ok(counters)
 }

@@ -29,7 +29,7 @@ pub(crate) enum LoopMethod {
     InOrder,
 }
 
-/// How the iterations of so many of a loop of this kind are done.
+/// How the iterations of this many of a loop of this kind are done.
 pub(crate) fn method_of(kind: LoopKind, count: u32) -> LoopMethod
     ensures at_once { result ≡ LoopMethod.AtOnce → kind ≡ vectorized }
     ensures once { result ≡ LoopMethod.Once → is_vectorized kind ≡ false }

@@ -10,7 +10,7 @@ use crate::plain::name;
 use loop_ir::expressions::{Counter, Expr};
 use std::alloc::Global;
 use task_code_loops::tests::variable;
-use task_code_names::copies::is_still;
+use task_code_names::copies::is_load_free;
 use task_code_registers::numbers::emit_plus;
 use task_code_registers::scopes::{Held, free_register, with_held};
 use task_code_scalar::layouts::Places;
@@ -38,7 +38,6 @@ pub struct Naming {
     pub context: Context,
 }
 
-/// Written out, so that a check sees a call wherever one is dropped, and not the drops of its parts.
 impl Drop for Naming {
     fn drop(self) {
         let Naming { scope, context } = self;
@@ -96,7 +95,7 @@ pub fn emit_name(
     ensures { IfOk result (NamesIf code.old.items code.new.items site.now.places.now site.now.scope.now context.now) }
 {
     let counter = free_name(context, site.scope);
-    if context.names.len() >= limits.names || !is_still(e) || mentions(site.scope, counter) {
+    if context.names.len() >= limits.names || !is_load_free(e) || mentions(site.scope, counter) {
         return Ok(None);
     }
     let Some(context) = with_value(alloc, context, counter, e)? else {
@@ -133,8 +132,8 @@ pub fn emit_names(
         [] => Ok(None),
         [first, others @ ..] => match emit_name(alloc, code, site, context, first, limits)? {
             None => {
-                let found = emit_names(alloc, code, site, context, others, limits)?;
-                Ok(found)
+                let naming = emit_names(alloc, code, site, context, others, limits)?;
+                Ok(naming)
             }
             Some(one) => {
                 let inner = Site {

@@ -27,7 +27,7 @@ const LARGEST: u32 = (1 << 31) - 1;
 ///
 /// As of the code of the statement.
 pub(crate) fn is_idle(alloc: Global, context: &Context, statement: &Stmt) -> Result<bool, CodeFault>
-    ensures { IfOk result (λ found. found ≡ true → IsIdle context.now statement.now) }
+    ensures { IfOk result (λ answer. answer ≡ true → IsIdle context.now statement.now) }
 {
     match statement {
         Stmt::Store(_) => Ok(false),
@@ -38,8 +38,8 @@ pub(crate) fn is_idle(alloc: Global, context: &Context, statement: &Stmt) -> Res
                 count: *count,
             };
             let inner = in_loop(alloc, context, own)?;
-            let found = is_idle(alloc, &inner, body.get())?;
-            Ok(found)
+            let answer = is_idle(alloc, &inner, body.get())?;
+            Ok(answer)
         }
         Stmt::Bind(counter, whole, extent, body) => {
             // Where its last run is moved back, its value may be no sum.
@@ -50,15 +50,15 @@ pub(crate) fn is_idle(alloc: Global, context: &Context, statement: &Stmt) -> Res
             if is_past(&entered.form, context.bounds.as_slice(), *extent) {
                 return Ok(true);
             }
-            let found = is_idle(alloc, &entered.inner, body.get())?;
-            Ok(found)
+            let answer = is_idle(alloc, &entered.inner, body.get())?;
+            Ok(answer)
         }
     }
 }
 
 // ---- how many
 
-/// So many first iterations of a loop pass all tests inside, and so many first ones do anything.
+/// This many first iterations of a loop pass all tests inside, and this many first ones do anything.
 #[derive(Clone, Copy, Debug)]
 struct Passing {
     all: u32,
@@ -68,28 +68,28 @@ struct Passing {
 /// A loop of whose tests it is asked, the loops inside around them, whether they stand around all that it does, and
 /// whether a test counts that last lanes alone fail, which costs little: it leaves a number of lanes.
 #[derive(Clone, Copy, Debug)]
-struct Asked<'a> {
+struct TestedLoop<'a> {
     own: Bound,
     inside: &'a [Bound],
     is_around: bool,
     by_lanes: bool,
 }
 
-impl<'a> Asked<'a> {
+impl<'a> TestedLoop<'a> {
     /// A loop as it counts here.
-    fn counted(&self, own: Bound, kind: LoopKind) -> Bound {
+    fn counted(&self, bound: Bound, kind: LoopKind) -> Bound {
         if is_at_once(kind) && !self.by_lanes {
             return Bound {
-                counter: own.counter,
+                counter: bound.counter,
                 count: 1,
             };
         }
-        own
+        bound
     }
 
     /// After other statements.
-    fn beside(&self) -> Asked<'a> {
-        Asked {
+    fn beside(&self) -> TestedLoop<'a> {
+        TestedLoop {
             own: self.own,
             inside: self.inside,
             is_around: false,
@@ -98,13 +98,13 @@ impl<'a> Asked<'a> {
     }
 
     /// What a test leaves of iterations that others leave.
-    fn behind(&self, found: Passing, sum: &Linear, extent: u32) -> Passing {
+    fn behind(&self, passing: Passing, sum: &Linear, extent: u32) -> Passing {
         let own = self.own;
         let Some(climb) = climb_of(own.counter, self.inside, sum.terms.as_slice()) else {
-            return found;
+            return passing;
         };
         if climb.stride == 0 {
-            return found;
+            return passing;
         }
         let number = u64::from(sum.number);
         let highest = number.saturating_add(climb.most);
@@ -115,8 +115,8 @@ impl<'a> Asked<'a> {
             own.count
         };
         Passing {
-            all: found.all.min(all),
-            some: found.some.min(some),
+            all: passing.all.min(all),
+            some: passing.some.min(some),
         }
     }
 }
@@ -139,9 +139,9 @@ fn count_among(inside: &[Bound], counter: Counter) -> Option<u32> {
 }
 
 /// Loops and one more.
-fn and_one(alloc: Global, inside: &[Bound], own: Bound) -> Result<Vec<Bound>, AllocError> {
+fn and_one(alloc: Global, inside: &[Bound], bound: Bound) -> Result<Vec<Bound>, AllocError> {
     let mut more = inside.to_vec(alloc)?;
-    more.push(own)?;
+    more.push(bound)?;
     Ok(more)
 }
 
@@ -164,7 +164,7 @@ fn climb_of(counter: Counter, inside: &[Bound], terms: &[Term]) -> Option<Climb>
     Some(Climb { stride, most })
 }
 
-/// How many first iterations stay below an extent, of so many, where they begin at a number and go up by a stride.
+/// How many first iterations stay below an extent, of this many, where they begin at a number and go up by a stride.
 fn count_within(count: u32, start: u64, stride: u64, extent: u32) -> u32 {
     let Some(room) = u64::from(extent).checked_sub(start) else {
         return 0;
@@ -184,15 +184,15 @@ fn count_within(count: u32, start: u64, stride: u64, extent: u32) -> u32 {
 fn left_by_tests(
     alloc: Global,
     context: &Context,
-    asked: &Asked<'_>,
+    asked: &TestedLoop<'_>,
     body: &Stmt,
-    found: Passing,
+    passing: Passing,
 ) -> Result<Passing, CodeFault> {
     match body {
-        Stmt::Store(_) => Ok(found),
+        Stmt::Store(_) => Ok(passing),
         Stmt::Sequence(first, second) => {
             let beside = asked.beside();
-            let one = left_by_tests(alloc, context, &beside, first.get(), found)?;
+            let one = left_by_tests(alloc, context, &beside, first.get(), passing)?;
             left_by_tests(alloc, context, &beside, second.get(), one)
         }
         Stmt::For(counter, count, kind, within) => {
@@ -202,13 +202,13 @@ fn left_by_tests(
             };
             let inner = in_loop(alloc, context, own)?;
             let more = and_one(alloc, asked.inside, asked.counted(own, *kind))?;
-            let next = Asked {
+            let next = TestedLoop {
                 own: asked.own,
                 inside: more.as_slice(),
                 is_around: asked.is_around,
                 by_lanes: asked.by_lanes,
             };
-            left_by_tests(alloc, &inner, &next, within.get(), found)
+            left_by_tests(alloc, &inner, &next, within.get(), passing)
         }
         Stmt::Bind(counter, whole, extent, within) => {
             if whole.last.is_some() {
@@ -217,10 +217,10 @@ fn left_by_tests(
                     count: *extent,
                 };
                 let inner = in_loop(alloc, context, own)?;
-                return left_by_tests(alloc, &inner, asked, within.get(), found);
+                return left_by_tests(alloc, &inner, asked, within.get(), passing);
             }
             let entered = enter_split(alloc, context, *counter, whole)?;
-            let next = asked.behind(found, &entered.form.sum, *extent);
+            let next = asked.behind(passing, &entered.form.sum, *extent);
             left_by_tests(alloc, &entered.inner, asked, within.get(), next)
         }
     }
@@ -252,7 +252,7 @@ fn is_run(statement: &Stmt) -> bool {
     }
 }
 
-/// So many runs of a row inside other loops are laid out.
+/// This many runs of a row inside other loops are laid out.
 const FEW_RUNS: u32 = 4;
 
 /// Whether a loop does few runs, one after the other.
@@ -276,13 +276,13 @@ pub(crate) fn has_few_runs(statement: &Stmt) -> bool {
 fn is_row_of_runs(
     alloc: Global,
     context: &Context,
-    own: Bound,
+    bound: Bound,
     body: &Stmt,
 ) -> Result<bool, AllocError> {
-    if !is_few_runs(own.count, body) || context.bounds.len() < 2 {
+    if !is_few_runs(bound.count, body) || context.bounds.len() < 2 {
         return Ok(false);
     }
-    let has_names = may_stay_in(alloc, own.counter, body)?;
+    let has_names = may_stay_in(alloc, bound.counter, body)?;
     Ok(!has_names)
 }
 
@@ -290,33 +290,33 @@ fn is_row_of_runs(
 fn tested_part(
     alloc: Global,
     context: &Context,
-    own: Bound,
+    bound: Bound,
     body: &Stmt,
 ) -> Result<u32, CodeFault> {
     if !context.manner.is_parted {
-        return Ok(own.count);
+        return Ok(bound.count);
     }
-    let is_row = is_row_of_runs(alloc, context, own, body)?;
+    let is_row = is_row_of_runs(alloc, context, bound, body)?;
     if is_row && context.manner.has_rows {
         return Ok(0);
     }
     if !has_test(body) {
-        return Ok(own.count);
+        return Ok(bound.count);
     }
-    let asked = Asked {
-        own,
+    let asked = TestedLoop {
+        own: bound,
         inside: &[],
         is_around: true,
         by_lanes: is_row,
     };
     let every = Passing {
-        all: own.count,
-        some: own.count,
+        all: bound.count,
+        some: bound.count,
     };
-    let inner = in_loop(alloc, context, own)?;
+    let inner = in_loop(alloc, context, bound)?;
     let found = left_by_tests(alloc, &inner, &asked, body, every)?;
-    if found.all == own.count {
-        return Ok(own.count);
+    if found.all == bound.count {
+        return Ok(bound.count);
     }
     if is_row {
         return Ok(0);
@@ -335,20 +335,20 @@ fn tested_part(
 pub(crate) fn loop_part(
     alloc: Global,
     context: &Context,
-    own: Bound,
+    bound: Bound,
     body: &Stmt,
 ) -> Result<u32, CodeFault>
-    ensures { IfOk result (λ first. first ≤ own.count) }
+    ensures { IfOk result (λ first. first ≤ bound.count) }
 {
-    if is_cut(body, own) {
-        if own.count == 2 {
+    if is_cut(body, bound) {
+        if bound.count == 2 {
             return Ok(0);
         }
-        return Ok(own.count - 1);
+        return Ok(bound.count - 1);
     }
-    let first = tested_part(alloc, context, own, body)?;
-    if first > own.count {
-        return Ok(own.count);
+    let first = tested_part(alloc, context, bound, body)?;
+    if first > bound.count {
+        return Ok(bound.count);
     }
     Ok(first)
 }

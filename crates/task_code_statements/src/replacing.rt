@@ -15,24 +15,23 @@ use task_code_registers::scopes::AffineForm;
 
 /// The value of a loop variable, and which one it is.
 #[derive(Debug)]
-pub struct Standing {
+pub struct Replacement {
     pub counter: Counter,
     pub e: Expr,
 }
 
-/// Written out, so that a check sees a call wherever one is dropped, and not the drops of its parts.
-impl Drop for Standing {
+impl Drop for Replacement {
     fn drop(self) {
-        let Standing { counter: _, e } = self;
+        let Replacement { counter: _, e } = self;
         drop(e);
     }
 }
 
 /// A loop variable's value times a stride.
-fn times(alloc: Global, own: &Standing, stride: u32) -> Result<Expr, AllocError>
-    ensures { IfOk result (IsTimes own.now stride) }
+fn times(alloc: Global, replacement: &Replacement, stride: u32) -> Result<Expr, AllocError>
+    ensures { IfOk result (IsTimes replacement.now stride) }
 {
-    let e = copy_of(alloc, &own.e)?;
+    let e = copy_of(alloc, &replacement.e)?;
     if stride == 1 {
         return Ok(e);
     }
@@ -53,7 +52,7 @@ pub(crate) fn plus(alloc: Global, e: Expr, sum: Linear) -> Result<Expr, AllocErr
     Ok(Expr::Binary(Operation::Add, first, second))
 }
 
-/// What is left of a sum where a loop variable stands at 0.
+/// What is left of a sum where a loop variable is at 0.
 fn without_term(alloc: Global, sum: &Linear, counter: Counter) -> Result<Linear, AllocError>
     ensures { IfOk result (IsRest counter sum.now) }
 {
@@ -67,62 +66,62 @@ fn without_term(alloc: Global, sum: &Linear, counter: Counter) -> Result<Linear,
 }
 
 /// A sum with an expression for a loop variable.
-fn sum_with(alloc: Global, sum: &Linear, own: &Standing) -> Result<Expr, AllocError>
-    ensures { IfOk result (IsReplaced own.now (expressions.Linear sum.now)) }
+fn sum_with(alloc: Global, sum: &Linear, replacement: &Replacement) -> Result<Expr, AllocError>
+    ensures { IfOk result (IsReplaced replacement.now (expressions.Linear sum.now)) }
 {
-    let stride = stride_of(sum.terms.as_slice(), own.counter);
-    let rest = without_term(alloc, sum, own.counter)?;
+    let stride = stride_of(sum.terms.as_slice(), replacement.counter);
+    let rest = without_term(alloc, sum, replacement.counter)?;
     if stride == 0 {
         return Ok(Expr::Linear(rest));
     }
-    let product = times(alloc, own, stride)?;
-    let made = plus(alloc, product, rest)?;
-    Ok(made)
+    let product = times(alloc, replacement, stride)?;
+    let expression = plus(alloc, product, rest)?;
+    Ok(expression)
 }
 
 /// So it is with an expression in a box.
 #[cycle(replacing)]
-fn part_with(alloc: Global, e: &Expr, own: &Standing) -> Result<Boxed<Expr>, AllocError>
-    ensures { IfOk result (IsReplaced own.now e.now) }
+fn part_with(alloc: Global, e: &Expr, replacement: &Replacement) -> Result<Boxed<Expr>, AllocError>
+    ensures { IfOk result (IsReplaced replacement.now e.now) }
 {
-    let made = with_standing(alloc, e, own)?;
+    let made = with_standing(alloc, e, replacement)?;
     let boxed = Boxed::new(alloc, made)?;
     Ok(boxed)
 }
 
 /// An expression with another one for a loop variable.
 #[cycle(replacing)]
-fn with_standing(alloc: Global, e: &Expr, own: &Standing) -> Result<Expr, AllocError>
-    ensures { IfOk result (IsReplaced own.now e.now) }
+fn with_standing(alloc: Global, e: &Expr, replacement: &Replacement) -> Result<Expr, AllocError>
+    ensures { IfOk result (IsReplaced replacement.now e.now) }
 {
     match e {
         Expr::Number(n) => Ok(Expr::Number(*n)),
         Expr::Linear(sum) => {
-            let made = sum_with(alloc, sum, own)?;
-            Ok(made)
+            let expression = sum_with(alloc, sum, replacement)?;
+            Ok(expression)
         }
         Expr::Binary(operation, a, b) => {
-            let first = part_with(alloc, a.get(), own)?;
-            let second = part_with(alloc, b.get(), own)?;
+            let first = part_with(alloc, a.get(), replacement)?;
+            let second = part_with(alloc, b.get(), replacement)?;
             Ok(Expr::Binary(*operation, first, second))
         }
         Expr::Divide(a, divisor) => {
-            let first = part_with(alloc, a.get(), own)?;
+            let first = part_with(alloc, a.get(), replacement)?;
             Ok(Expr::Divide(first, *divisor))
         }
         Expr::Remainder(a, divisor) => {
-            let first = part_with(alloc, a.get(), own)?;
+            let first = part_with(alloc, a.get(), replacement)?;
             Ok(Expr::Remainder(first, *divisor))
         }
         Expr::Select(c, a, b) => {
-            let condition = part_with(alloc, c.get(), own)?;
-            let first = part_with(alloc, a.get(), own)?;
-            let second = part_with(alloc, b.get(), own)?;
+            let condition = part_with(alloc, c.get(), replacement)?;
+            let first = part_with(alloc, a.get(), replacement)?;
+            let second = part_with(alloc, b.get(), replacement)?;
             Ok(Expr::Select(condition, first, second))
         }
         Expr::Load(source, x, y) => {
-            let column = part_with(alloc, x.get(), own)?;
-            let row = part_with(alloc, y.get(), own)?;
+            let column = part_with(alloc, x.get(), replacement)?;
+            let row = part_with(alloc, y.get(), replacement)?;
             Ok(Expr::Load(*source, column, row))
         }
     }
@@ -133,12 +132,16 @@ fn with_standing(alloc: Global, e: &Expr, own: &Standing) -> Result<Expr, AllocE
 /// # Errors
 ///
 /// Memory ran out.
-pub fn store_with(alloc: Global, store: &Store, own: &Standing) -> Result<Store, AllocError>
-    ensures { IfOk result (IsReplacedStore own.now store.now) }
+pub fn store_with(
+    alloc: Global,
+    store: &Store,
+    replacement: &Replacement,
+) -> Result<Store, AllocError>
+    ensures { IfOk result (IsReplacedStore replacement.now store.now) }
 {
-    let x = with_standing(alloc, &store.x, own)?;
-    let y = with_standing(alloc, &store.y, own)?;
-    let value = with_standing(alloc, &store.value, own)?;
+    let x = with_standing(alloc, &store.x, replacement)?;
+    let y = with_standing(alloc, &store.y, replacement)?;
+    let value = with_standing(alloc, &store.value, replacement)?;
     Ok(Store {
         func: store.func,
         x,

@@ -35,18 +35,18 @@ fn sum_with(
     x: Linear,
     b: &Expr,
 ) -> Result<Option<Linear>, AllocError>
-    ensures { IfOk result (λ found. IfSome found (λ sum. (a : Expr) → IsLeafSum a x → IsBinary operation a b.now
+    ensures { IfOk result (λ new_sum. IfSome new_sum (λ sum. (a : Expr) → IsLeafSum a x → IsBinary operation a b.now
         (expressions.Linear sum))) }
 {
     match b {
         Expr::Number(n) => {
             let y = Linear::of_number(alloc, *n);
-            let found = combined(alloc, operation, x, &y)?;
-            Ok(found)
+            let new_sum = combined(alloc, operation, x, &y)?;
+            Ok(new_sum)
         }
         Expr::Linear(y) => {
-            let found = combined(alloc, operation, x, y)?;
-            Ok(found)
+            let new_sum = combined(alloc, operation, x, y)?;
+            Ok(new_sum)
         }
         _ => Ok(None),
     }
@@ -59,7 +59,7 @@ pub(crate) fn sum_of_both(
     a: &Expr,
     b: &Expr,
 ) -> Result<Option<Linear>, AllocError>
-    ensures { IfOk result (λ found. IfSome found (λ sum. IsBinary operation a.now b.now (expressions.Linear sum))) }
+    ensures { IfOk result (λ new_sum. IfSome new_sum (λ sum. IsBinary operation a.now b.now (expressions.Linear sum))) }
 {
     if !may_combine(operation) || !is_leaf(b) {
         return Ok(None);
@@ -67,8 +67,8 @@ pub(crate) fn sum_of_both(
     match leaf_sum(alloc, a)? {
         None => Ok(None),
         Some(x) => {
-            let found = sum_with(alloc, operation, x, b)?;
-            Ok(found)
+            let new_sum = sum_with(alloc, operation, x, b)?;
+            Ok(new_sum)
         }
     }
 }
@@ -115,8 +115,8 @@ pub fn by_other_variables(alloc: Global, e: &Expr, known: &[KnownSum]) -> Result
         Expr::Binary(operation, a, b) => {
             let first = by_other_variables(alloc, a.get(), known)?;
             let second = by_other_variables(alloc, b.get(), known)?;
-            let made = binary_of(alloc, *operation, first, second)?;
-            Ok(made)
+            let expression = binary_of(alloc, *operation, first, second)?;
+            Ok(expression)
         }
         Expr::Divide(a, divisor) => {
             let first = part_by_others(alloc, a.get(), known)?;

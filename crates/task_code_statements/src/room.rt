@@ -51,14 +51,14 @@ fn left(scope: &[Held]) -> usize {
     usize::from(left_count(scope))
 }
 
-/// How many registers a loop leaves to so many loops inside, of which each has use for so many, as far as it has as
+/// How many registers a loop leaves to this many loops inside, of which each has use for this many, as far as it has as
 /// many itself.
 fn shares(free: usize, inside: usize, each: usize) -> usize {
     let most = free.saturating_sub(each).max(inside);
     inside.saturating_mul(each).min(most)
 }
 
-/// How many registers a loop leaves to so many loops inside. Where values get names and variables stand first, the
+/// How many registers a loop leaves to this many loops inside. Where values get names and variables stand first, the
 /// innermost loops, which run most often, are served first: a loop around them can do with its variable, and a number
 /// that is made anew.
 pub(crate) fn reserve(scope: &[Held], inside: usize, holding: Holding) -> usize {

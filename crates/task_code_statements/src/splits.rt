@@ -14,7 +14,7 @@ use loop_ir::statements::{Stmt, Whole};
 use std::alloc::{AllocError, Global};
 use task_code_loops::bounds::{Bound, is_below};
 use task_code_loops::known::sum_by_others;
-use task_code_names::copies::is_still;
+use task_code_names::copies::is_load_free;
 use task_code_names::names::name_for;
 use task_code_registers::scopes::AffineForm;
 use task_code_registers::terms::with_room;
@@ -61,7 +61,7 @@ fn name_of_lesser(
     product: Linear,
     last: u32,
 ) -> Result<Option<Counter>, AllocError>
-    ensures { IfOk result (λ found. IfSome found (HasLesser context.now product last)) }
+    ensures { IfOk result (λ counter. IfSome counter (HasLesser context.now product last)) }
 {
     let form = AffineForm {
         sum: product,
@@ -71,8 +71,8 @@ fn name_of_lesser(
         return Ok(None);
     }
     let e = lesser_of(alloc, form.sum, last)?;
-    let found = name_for(context.names.as_slice(), &e);
-    Ok(found)
+    let counter = name_for(context.names.as_slice(), &e);
+    Ok(counter)
 }
 
 /// Where a run of a split loop's inner loop begins, whose last run begins here at most.
@@ -251,7 +251,11 @@ fn value_up_to(
         return Ok(None);
     };
     let e = plus(alloc, start, inner)?;
-    if is_still(&e) { Ok(Some(e)) } else { Ok(None) }
+    if is_load_free(&e) {
+        Ok(Some(e))
+    } else {
+        Ok(None)
+    }
 }
 
 /// Whether a split loop's runs begin where no sum is known to.
@@ -274,7 +278,7 @@ pub(crate) fn split_value(
     whole: &Whole,
     extent: u32,
 ) -> Result<Option<Expr>, AllocError>
-    ensures { IfOk result (λ found. IfSome found (IsSplitValue context.now whole.now extent)) }
+    ensures { IfOk result (λ expression. IfSome expression (IsSplitValue context.now whole.now extent)) }
 {
     if is_name(whole.outer) || is_name(whole.inner) {
         return Ok(None);
@@ -285,8 +289,8 @@ pub(crate) fn split_value(
     if !is_unknown(alloc, context, whole)? {
         return Ok(None);
     }
-    let found = value_up_to(alloc, context, whole, last, extent)?;
-    Ok(found)
+    let expression = value_up_to(alloc, context, whole, last, extent)?;
+    Ok(expression)
 }
 
 /// What is known where a split loop's body runs, and the loop's value.
@@ -295,7 +299,6 @@ pub(crate) struct Entered {
     pub form: AffineForm,
 }
 
-/// Written out, so that a check sees a call wherever one is dropped, and not the drops of its parts.
 impl Drop for Entered {
     fn drop(self) {
         let Entered { inner: _, form: _ } = self;
@@ -312,7 +315,7 @@ impl Entered {
     }
 }
 
-/// Where a split loop's variable stands at its value.
+/// Where a split loop's variable is at its value.
 ///
 /// # Errors
 ///
@@ -336,14 +339,14 @@ pub(crate) fn enter_split(
 }
 
 /// Whether a split loop's run begins before its product in a loop's last iteration, where the loop is its outer one.
-fn is_cut_by(whole: &Whole, own: Bound) -> bool
-    requires { 1 ≤ own.count }
+fn is_cut_by(whole: &Whole, bound: Bound) -> bool
+    requires { 1 ≤ bound.count }
 {
     let Some(last) = whole.last else {
         return false;
     };
-    let product = u64::from(own.count - 1) * u64::from(whole.factor);
-    same_counter(whole.outer, own.counter) && product > u64::from(last)
+    let product = u64::from(bound.count - 1) * u64::from(whole.factor);
+    same_counter(whole.outer, bound.counter) && product > u64::from(last)
 }
 
 /// From how many serial loops around a split loop's value on code of its own for a last iteration isn't worth
@@ -352,30 +355,30 @@ const ENOUGH_LOOPS: usize = 2;
 
 /// Whether some split loop's value inside isn't the same sum in a loop's last iteration as in those before, and few
 /// loops stand around it.
-pub(crate) fn is_cut(body: &Stmt, own: Bound) -> bool
-    ensures { result ≡ true → 1 ≤ own.count }
+pub(crate) fn is_cut(body: &Stmt, bound: Bound) -> bool
+    ensures { result ≡ true → 1 ≤ bound.count }
 {
-    if own.count == 0 {
+    if bound.count == 0 {
         return false;
     }
-    has_cut(body, own, 0)
+    has_cut(body, bound, 0)
 }
 
-/// So it is inside of so many serial loops.
-fn has_cut(body: &Stmt, own: Bound, around: usize) -> bool
-    requires { 1 ≤ own.count }
+/// So it is inside of this many serial loops.
+fn has_cut(body: &Stmt, bound: Bound, around: usize) -> bool
+    requires { 1 ≤ bound.count }
 {
     match body {
         Stmt::Store(_) => false,
         Stmt::Sequence(first, second) => {
-            has_cut(first.get(), own, around) || has_cut(second.get(), own, around)
+            has_cut(first.get(), bound, around) || has_cut(second.get(), bound, around)
         }
         Stmt::For(_, count, kind, inside) => {
             let inner = around.saturating_add(usize::from(is_in_order(*kind, *count)));
-            inner < ENOUGH_LOOPS && has_cut(inside.get(), own, inner)
+            inner < ENOUGH_LOOPS && has_cut(inside.get(), bound, inner)
         }
         Stmt::Bind(_, whole, _, inside) => {
-            is_cut_by(whole, own) || has_cut(inside.get(), own, around)
+            is_cut_by(whole, bound) || has_cut(inside.get(), bound, around)
         }
     }
 }

@@ -15,7 +15,7 @@ pub struct CodeStage {
     /// The place of the first word, from 0.
     pub first: u32,
     /// The place after the last word.
-    pub behind: u32,
+    pub end: u32,
 }
 
 /// The stages inside a phase, in the order of their code.
@@ -25,7 +25,6 @@ pub struct Stages {
     pub list: Vec<CodeStage>,
 }
 
-/// Written out, so that a check sees a call wherever one is dropped, and not the drops of its parts.
 impl Drop for Stages {
     fn drop(self) {
         let Stages { list, own: _ } = self;
@@ -39,7 +38,6 @@ pub struct Code {
     pub stages: Stages,
 }
 
-/// Written out, so that a check sees a call wherever one is dropped, and not the drops of its parts.
 impl Drop for Code {
     fn drop(self) {
         let Code { words, stages } = self;
@@ -93,7 +91,7 @@ fn narrow(place: usize) -> u32 {
     }
 }
 
-/// Adds what stands between these places, if the statement is the nest of a stage of another Func than the phase's.
+/// Adds what is between these places, if the statement is the nest of a stage of another Func than the phase's.
 fn add_nest(
     stages: &mut Stages,
     statement: &Stmt,
@@ -115,7 +113,7 @@ fn add_nest(
     stages.list.push(CodeStage {
         stage: StageName { func, update },
         first: narrow(first),
-        behind: narrow(behind),
+        end: narrow(behind),
     })?;
     Ok(())
 }
@@ -131,7 +129,7 @@ fn next_update(list: &[CodeStage]) -> Option<usize> {
     }
 }
 
-/// Adds the first statement of a sequence, whose code stands between these places: of another Func than the phase's it
+/// Adds the first statement of a sequence, whose code is between these places: of another Func than the phase's it
 /// is the pure definition.
 ///
 /// # Errors
@@ -147,7 +145,7 @@ pub fn add_first(
     Ok(())
 }
 
-/// Adds the second statement of a sequence, whose code stands between these places: of another Func than the phase's it
+/// Adds the second statement of a sequence, whose code is between these places: of another Func than the phase's it
 /// is the update after the stages in front.
 ///
 /// # Errors
@@ -164,7 +162,7 @@ pub fn add_second(
     Ok(())
 }
 
-/// Adds stages whose words were copied after so many others.
+/// Adds stages whose words were copied after this many others.
 ///
 /// # Errors
 ///
@@ -179,13 +177,13 @@ pub fn add_moved(
         list.push(CodeStage {
             stage: own.stage,
             first: own.first.saturating_add(by),
-            behind: own.behind.saturating_add(by),
+            end: own.end.saturating_add(by),
         })?;
     }
     Ok(())
 }
 
-/// Adds stages of words that were copied to the end of so many.
+/// Adds stages of words that were copied to the end of this many.
 ///
 /// # Errors
 ///

@@ -47,8 +47,8 @@ pub fn emit_start(
     match unnamed_start(alloc, context, whole)? {
         None => Ok(None),
         Some(e) => {
-            let found = emit_name(alloc, code, site, context, &e, limits)?;
-            Ok(found)
+            let naming = emit_name(alloc, code, site, context, &e, limits)?;
+            Ok(naming)
         }
     }
 }
@@ -64,18 +64,18 @@ pub fn emit_starts(
     code: &mut Vec<u32>,
     site: &Site<'_>,
     context: &Context,
-    own: Bound,
+    bound: Bound,
     body: &Stmt,
 ) -> Result<Option<Naming>, CodeFault>
     ensures { IfOk result (NamesIf code.old.items code.new.items site.now.places.now site.now.scope.now context.now) }
 {
-    let all = starts_in(alloc, context, own, body)?;
+    let all = starts_in(alloc, context, bound, body)?;
     let limits = Limits {
         names: MOST_STARTS,
         registers: depth(body).saturating_add(1).saturating_mul(LOOP_REGISTERS),
     };
-    let found = emit_names(alloc, code, site, context, all.as_slice(), limits)?;
-    Ok(found)
+    let naming = emit_names(alloc, code, site, context, all.as_slice(), limits)?;
+    Ok(naming)
 }
 
 /// What registers hold after the names that a loop gets, if there are any, and its body as its code is made, where
@@ -119,13 +119,13 @@ fn emit_staying(
     code: &mut Vec<u32>,
     site: &Site<'_>,
     context: &Context,
-    own: Bound,
+    bound: Bound,
     body: &Stmt,
 ) -> Result<Before, CodeFault>
     ensures { IfOk result (λ before. NamesIf code.old.items code.new.items site.now.places.now site.now.scope.now
         context.now before.naming) }
 {
-    match ready_to_stay(alloc, site.places, context, own, body)? {
+    match ready_to_stay(alloc, site.places, context, bound, body)? {
         None => Ok(Before {
             naming: None,
             guess: None,
@@ -147,15 +147,15 @@ pub fn emit_before(
     code: &mut Vec<u32>,
     site: &Site<'_>,
     context: &Context,
-    own: Bound,
+    bound: Bound,
     body: &Stmt,
 ) -> Result<Before, CodeFault>
     ensures { IfOk result (λ before. NamesIf code.old.items code.new.items site.now.places.now site.now.scope.now
         context.now before.naming) }
 {
-    match emit_starts(alloc, code, site, context, own, body)? {
+    match emit_starts(alloc, code, site, context, bound, body)? {
         None => {
-            let before = emit_staying(alloc, code, site, context, own, body)?;
+            let before = emit_staying(alloc, code, site, context, bound, body)?;
             Ok(before)
         }
         Some(one) => {
@@ -163,7 +163,7 @@ pub fn emit_before(
                 places: site.places,
                 scope: one.scope.as_slice(),
             };
-            let before = emit_staying(alloc, code, &inner, &one.context, own, body)?;
+            let before = emit_staying(alloc, code, &inner, &one.context, bound, body)?;
             let naming = before.naming;
             let guess = before.guess;
             match naming {

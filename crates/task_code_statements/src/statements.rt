@@ -87,24 +87,24 @@ fn emit_known_store(
 
 // ---- loops
 
-/// Appends what stands in front of a loop whose variable no held form has.
+/// Appends what is in front of a loop whose variable no held form has.
 fn begin(
     alloc: Global,
     code: &mut Vec<u32>,
     scope: &[Held],
-    own: Bound,
+    bound: Bound,
     wanted: &[AffineForm],
     reserved: usize,
 ) -> Result<BegunLoop, CodeFault>
-    requires { 1 ≤ own.count }
-    ensures ok { IfOk result (Begins code.old.items code.new.items wanted.now own.counter own.count scope.now
+    requires { 1 ≤ bound.count }
+    ensures ok { IfOk result (Begins code.old.items code.new.items wanted.now bound.counter bound.count scope.now
         reserved) }
-    ensures steady { OnOk result (holding.mentions own.counter scope.now ≡ false) }
+    ensures loop_invariant { OnOk result (holding.mentions bound.counter scope.now ≡ false) }
 {
-    if mentions(scope, own.counter) || reserved >= 1 << 32 {
+    if mentions(scope, bound.counter) || reserved >= 1 << 32 {
         return Err(CodeFault::TooDeep);
     }
-    let begun = begin_loop(alloc, code, scope, own, wanted, reserved)?;
+    let begun = begin_loop(alloc, code, scope, bound, wanted, reserved)?;
     Ok(begun)
 }
 
@@ -118,7 +118,7 @@ struct Iterations<'a> {
     guess: &'a [Guess],
 }
 
-/// Appends what stands in front of a loop: forms that its body wants in registers.
+/// Appends what is in front of a loop: forms that its body wants in registers.
 fn begin_iterations(
     alloc: Global,
     code: &mut Vec<u32>,
@@ -172,19 +172,23 @@ fn emit_loop(
     code: &mut Code,
     site: &Site<'_>,
     context: &Context,
-    own: Bound,
+    bound: Bound,
     body: &Stmt,
 ) -> Result<(), CodeFault>
     ensures { OnOk result (EmitsLoop code.old.words.items code.new.words.items site.now.places.now site.now.scope.now
         (Meets context.now)
-        own.counter own.count body.now) }
+        bound.counter bound.count body.now) }
 {
-    if own.count == 0 {
+    if bound.count == 0 {
         return Ok(());
     }
-    let before = emit_before(alloc, &mut code.words, site, context, own, body)?;
+    let before = emit_before(alloc, &mut code.words, site, context, bound, body)?;
     let guess = before.guess.as_slice();
-    let iterations = Iterations { own, body, guess };
+    let iterations = Iterations {
+        own: bound,
+        body,
+        guess,
+    };
     match &before.naming {
         None => {
             emit_iterations(alloc, code, site, context, &iterations)?;
@@ -208,22 +212,22 @@ fn emit_laid_out(
     code: &mut Code,
     site: &Site<'_>,
     context: &Context,
-    own: Bound,
+    bound: Bound,
     body: &Stmt,
 ) -> Result<(), CodeFault>
     ensures { OnOk result (EmitsLoop code.old.words.items code.new.words.items site.now.places.now site.now.scope.now
         (Meets context.now)
-        own.counter own.count body.now) }
+        bound.counter bound.count body.now) }
 {
-    if mentions(site.scope, own.counter) {
+    if mentions(site.scope, bound.counter) {
         return Err(CodeFault::TooDeep);
     }
-    for iteration in 0..own.count {
+    for iteration in 0..bound.count {
         if code.words.len() >= MOST_WORDS {
             return Err(CodeFault::TooLong);
         }
         let number = Linear::of_number(alloc, iteration);
-        let inner = with_sum(alloc, context, own.counter, &number)?;
+        let inner = with_sum(alloc, context, bound.counter, &number)?;
         emit_unless_idle(alloc, code, site, &inner, body)?;
     }
     Ok(())
@@ -236,17 +240,17 @@ fn emit_once(
     code: &mut Code,
     site: &Site<'_>,
     context: &Context,
-    own: Bound,
+    bound: Bound,
     body: &Stmt,
 ) -> Result<(), CodeFault>
     ensures { OnOk result (EmitsLoop code.old.words.items code.new.words.items site.now.places.now site.now.scope.now
         (Meets context.now)
-        own.counter own.count body.now) }
+        bound.counter bound.count body.now) }
 {
-    let before = emit_before(alloc, &mut code.words, site, context, own, body)?;
+    let before = emit_before(alloc, &mut code.words, site, context, bound, body)?;
     match &before.naming {
         None => {
-            emit_laid_out(alloc, code, site, context, own, body)?;
+            emit_laid_out(alloc, code, site, context, bound, body)?;
             Ok(())
         }
         Some(naming) => {
@@ -254,7 +258,7 @@ fn emit_once(
                 places: site.places,
                 scope: naming.scope.as_slice(),
             };
-            emit_laid_out(alloc, code, &inner, &naming.context, own, body)?;
+            emit_laid_out(alloc, code, &inner, &naming.context, bound, body)?;
             Ok(())
         }
     }
@@ -267,39 +271,39 @@ fn emit_serial(
     code: &mut Code,
     site: &Site<'_>,
     context: &Context,
-    own: Bound,
+    bound: Bound,
     body: &Stmt,
 ) -> Result<(), CodeFault>
     ensures { OnOk result (EmitsLoop code.old.words.items code.new.words.items site.now.places.now site.now.scope.now
         (Meets context.now)
-        own.counter own.count body.now) }
+        bound.counter bound.count body.now) }
 {
-    let first = loop_part(alloc, context, own, body)?;
-    if first < own.count {
-        emit_parted(alloc, code, site, context, own, first, body)?;
+    let first = loop_part(alloc, context, bound, body)?;
+    if first < bound.count {
+        emit_parted(alloc, code, site, context, bound, first, body)?;
         return Ok(());
     }
-    emit_loop(alloc, code, site, context, own, body)?;
+    emit_loop(alloc, code, site, context, bound, body)?;
     Ok(())
 }
 
-/// Appends a loop of so many first iterations, and those after them, each with code of its own.
+/// Appends a loop of this many first iterations, and those after them, each with code of its own.
 #[cycle(statements)]
 fn emit_parted(
     alloc: Global,
     code: &mut Code,
     site: &Site<'_>,
     context: &Context,
-    own: Bound,
+    bound: Bound,
     first: u32,
     body: &Stmt,
 ) -> Result<(), CodeFault>
-    requires { first ≤ own.count }
+    requires { first ≤ bound.count }
     ensures { OnOk result (EmitsLoop code.old.words.items code.new.words.items site.now.places.now site.now.scope.now
         (Meets context.now)
-        own.counter own.count body.now) }
+        bound.counter bound.count body.now) }
 {
-    let counter = own.counter;
+    let counter = bound.counter;
     if mentions(site.scope, counter) {
         return Err(CodeFault::TooDeep);
     }
@@ -308,7 +312,7 @@ fn emit_parted(
         count: first,
     };
     emit_loop(alloc, code, site, context, others, body)?;
-    for iteration in first..own.count {
+    for iteration in first..bound.count {
         if code.words.len() >= MOST_WORDS {
             return Err(CodeFault::TooLong);
         }
@@ -346,14 +350,14 @@ fn emit_tested(
     scope: &[Held],
     form: &AffineForm,
     extent: u32,
-    made: &Code,
+    new_code: &Code,
 ) -> Result<(), CodeFault>
     ensures { OnOk result (GuardsWords code.old.words.items code.new.words.items scope.now form.now extent
-        made.now.words.items) }
+        new_code.now.words.items) }
 {
-    let words = made.words.as_slice();
+    let words = new_code.words.as_slice();
     emit_guarded(&mut code.words, scope, form, extent, words)?;
-    let found = made.stages.list.as_slice();
+    let found = new_code.stages.list.as_slice();
     let behind = code.words.len();
     add_last(&mut code.stages.list, found, words.len(), behind)?;
     Ok(())

@@ -4,7 +4,7 @@ use loop_ir::expressions::{Counter, Expr, Term, same_counter};
 use loop_ir::statements::Stmt;
 use std::alloc::{AllocError, Global};
 use task_code_loops::bounds::Bound;
-use task_code_names::copies::{copy_of, is_same, is_still};
+use task_code_names::copies::{copy_of, is_load_free, is_same};
 
 // ---- parts that stay
 
@@ -19,15 +19,16 @@ fn are_among(bounds: &[Bound], terms: &[Term]) -> bool {
 }
 
 /// Whether an expression's loop variables are those of these loops.
-fn stays(bounds: &[Bound], e: &Expr) -> bool {
+fn is_of_loops(bounds: &[Bound], e: &Expr) -> bool {
     match e {
         Expr::Number(_) => true,
         Expr::Linear(own) => are_among(bounds, own.terms.as_slice()),
-        Expr::Binary(_, a, b) => stays(bounds, a.get()) && stays(bounds, b.get()),
-        Expr::Divide(a, _) => stays(bounds, a.get()),
-        Expr::Remainder(a, _) => stays(bounds, a.get()),
+        Expr::Binary(_, a, b) => is_of_loops(bounds, a.get()) && is_of_loops(bounds, b.get()),
+        Expr::Divide(a, _) => is_of_loops(bounds, a.get()),
+        Expr::Remainder(a, _) => is_of_loops(bounds, a.get()),
         Expr::Select(c, a, b) => {
-            stays(bounds, c.get()) && (stays(bounds, a.get()) && stays(bounds, b.get()))
+            is_of_loops(bounds, c.get())
+                && (is_of_loops(bounds, a.get()) && is_of_loops(bounds, b.get()))
         }
         Expr::Load(_, _, _) => false,
     }
@@ -43,29 +44,29 @@ fn has_parts(e: &Expr) -> bool {
 }
 
 /// Adds an expression, unless it is there.
-pub(crate) fn add(alloc: Global, found: &mut Vec<Expr>, e: &Expr) -> Result<(), AllocError> {
-    if !found.as_slice().iter().any(|own| is_same(own, e)) {
+pub(crate) fn add(alloc: Global, expressions: &mut Vec<Expr>, e: &Expr) -> Result<(), AllocError> {
+    if !expressions.as_slice().iter().any(|own| is_same(own, e)) {
         let own = copy_of(alloc, e)?;
-        found.push(own)?;
+        expressions.push(own)?;
     }
     Ok(())
 }
 
 /// Whether an expression loads nothing, and its loop variables are those of these loops.
-pub(crate) fn is_same_in_all(bounds: &[Bound], e: &Expr) -> bool {
-    is_still(e) && stays(bounds, e)
+pub(crate) fn is_invariant_over(bounds: &[Bound], e: &Expr) -> bool {
+    is_load_free(e) && is_of_loops(bounds, e)
 }
 
-/// Whether what stands beside an expression's first operand does not stay the same, or the expression itself has none.
+/// Whether what is beside an expression's first operand does not stay the same, or the expression itself has none.
 fn others_leave(bounds: &[Bound], e: &Expr) -> bool {
     match e {
         Expr::Number(_) => false,
-        Expr::Linear(_) => !stays(bounds, e),
-        Expr::Binary(_, _, b) => !is_same_in_all(bounds, b.get()),
+        Expr::Linear(_) => !is_of_loops(bounds, e),
+        Expr::Binary(_, _, b) => !is_invariant_over(bounds, b.get()),
         Expr::Divide(_, _) => false,
         Expr::Remainder(_, _) => false,
         Expr::Select(_, a, b) => {
-            !is_same_in_all(bounds, a.get()) || !is_same_in_all(bounds, b.get())
+            !is_invariant_over(bounds, a.get()) || !is_invariant_over(bounds, b.get())
         }
         Expr::Load(_, _, _) => true,
     }
@@ -73,15 +74,15 @@ fn others_leave(bounds: &[Bound], e: &Expr) -> bool {
 
 /// How many expressions do not stay the same: the expression itself, its first operand, the first operand of that one
 /// and so on. So none of them is asked more than once.
-fn leaving(bounds: &[Bound], e: &Expr) -> u32 {
+fn varying_over(bounds: &[Bound], e: &Expr) -> u32 {
     let first = match e {
         Expr::Number(_) => 0,
         Expr::Linear(_) => 0,
-        Expr::Binary(_, a, _) => leaving(bounds, a.get()),
-        Expr::Divide(a, _) => leaving(bounds, a.get()),
-        Expr::Remainder(a, _) => leaving(bounds, a.get()),
-        Expr::Select(c, _, _) => leaving(bounds, c.get()),
-        Expr::Load(_, x, _) => leaving(bounds, x.get()),
+        Expr::Binary(_, a, _) => varying_over(bounds, a.get()),
+        Expr::Divide(a, _) => varying_over(bounds, a.get()),
+        Expr::Remainder(a, _) => varying_over(bounds, a.get()),
+        Expr::Select(c, _, _) => varying_over(bounds, c.get()),
+        Expr::Load(_, x, _) => varying_over(bounds, x.get()),
     };
     if first > 0 || others_leave(bounds, e) {
         first.saturating_add(1)
@@ -90,42 +91,46 @@ fn leaving(bounds: &[Bound], e: &Expr) -> u32 {
     }
 }
 
-/// How many they are, where so many are known: it counts where none is.
-fn known_leaving(bounds: &[Bound], e: &Expr, known: u32) -> u32 {
-    if known > 0 { known } else { leaving(bounds, e) }
+/// How many they are, where this many are known: it counts where none is.
+fn known_varying(bounds: &[Bound], e: &Expr, known: u32) -> u32 {
+    if known > 0 {
+        known
+    } else {
+        varying_over(bounds, e)
+    }
 }
 
-/// Adds the largest parts of an expression that stay the same. Of so many, the expression itself, its first operand and
-/// so on, it is known that they don't.
+/// Adds the largest parts of an expression that stay the same. Of this many, the expression itself, its first operand
+/// and so on, it is known that they don't.
 fn add_parts(
     alloc: Global,
     bounds: &[Bound],
-    found: &mut Vec<Expr>,
+    expressions: &mut Vec<Expr>,
     e: &Expr,
     known: u32,
 ) -> Result<(), AllocError> {
-    let own = known_leaving(bounds, e, known);
+    let own = known_varying(bounds, e, known);
     if own == 0 && has_parts(e) {
-        return add(alloc, found, e);
+        return add(alloc, expressions, e);
     }
     let within = own.saturating_sub(1);
     match e {
         Expr::Number(_) => Ok(()),
         Expr::Linear(_) => Ok(()),
         Expr::Binary(_, a, b) => {
-            add_parts(alloc, bounds, found, a.get(), within)?;
-            add_parts(alloc, bounds, found, b.get(), 0)
+            add_parts(alloc, bounds, expressions, a.get(), within)?;
+            add_parts(alloc, bounds, expressions, b.get(), 0)
         }
-        Expr::Divide(a, _) => add_parts(alloc, bounds, found, a.get(), within),
-        Expr::Remainder(a, _) => add_parts(alloc, bounds, found, a.get(), within),
+        Expr::Divide(a, _) => add_parts(alloc, bounds, expressions, a.get(), within),
+        Expr::Remainder(a, _) => add_parts(alloc, bounds, expressions, a.get(), within),
         Expr::Select(c, a, b) => {
-            add_parts(alloc, bounds, found, c.get(), within)?;
-            add_parts(alloc, bounds, found, a.get(), 0)?;
-            add_parts(alloc, bounds, found, b.get(), 0)
+            add_parts(alloc, bounds, expressions, c.get(), within)?;
+            add_parts(alloc, bounds, expressions, a.get(), 0)?;
+            add_parts(alloc, bounds, expressions, b.get(), 0)
         }
         Expr::Load(_, x, y) => {
-            add_parts(alloc, bounds, found, x.get(), within)?;
-            add_parts(alloc, bounds, found, y.get(), 0)
+            add_parts(alloc, bounds, expressions, x.get(), within)?;
+            add_parts(alloc, bounds, expressions, y.get(), 0)
         }
     }
 }
@@ -133,21 +138,21 @@ fn add_parts(
 fn add_statement(
     alloc: Global,
     bounds: &[Bound],
-    found: &mut Vec<Expr>,
+    expressions: &mut Vec<Expr>,
     statement: &Stmt,
 ) -> Result<(), AllocError> {
     match statement {
         Stmt::Store(store) => {
-            add_parts(alloc, bounds, found, &store.x, 0)?;
-            add_parts(alloc, bounds, found, &store.y, 0)?;
-            add_parts(alloc, bounds, found, &store.value, 0)
+            add_parts(alloc, bounds, expressions, &store.x, 0)?;
+            add_parts(alloc, bounds, expressions, &store.y, 0)?;
+            add_parts(alloc, bounds, expressions, &store.value, 0)
         }
         Stmt::Sequence(first, second) => {
-            add_statement(alloc, bounds, found, first.get())?;
-            add_statement(alloc, bounds, found, second.get())
+            add_statement(alloc, bounds, expressions, first.get())?;
+            add_statement(alloc, bounds, expressions, second.get())
         }
-        Stmt::For(_, _, _, body) => add_statement(alloc, bounds, found, body.get()),
-        Stmt::Bind(_, _, _, body) => add_statement(alloc, bounds, found, body.get()),
+        Stmt::For(_, _, _, body) => add_statement(alloc, bounds, expressions, body.get()),
+        Stmt::Bind(_, _, _, body) => add_statement(alloc, bounds, expressions, body.get()),
     }
 }
 
@@ -158,9 +163,9 @@ pub(crate) fn staying(
     bounds: &[Bound],
     body: &Stmt,
 ) -> Result<Vec<Expr>, AllocError> {
-    let mut found = Vec::new(alloc);
-    add_statement(alloc, bounds, &mut found, body)?;
-    Ok(found)
+    let mut expressions = Vec::new(alloc);
+    add_statement(alloc, bounds, &mut expressions, body)?;
+    Ok(expressions)
 }
 
 // ---- whether there may be such parts
@@ -179,7 +184,7 @@ enum Invariance {
 }
 
 /// Whether an expression stays the same.
-fn is_staying(invariance: Invariance) -> bool {
+fn is_invariant(invariance: Invariance) -> bool {
     invariance == Invariance::Leaf || invariance == Invariance::Whole
 }
 
@@ -190,7 +195,7 @@ fn is_worth(invariance: Invariance) -> bool {
 
 /// Of an operation on two parts.
 fn joined(first: Invariance, second: Invariance) -> Invariance {
-    if is_staying(first) && is_staying(second) {
+    if is_invariant(first) && is_invariant(second) {
         Invariance::Whole
     } else if is_worth(first) || is_worth(second) {
         Invariance::Part
@@ -209,72 +214,72 @@ fn loaded(column: Invariance, row: Invariance) -> Invariance {
 }
 
 /// Whether a loop variable is one of these.
-fn is_moving(moving: &[Counter], counter: Counter) -> bool {
-    moving.iter().any(|own| same_counter(*own, counter))
+fn is_varying(varying: &[Counter], counter: Counter) -> bool {
+    varying.iter().any(|own| same_counter(*own, counter))
 }
 
 /// Whether some loop variable of a sum is one of these.
-fn moves(moving: &[Counter], terms: &[Term]) -> bool {
-    terms.iter().any(|term| is_moving(moving, term.counter))
+fn varies(varying: &[Counter], terms: &[Term]) -> bool {
+    terms.iter().any(|term| is_varying(varying, term.counter))
 }
 
 /// What is known of an expression where these loop variables go on. Each part is asked once.
-fn invariance_of(moving: &[Counter], e: &Expr) -> Invariance {
+fn invariance_of(varying: &[Counter], e: &Expr) -> Invariance {
     match e {
         Expr::Number(_) => Invariance::Leaf,
         Expr::Linear(own) => {
-            if moves(moving, own.terms.as_slice()) {
+            if varies(varying, own.terms.as_slice()) {
                 Invariance::Nothing
             } else {
                 Invariance::Leaf
             }
         }
         Expr::Binary(_, a, b) => joined(
-            invariance_of(moving, a.get()),
-            invariance_of(moving, b.get()),
+            invariance_of(varying, a.get()),
+            invariance_of(varying, b.get()),
         ),
-        Expr::Divide(a, _) => joined(invariance_of(moving, a.get()), Invariance::Leaf),
-        Expr::Remainder(a, _) => joined(invariance_of(moving, a.get()), Invariance::Leaf),
+        Expr::Divide(a, _) => joined(invariance_of(varying, a.get()), Invariance::Leaf),
+        Expr::Remainder(a, _) => joined(invariance_of(varying, a.get()), Invariance::Leaf),
         Expr::Select(c, a, b) => {
             let operands = joined(
-                invariance_of(moving, a.get()),
-                invariance_of(moving, b.get()),
+                invariance_of(varying, a.get()),
+                invariance_of(varying, b.get()),
             );
-            joined(invariance_of(moving, c.get()), operands)
+            joined(invariance_of(varying, c.get()), operands)
         }
         Expr::Load(_, x, y) => loaded(
-            invariance_of(moving, x.get()),
-            invariance_of(moving, y.get()),
+            invariance_of(varying, x.get()),
+            invariance_of(varying, y.get()),
         ),
     }
 }
 
 /// Whether some part of a statement's stores may stay the same, where these loop variables go on, and those of loops
 /// inside, which are added to them.
-fn may_stay(statement: &Stmt, moving: &mut Vec<Counter>) -> Result<bool, AllocError> {
+fn may_stay(statement: &Stmt, varying: &mut Vec<Counter>) -> Result<bool, AllocError> {
     match statement {
         Stmt::Store(store) => {
-            let own = moving.as_slice();
+            let own = varying.as_slice();
             let point = loaded(invariance_of(own, &store.x), invariance_of(own, &store.y));
             Ok(is_worth(point) || is_worth(invariance_of(own, &store.value)))
         }
         Stmt::Sequence(first, second) => {
-            let one = may_stay(first.get(), moving)?;
-            let other = may_stay(second.get(), moving)?;
+            let one = may_stay(first.get(), varying)?;
+            let other = may_stay(second.get(), varying)?;
             Ok(one || other)
         }
         Stmt::For(counter, _, _, body) => {
-            moving.push(*counter)?;
-            may_stay(body.get(), moving)
+            varying.push(*counter)?;
+            may_stay(body.get(), varying)
         }
         // Its variable is the sum of both loops'.
         Stmt::Bind(counter, whole, _, body) => {
-            if is_moving(moving.as_slice(), whole.outer)
-                || is_moving(moving.as_slice(), whole.inner)
+            if is_varying(varying.as_slice(), whole.outer)
+                || is_varying(varying.as_slice(), whole.inner)
             {
-                moving.push(*counter)?;
+                varying.push(*counter)?;
             }
-            may_stay(body.get(), moving)
+            may_stay(body.get(), varying)
         }
     }
 }
@@ -286,7 +291,7 @@ pub(crate) fn may_stay_in(
     counter: Counter,
     body: &Stmt,
 ) -> Result<bool, AllocError> {
-    let mut moving = Vec::new(alloc);
-    moving.push(counter)?;
-    may_stay(body, &mut moving)
+    let mut varying = Vec::new(alloc);
+    varying.push(counter)?;
+    may_stay(body, &mut varying)
 }

@@ -19,7 +19,7 @@ use loop_ir::statements::{Phase, Stmt};
 use sqlite_items::Items;
 use std::alloc::{AllocError, Global};
 use task_code_borders::blindness::is_blind_statement;
-use task_code_borders::parting::{Reach, Standing, has_parts, parted};
+use task_code_borders::parting::{PartedLoops, PartingScope, has_parts, parted};
 use task_code_borders::spans::open_clamps;
 use task_code_borders::variables::{is_border, number_of};
 use task_code_loops::bounds::Bound;
@@ -30,7 +30,7 @@ use task_code_scalar::layouts::Places;
 use task_code_scalar::{CodeFault, append};
 use task_code_values::sites::Site;
 
-/// Where the number of the task stands that was drawn.
+/// Where the number of the task is that was drawn.
 const DRAWN: u8 = 12;
 /// Where the draw and the gate look for the address of the ticket, that of the gate, 1, and the number of tasks.
 const TICKET: u8 = 13;
@@ -48,7 +48,7 @@ struct TaskStart {
     context: Context,
 }
 
-/// A loop variable that stands at the task's number, in the register where that is drawn.
+/// A loop variable that is at the task's number, in the register where that is drawn.
 ///
 /// # Errors
 ///
@@ -62,60 +62,60 @@ pub fn with_drawn(alloc: Global, counter: Counter) -> Result<Vec<Held>, AllocErr
 }
 
 /// Whether a loop variable is the task's own.
-fn is_own(own: Option<Counter>, counter: Counter) -> bool
-    ensures { result ≡ spec.is_own own counter }
+fn is_own(loop_counter: Option<Counter>, counter: Counter) -> bool
+    ensures { result ≡ spec.is_own loop_counter counter }
 {
-    match own {
+    match loop_counter {
         None => false,
-        Some(own) => same_counter(counter, own),
+        Some(loop_counter) => same_counter(counter, loop_counter),
     }
 }
 
-/// What is known where a loop variable, if it isn't the task's own, stands at 0, or at its number if it has one.
+/// What is known where a loop variable, if it isn't the task's own, is at 0, or at its number if it has one.
 fn with_start(
     alloc: Global,
     context: Context,
-    own: Option<Counter>,
+    loop_counter: Option<Counter>,
     counter: Counter,
 ) -> Result<Context, AllocError>
-    ensures { IfOk result (StaysMet own context) }
+    ensures { IfOk result (StaysMet loop_counter context) }
 {
-    if is_own(own, counter) {
+    if is_own(loop_counter, counter) {
         return Ok(context);
     }
     if !is_border(counter) {
-        let made = with_number(alloc, context, counter, 0)?;
-        return Ok(made);
+        let new_context = with_number(alloc, context, counter, 0)?;
+        return Ok(new_context);
     }
     match number_of(counter) {
         None => Ok(context),
         Some(number) => {
-            let made = with_number(alloc, context, counter, number)?;
-            Ok(made)
+            let new_context = with_number(alloc, context, counter, number)?;
+            Ok(new_context)
         }
     }
 }
 
-/// What is known where each of these loop variables, but the task's own, stands where it does before a task.
+/// What is known where each of these loop variables, but the task's own, is where it does before a task.
 fn with_starts(
     alloc: Global,
     context: Context,
-    own: Option<Counter>,
+    counter: Option<Counter>,
     others: &[Counter],
 ) -> Result<Context, AllocError>
-    ensures { IfOk result (StaysMet own context) }
+    ensures { IfOk result (StaysMet counter context) }
 {
     match others {
         [] => Ok(context),
         [first, rest @ ..] => {
-            let next = with_start(alloc, context, own, *first)?;
-            let made = with_starts(alloc, next, own, rest)?;
-            Ok(made)
+            let next = with_start(alloc, context, counter, *first)?;
+            let new_context = with_starts(alloc, next, counter, rest)?;
+            Ok(new_context)
         }
     }
 }
 
-/// What is so where one of so many tasks begins.
+/// What is so where one of this many tasks begins.
 fn beginning(
     alloc: Global,
     counter: Option<Counter>,
@@ -194,15 +194,15 @@ fn tried_words(
     manner: Manner,
 ) -> Result<Option<Code>, AllocError>
     requires { ticket + 4 < 2 ^ 32 }
-    ensures { IfOk result (λ found. IfSome found (λ made. AppendsStarted [] made.words.items phase.now places.now
+    ensures { IfOk result (λ found. IfSome found (λ code. AppendsStarted [] code.words.items phase.now places.now
         ticket)) }
 {
-    let mut made = Code {
+    let mut code = Code {
         words: Vec::new(alloc),
         stages: no_stages(alloc, &phase.body),
     };
-    match emit_words(alloc, phase, places, ticket, manner, &mut made) {
-        Ok(()) => Ok(Some(made)),
+    match emit_words(alloc, phase, places, ticket, manner, &mut code) {
+        Ok(()) => Ok(Some(code)),
         Err(CodeFault::OutOfMemory(error)) => Err(error),
         Err(CodeFault::TooLong) => Ok(None),
         Err(CodeFault::TooDeep) => Ok(None),
@@ -210,7 +210,7 @@ fn tried_words(
 }
 
 /// The words of one task of a phase made in this manner, where these are guessed to take fewer turns than others, by
-/// one in so many, or else those.
+/// one in this many, or else those.
 fn faster_of(
     alloc: Global,
     phase: &Phase,
@@ -221,13 +221,13 @@ fn faster_of(
     one_in: u64,
 ) -> Result<Option<Code>, AllocError>
     requires ticket { ticket + 4 < 2 ^ 32 }
-    requires others { IfSome others (λ made. AppendsStarted [] made.words.items phase.now places.now ticket) }
-    ensures { IfOk result (λ found. IfSome found (λ made. AppendsStarted [] made.words.items phase.now places.now
+    requires others { IfSome others (λ code. AppendsStarted [] code.words.items phase.now places.now ticket) }
+    ensures { IfOk result (λ found. IfSome found (λ code. AppendsStarted [] code.words.items phase.now places.now
         ticket)) }
 {
-    let made = tried_words(alloc, phase, places, ticket, manner)?;
-    if is_faster(alloc, &made, &others, one_in)? {
-        return Ok(made);
+    let code = tried_words(alloc, phase, places, ticket, manner)?;
+    if is_faster(alloc, &code, &others, one_in)? {
+        return Ok(code);
     }
     Ok(others)
 }
@@ -242,7 +242,7 @@ fn words_by_variables(
     parting: Parting,
 ) -> Result<Option<Code>, AllocError>
     requires { ticket + 4 < 2 ^ 32 }
-    ensures { IfOk result (λ found. IfSome found (λ made. AppendsStarted [] made.words.items phase.now places.now
+    ensures { IfOk result (λ code. IfSome code (λ made. AppendsStarted [] made.words.items phase.now places.now
         ticket)) }
 {
     let outer = Holding::OuterVariables.made(parting);
@@ -252,8 +252,8 @@ fn words_by_variables(
     let plain = Holding::VariablesWithoutNames.made(parting);
     let three = faster_of(alloc, phase, places, ticket, plain, two, ANY)?;
     let alone = Holding::OuterVariablesAlone.made(parting);
-    let found = faster_of(alloc, phase, places, ticket, alone, three, MUCH)?;
-    Ok(found)
+    let code = faster_of(alloc, phase, places, ticket, alone, three, MUCH)?;
+    Ok(code)
 }
 
 /// The words of one task of a phase, where there are some: those of pointers, or of variables where these don't fit, or
@@ -296,7 +296,7 @@ fn words_up_to(
     most: usize,
 ) -> Result<Option<Code>, AllocError>
     requires { ticket + 4 < 2 ^ 32 }
-    ensures { IfOk result (λ found. IfSome found (λ made. AppendsStarted [] made.words.items phase.now places.now
+    ensures { IfOk result (λ code. IfSome code (λ made. AppendsStarted [] made.words.items phase.now places.now
         ticket)) }
 {
     if has_few_runs(&phase.body) {
@@ -313,8 +313,8 @@ fn words_up_to(
             return Ok(parted);
         }
     }
-    let found = words_of(alloc, phase, places, ticket, Parting::None)?;
-    Ok(found)
+    let code = words_of(alloc, phase, places, ticket, Parting::None)?;
+    Ok(code)
 }
 
 /// A phase with another body, for the code of its tasks alone.
@@ -336,7 +336,7 @@ fn with_body(alloc: Global, phase: &Phase, body: Stmt) -> Phase
     }
 }
 
-/// The words of one task of a phase, if its statement names no variables but those of stages, of so many if they may
+/// The words of one task of a phase, if its statement names no variables but those of stages, of this many if they may
 /// be.
 fn whole_words(
     alloc: Global,
@@ -346,14 +346,14 @@ fn whole_words(
     most: usize,
 ) -> Result<Option<Code>, AllocError>
     requires { ticket + 4 < 2 ^ 32 }
-    ensures { IfOk result (λ found. IfSome found (λ made. AppendsTask [] made.words.items phase.now places.now
+    ensures { IfOk result (λ code. IfSome code (λ made. AppendsTask [] made.words.items phase.now places.now
         ticket)) }
 {
     if !is_blind_statement(&phase.body) {
         return Ok(None);
     }
-    let found = words_up_to(alloc, phase, places, ticket, most)?;
-    Ok(found)
+    let code = words_up_to(alloc, phase, places, ticket, most)?;
+    Ok(code)
 }
 
 /// The words of one task of a phase whose loops are in parts where that decides clamps, if there are such parts.
@@ -363,13 +363,13 @@ fn parted_words(
     places: &Places,
     ticket: u32,
     most: usize,
-    reach: Reach,
+    reach: PartedLoops,
 ) -> Result<Option<Code>, AllocError>
     requires { ticket + 4 < 2 ^ 32 }
-    ensures { IfOk result (λ found. IfSome found (λ made. AppendsTask [] made.words.items phase.now places.now
+    ensures { IfOk result (λ code. IfSome code (λ made. AppendsTask [] made.words.items phase.now places.now
         ticket)) }
 {
-    let standing = Standing {
+    let standing = PartingScope {
         spans: &[],
         reach,
         level: 0,
@@ -381,37 +381,37 @@ fn parted_words(
                 return Ok(None);
             }
             let other = with_body(alloc, phase, body);
-            let found = words_up_to(alloc, &other, places, ticket, most)?;
-            Ok(found)
+            let code = words_up_to(alloc, &other, places, ticket, most)?;
+            Ok(code)
         }
     }
 }
 
 /// The first words of one task of a phase whose loops are in parts so far that are guessed to take fewer turns than
-/// those whose loops aren't, and are so many at most, or else those.
+/// those whose loops aren't, and are this many at most, or else those.
 fn first_better(
     alloc: Global,
     phase: &Phase,
     places: &Places,
     ticket: u32,
     most: usize,
-    reaches: &[Reach],
+    reaches: &[PartedLoops],
     whole: Option<Code>,
 ) -> Result<Option<Code>, AllocError>
     requires ticket { ticket + 4 < 2 ^ 32 }
-    requires whole { IfSome whole (λ made. AppendsTask [] made.words.items phase.now places.now ticket) }
-    ensures { IfOk result (λ found. IfSome found (λ made. AppendsTask [] made.words.items phase.now places.now
+    requires whole { IfSome whole (λ code. AppendsTask [] code.words.items phase.now places.now ticket) }
+    ensures { IfOk result (λ new_code. IfSome new_code (λ code. AppendsTask [] code.words.items phase.now places.now
         ticket)) }
 {
     match reaches {
         [] => Ok(whole),
         [reach, others @ ..] => {
-            let made = parted_words(alloc, phase, places, ticket, most, *reach)?;
-            if is_no_longer(&made, most) && is_faster(alloc, &made, &whole, ANY)? {
-                return Ok(made);
+            let code = parted_words(alloc, phase, places, ticket, most, *reach)?;
+            if is_no_longer(&code, most) && is_faster(alloc, &code, &whole, ANY)? {
+                return Ok(code);
             }
-            let found = first_better(alloc, phase, places, ticket, most, others, whole)?;
-            Ok(found)
+            let new_code = first_better(alloc, phase, places, ticket, most, others, whole)?;
+            Ok(new_code)
         }
     }
 }
@@ -425,16 +425,16 @@ fn best_words(
     most: usize,
 ) -> Result<Option<Code>, AllocError>
     requires { ticket + 4 < 2 ^ 32 }
-    ensures { IfOk result (λ found. IfSome found (λ made. AppendsTask [] made.words.items phase.now places.now
+    ensures { IfOk result (λ code. IfSome code (λ made. AppendsTask [] made.words.items phase.now places.now
         ticket)) }
 {
     let whole = whole_words(alloc, phase, places, ticket, most)?;
     if open_clamps(alloc, &[], &phase.body)? == 0 {
         return Ok(whole);
     }
-    let reaches = [Reach::All, Reach::Inner, Reach::Innermost];
-    let found = first_better(alloc, phase, places, ticket, most, &reaches, whole)?;
-    Ok(found)
+    let reaches = [PartedLoops::All, PartedLoops::Inner, PartedLoops::Innermost];
+    let code = first_better(alloc, phase, places, ticket, most, &reaches, whole)?;
+    Ok(code)
 }
 
 /// Appends the code of one task of a phase, with forms in the registers that loops and expressions leave: pointers

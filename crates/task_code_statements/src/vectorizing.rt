@@ -13,7 +13,7 @@ use crate::guards::{Guard, Tests, add_test, emit_behind, guards_lack, tests_of};
 use crate::lacking::{lacks, store_lacks};
 use crate::making::unclamped_store;
 use crate::plain::is_plain_store;
-use crate::replacing::{Standing, store_with};
+use crate::replacing::{Replacement, store_with};
 use crate::splits::{enter_split, split_value};
 use crate::starts::emit_starts;
 use loop_ir::expressions::Counter;
@@ -32,14 +32,13 @@ use task_code_vector_loops::left::Left;
 use task_code_vector_loops::runs::emit_run;
 use task_code_vector_loops::terms::mentions;
 
-/// A store, and the tests that it stands under.
+/// A store, and the tests that it is under.
 #[derive(Debug)]
 pub struct GuardedStore {
     pub store: Store,
     pub guards: Vec<Guard>,
 }
 
-/// Written out, so that a check sees a call wherever one is dropped, and not the drops of its parts.
 impl Drop for GuardedStore {
     fn drop(self) {
         let GuardedStore { store, guards: _ } = self;
@@ -113,25 +112,29 @@ fn stored_alone(alloc: Global, context: &Context, store: &Store) -> Result<Guard
 }
 
 /// Whether neither a store nor its tests have a loop variable.
-fn guarded_lacks(own: &GuardedStore, counter: Counter) -> bool
-    ensures { result ≡ true → GuardedLacks counter own.now }
+fn guarded_lacks(guarded: &GuardedStore, counter: Counter) -> bool
+    ensures { result ≡ true → GuardedLacks counter guarded.now }
 {
-    store_lacks(&own.store, counter) && guards_lack(own.guards.as_slice(), counter)
+    store_lacks(&guarded.store, counter) && guards_lack(guarded.guards.as_slice(), counter)
 }
 
 /// A store and its tests with an expression for a loop variable that none of the tests has.
-fn guarded_with(alloc: Global, made: GuardedStore, own: Standing) -> Result<GuardedStore, CodeFault>
-    ensures { IfOk result (ReplacesIn made own) }
+fn guarded_with(
+    alloc: Global,
+    guarded_store: GuardedStore,
+    replacement: Replacement,
+) -> Result<GuardedStore, CodeFault>
+    ensures { IfOk result (ReplacesIn guarded_store replacement) }
 {
-    if !lacks(&own.e, own.counter) {
+    if !lacks(&replacement.e, replacement.counter) {
         return Err(CodeFault::TooDeep);
     }
-    let store = store_with(alloc, &made.store, &own)?;
+    let store = store_with(alloc, &guarded_store.store, &replacement)?;
     let guarded = GuardedStore {
         store,
-        guards: made.into_guards(),
+        guards: guarded_store.into_guards(),
     };
-    if !guarded_lacks(&guarded, own.counter) {
+    if !guarded_lacks(&guarded, replacement.counter) {
         return Err(CodeFault::TooDeep);
     }
     Ok(guarded)
@@ -143,8 +146,8 @@ fn stored_by(alloc: Global, context: &Context, body: &Stmt) -> Result<GuardedSto
 {
     match body {
         Stmt::Store(store) => {
-            let made = stored_alone(alloc, context, store)?;
-            Ok(made)
+            let guarded_store = stored_alone(alloc, context, store)?;
+            Ok(guarded_store)
         }
         Stmt::Bind(counter, whole, extent, inside) => {
             if let Some(e) = split_value(alloc, context, whole, *extent)? {
@@ -153,25 +156,30 @@ fn stored_by(alloc: Global, context: &Context, body: &Stmt) -> Result<GuardedSto
                     count: *extent,
                 };
                 let inner = in_loop(alloc, context, bound)?;
-                let made = stored_by(alloc, &inner, inside.get())?;
-                let own = guarded_with(
+                let guarded_store = stored_by(alloc, &inner, inside.get())?;
+                let guarded = guarded_with(
                     alloc,
-                    made,
-                    Standing {
+                    guarded_store,
+                    Replacement {
                         counter: *counter,
                         e,
                     },
                 )?;
-                return Ok(own);
+                return Ok(guarded);
             }
             let entered = enter_split(alloc, context, *counter, whole)?;
-            let mut made = stored_by(alloc, &entered.inner, inside.get())?;
-            if !guarded_lacks(&made, *counter) {
+            let mut guarded_store = stored_by(alloc, &entered.inner, inside.get())?;
+            if !guarded_lacks(&guarded_store, *counter) {
                 return Err(CodeFault::TooDeep);
             }
             let form = entered.into_form();
-            add_test(context.bounds.as_slice(), &mut made.guards, form, *extent)?;
-            Ok(made)
+            add_test(
+                context.bounds.as_slice(),
+                &mut guarded_store.guards,
+                form,
+                *extent,
+            )?;
+            Ok(guarded_store)
         }
         Stmt::Sequence(_, _) => Err(CodeFault::TooDeep),
         Stmt::For(_, _, _, _) => Err(CodeFault::TooDeep),
@@ -222,16 +230,16 @@ fn run_of_body(
 }
 
 /// A lane for each iteration of a loop whose variable no held form has.
-fn lanes_for(scope: &[Held], own: Bound) -> Result<VectorLanes, CodeFault>
-    ensures { IfOk result (AreLanes scope.now own) }
+fn lanes_for(scope: &[Held], bound: Bound) -> Result<VectorLanes, CodeFault>
+    ensures { IfOk result (AreLanes scope.now bound) }
 {
-    if mentions(scope, own.counter) {
+    if mentions(scope, bound.counter) {
         return Err(CodeFault::TooDeep);
     }
-    match LaneGroup::of_lanes(own.count) {
+    match LaneGroup::of_lanes(bound.count) {
         None => Err(CodeFault::TooDeep),
         Some(group) => Ok(VectorLanes {
-            counter: own.counter,
+            counter: bound.counter,
             group,
         }),
     }
@@ -243,14 +251,14 @@ fn emit_at_once(
     code: &mut Vec<u32>,
     site: &Site<'_>,
     context: &Context,
-    own: Bound,
+    bound: Bound,
     body: &Stmt,
 ) -> Result<(), CodeFault>
     ensures { OnOk result (EmitsStatement code.old.items code.new.items site.now.places.now site.now.scope.now (Meets
         context.now)
-        (stmts.For own.counter own.count vectorized body.now)) }
+        (stmts.For bound.counter bound.count vectorized body.now)) }
 {
-    let lanes = lanes_for(site.scope, own)?;
+    let lanes = lanes_for(site.scope, bound)?;
     let found = run_of_body(alloc, context, lanes, body)?;
     let mut words = Vec::new(alloc);
     let left = found.left.as_slice();
@@ -276,16 +284,16 @@ pub fn emit_vectorized(
     code: &mut Vec<u32>,
     site: &Site<'_>,
     context: &Context,
-    own: Bound,
+    bound: Bound,
     body: &Stmt,
 ) -> Result<(), CodeFault>
     ensures { OnOk result (EmitsStatement code.old.items code.new.items site.now.places.now site.now.scope.now (Meets
         context.now)
-        (stmts.For own.counter own.count vectorized body.now)) }
+        (stmts.For bound.counter bound.count vectorized body.now)) }
 {
-    match emit_starts(alloc, code, site, context, own, body)? {
+    match emit_starts(alloc, code, site, context, bound, body)? {
         None => {
-            emit_at_once(alloc, code, site, context, own, body)?;
+            emit_at_once(alloc, code, site, context, bound, body)?;
             Ok(())
         }
         Some(before) => {
@@ -293,7 +301,7 @@ pub fn emit_vectorized(
                 places: site.places,
                 scope: before.scope.as_slice(),
             };
-            emit_at_once(alloc, code, &inner, &before.context, own, body)?;
+            emit_at_once(alloc, code, &inner, &before.context, bound, body)?;
             Ok(())
         }
     }

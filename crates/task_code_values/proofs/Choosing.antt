@@ -64,31 +64,31 @@ picked vc va vb dc da db ec ea eb =
     ap (λ n. if n == 0 then db else da) ec ∙ ap (λ n. if vc == 0 then n else da) eb ∙ ap (λ n. if vc == 0 then vb else n) ea
 
 -- a word waits in the frame,
-record Waits (own : Setting) (funcs : Planes) (insns : List Insn) (word : ℕ) (f : ℕ → ℕ) (memory : List ℕ) (v : ℕ) : Type 0 where
+record Waits (setting : Setting) (funcs : Planes) (insns : List Insn) (word : ℕ) (f : ℕ → ℕ) (memory : List ℕ) (v : ℕ) : Type 0 where
   after : ℕ → ℕ
   left : List ℕ
-  line : Line own.world insns f memory after left
-  there : word_at own.world.text left (frame_word own.world own.places word) ≡ v
+  line : Line setting.world insns f memory after left
+  there : word_at setting.world.text left (frame_word setting.world setting.places word) ≡ v
   small : v < 2 ^ 32
   keeps : (q : ℕ) → IsBelow first_value q → after q ≡ f q
-  holds : HoldsFuncs own left funcs
-  before : (byte : ℕ) → IsBefore own.world own.places word byte → byte_at own.world.text left byte ≡ byte_at own.world.text memory byte
+  holds : HoldsFuncs setting left funcs
+  before : (byte : ℕ) → IsBefore setting.world setting.places word byte → byte_at setting.world.text left byte ≡ byte_at setting.world.text memory byte
   are_bytes : AreBytes memory → AreBytes left
 
 -- and two others stand in the stack's first registers
-record Stand (own : Setting) (funcs : Planes) (insns : List Insn) (word : ℕ) (f : ℕ → ℕ) (memory : List ℕ) (v first second : ℕ) : Type 0 where
+record Stand (setting : Setting) (funcs : Planes) (insns : List Insn) (word : ℕ) (f : ℕ → ℕ) (memory : List ℕ) (v first second : ℕ) : Type 0 where
   after : ℕ → ℕ
   left : List ℕ
-  line : Line own.world insns f memory after left
-  there : word_at own.world.text left (frame_word own.world own.places word) ≡ v
+  line : Line setting.world insns f memory after left
+  there : word_at setting.world.text left (frame_word setting.world setting.places word) ≡ v
   first_is : after first_value ≡ first
   second_is : after second_value ≡ second
   small : v < 2 ^ 32
   small_first : first < 2 ^ 32
   small_second : second < 2 ^ 32
   keeps : (q : ℕ) → IsBelow first_value q → after q ≡ f q
-  holds : HoldsFuncs own left funcs
-  before : (byte : ℕ) → IsBefore own.world own.places word byte → byte_at own.world.text left byte ≡ byte_at own.world.text memory byte
+  holds : HoldsFuncs setting left funcs
+  before : (byte : ℕ) → IsBefore setting.world setting.places word byte → byte_at setting.world.text left byte ≡ byte_at setting.world.text memory byte
   are_bytes : AreBytes memory → AreBytes left
 
 module _ (places : Places) (scope : List Held) where

@@ -152,9 +152,9 @@ module _ (places : Places) (scope : List Held) where
 
   can-load : (own : Setting) → IsSetting own → own.places ≡ places → (values : Values) (funcs : Planes) (memory : List ℕ)
       → HoldsFuncs own memory funcs → (source : Source)
-      (place : BufferLayout) (x y : ℕ) → place ≡ place_of places source → own.loaded (record { source = source; x = x; y = y }) ≡ true
-      → LoadsAt own.world place memory x y (reads_of own.inputs funcs source x y)
-  can-load own good at values funcs memory holds source place x y ep is =
+      (layout : BufferLayout) (x y : ℕ) → layout ≡ place_of places source → own.loaded (record { source = source; x = x; y = y }) ≡ true
+      → LoadsAt own.world layout memory x y (reads_of own.inputs funcs source x y)
+  can-load own good at values funcs memory holds source layout x y ep is =
       subst (λ p. LoadsAt own.world p memory x y (reads_of own.inputs funcs source x y)) (sym ep)
       (subst (λ ps. LoadsAt own.world (place_of ps source) memory x y (reads_of own.inputs funcs source x y)) at
       (loads-may own good funcs memory holds (record { source = source; x = x; y = y }) is))
@@ -167,11 +167,11 @@ module _ (places : Places) (scope : List Held) where
       let all = passes-parts own (loads reads values x ++ loads reads values y) (point ∷ []) (subst (Passes own) (loads_load reads values source x y) may) in
       (passes-parts own (loads reads values x) (loads reads values y) all.0, (and_parts (own.loaded point) true all.1).0)
 
-  pub load-deep : (source : Source) (place : BufferLayout) (x y : Expr) (point : PointIndexes) (first s : ℕ) (c0 c1 c2 c3 : List ℕ) → place ≡ place_of places source
-      → MakesValue c0 c1 places scope first s x → MakesRow c1 c2 places scope first s point y → MakesPixel c2 c3 scope place point.column point.row
+  pub load-deep : (source : Source) (layout : BufferLayout) (x y : Expr) (point : PointIndexes) (first s : ℕ) (c0 c1 c2 c3 : List ℕ) → layout ≡ place_of places source
+      → MakesValue c0 c1 places scope first s x → MakesRow c1 c2 places scope first s point y → MakesPixel c2 c3 scope layout point.column point.row
       first_value
       → MakesValue c0 c3 places scope first first_value (e.Load source x y)
-  load-deep source place x y point first s c0 c1 c2 c3 ep p0 y0 z = record {
+  load-deep source layout x y point first s c0 c1 c2 c3 ep p0 y0 z = record {
     insns = p0.insns ++ (y0.insns ++ z.insns);
     emits = emits_then p0.emits (emits_then y0.emits z.emits);
     short =
@@ -194,7 +194,7 @@ module _ (places : Places) (scope : List Held) where
         let yv = value reads values y in
         let q = y0.does own good at values holders p.after p.left funcs p.holds kp parts.0.1 (subst (λ n. n < 2 ^ 32) (sym p.value) p.small) in
         let kq = known w.hart values p.after q.after holders q.keeps kp in
-        let can = can-load own good at values funcs q.left q.holds source place xv yv ep parts.1 in
+        let can = can-load own good at values funcs q.left q.holds source layout xv yv ep parts.1 in
         let ex = subst (λ n. IsIndex values q.after point.column n) p.value q.column_is in
         let u = z.does w q.left values q.after xv yv (reads source xv yv) q.holds.size holders kq ex q.row_is p.small q.small can in
         let is = sym (value_load reads values source x y) in
@@ -339,11 +339,11 @@ module _ (places : Places) (scope : List Held) where
   remainder-deep-arm own a x c first s c0 c1 c2 eo ex u z =
       value-as own (e.Remainder a c) first first_value c0 c2 eo (remainder-deep a c first s c0 c1 c2 (subst (MakesValue c0 c1 places scope first s) ex u) z)
 
-  pub load-deep-arm : (own : Expr) (source : Source) (place : BufferLayout) (a b x y : Expr) (point : PointIndexes) (first s : ℕ) (c0 c1 c2 c3 : List ℕ)
+  pub load-deep-arm : (own : Expr) (source : Source) (layout : BufferLayout) (a b x y : Expr) (point : PointIndexes) (first s : ℕ) (c0 c1 c2 c3 : List ℕ)
       → own ≡ e.Load source a b
-      → x ≡ a → y ≡ b → place ≡ place_of places source → MakesValue c0 c1 places scope first s x → MakesRow c1 c2 places scope first s point y
-      → MakesPixel c2 c3 scope place point.column point.row first_value → MakesValue c0 c3 places scope first first_value own
-  load-deep-arm own source place a b x y point first s c0 c1 c2 c3 eo ex ey ep u v z =
+      → x ≡ a → y ≡ b → layout ≡ place_of places source → MakesValue c0 c1 places scope first s x → MakesRow c1 c2 places scope first s point y
+      → MakesPixel c2 c3 scope layout point.column point.row first_value → MakesValue c0 c3 places scope first first_value own
+  load-deep-arm own source layout a b x y point first s c0 c1 c2 c3 eo ex ey ep u v z =
       value-as own (e.Load source a b) first first_value c0 c3 eo
-      (load-deep source place a b point first s c0 c1 c2 c3 ep (subst (MakesValue c0 c1 places scope first s) ex u) (subst (MakesRow c1 c2 places
+      (load-deep source layout a b point first s c0 c1 c2 c3 ep (subst (MakesValue c0 c1 places scope first s) ex u) (subst (MakesRow c1 c2 places
       scope first s point) ey v) z)

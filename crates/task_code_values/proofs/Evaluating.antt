@@ -45,15 +45,15 @@ use Rattle.task_code_values.proofs.Literals.{of-operand}
 
 module _ (reads : Reads) (values : Values) where
   abbrev worth : Expr → ℕ
-  worth own = value reads values own
+  worth sum = value reads values sum
 
   pub value_number : (n : ℕ) → worth (e.Number n) ≡ n
   unfolding value
   value_number n = at_number ℕ (value_at reads values) n
 
-  pub value_linear : (own : Linear) → worth (e.Linear own) ≡ linear_value values own
+  pub value_linear : (sum : Linear) → worth (e.Linear sum) ≡ linear_value values sum
   unfolding value
-  value_linear own = at_linear ℕ (value_at reads values) own
+  value_linear sum = at_linear ℕ (value_at reads values) sum
 
   pub value_binary : (o : Operation) (a b : Expr) → worth (e.Binary o a b) ≡ word.applied o (worth a) (worth b)
   unfolding value
@@ -76,7 +76,7 @@ module _ (reads : Reads) (values : Values) where
   value_load source x y = at_load ℕ (value_at reads values) source x y
 
   abbrev seen-points : Expr → List Point
-  seen-points own = loads reads values own
+  seen-points sum = loads reads values sum
 
   loads_number : (n : ℕ) → seen-points (e.Number n) ≡ []
   unfolding seen
@@ -127,44 +127,44 @@ leaf-which scope r leaf s (inr h) = inr (inr h)
 
 module _ (places : Places) (scope : List Held) where
   abbrev Operand : List ℕ → List ℕ → ℕ → ℕ → ℕ → Expr → Type 0
-  Operand c0 c1 r leaf s own = MakesOperand c0 c1 places scope r leaf s own
+  Operand c0 c1 r leaf s new_expression = MakesOperand c0 c1 places scope r leaf s new_expression
 
   -- the same of an expression that is the same
-  pub operand-as : (own x : Expr) (r leaf s : ℕ) (c0 c1 : List ℕ) → own ≡ x → Operand c0 c1 r leaf s x → Operand c0 c1 r leaf s own
-  operand-as own x r leaf s c0 c1 eo z = subst (λ y. Operand c0 c1 r leaf s y) (sym eo) z
+  pub operand-as : (new_expression x : Expr) (r leaf s : ℕ) (c0 c1 : List ℕ) → new_expression ≡ x → Operand c0 c1 r leaf s x → Operand c0 c1 r leaf s new_expression
+  operand-as new_expression x r leaf s c0 c1 eo z = subst (λ y. Operand c0 c1 r leaf s y) (sym eo) z
 
-  leaf-made : (own : Expr) (r leaf s most : ℕ) (c0 c1 : List ℕ) (says : Values → ℕ) → IsLeafPlace r leaf → most ≡ size own
-      → MakesHeld c0 c1 most scope leaf s (λ hart values. says values) → ((reads : Reads) (values : Values) → says values ≡ value reads values own)
-      → ((values : Values) → says values < 2 ^ 32) → Operand c0 c1 r leaf s own
-  leaf-made own r leaf s most c0 c1 says place words x is small = record {
+  leaf-made : (new_expression : Expr) (r leaf s most : ℕ) (c0 c1 : List ℕ) (says : Values → ℕ) → IsLeafPlace r leaf → most ≡ size new_expression
+      → MakesHeld c0 c1 most scope leaf s (λ hart values. says values) → ((reads : Reads) (values : Values) → says values ≡ value reads values new_expression)
+      → ((values : Values) → says values < 2 ^ 32) → Operand c0 c1 r leaf s new_expression
+  leaf-made new_expression r leaf s most c0 c1 says layout words x is small = record {
     insns = x.insns;
     emits = x.emits;
     short = subst (λ n. length x.insns ≤ n) words x.short;
     source = x.source;
     which = leaf-which scope r leaf s x.which;
     does = λ w m values reads f l holders knows may.
-        let a = x.does w m w.hart values f l holders (leaf-free scope r leaf place holders) knows in
+        let a = x.does w m w.hart values f l holders (leaf-free scope r leaf layout holders) knows in
         record {
           after = a.after;
           line = a.line;
           value = a.value ∙ is reads values;
           small = subst (λ n. n < 2 ^ 32) (is reads values) (small values);
-          keeps = λ q k. let b = below-apart r leaf q (leaf-place r leaf place) k in a.others q b.0 b.1.0 b.1.1;
+          keeps = λ q k. let b = below-apart r leaf q (leaf-place r leaf layout) k in a.others q b.0 b.1.0 b.1.1;
         };
   }
 
-  pub number-operand : (own : Expr) (n r leaf s : ℕ) (c0 c1 : List ℕ) → own ≡ e.Number n → IsLeafPlace r leaf → n < 2 ^ 32
-      → MakesHeld c0 c1 2 scope leaf s (λ hart values. n) → Operand c0 c1 r leaf s own
-  number-operand own n r leaf s c0 c1 eo place small x =
-      operand-as own (e.Number n) r leaf s c0 c1 eo
-      (leaf-made (e.Number n) r leaf s 2 c0 c1 (λ values. n) place (sym (ap (λ (z : Size). z.words) (size_number n))) x
+  pub number-operand : (new_expression : Expr) (n r leaf s : ℕ) (c0 c1 : List ℕ) → new_expression ≡ e.Number n → IsLeafPlace r leaf → n < 2 ^ 32
+      → MakesHeld c0 c1 2 scope leaf s (λ hart values. n) → Operand c0 c1 r leaf s new_expression
+  number-operand new_expression n r leaf s c0 c1 eo layout small x =
+      operand-as new_expression (e.Number n) r leaf s c0 c1 eo
+      (leaf-made (e.Number n) r leaf s 2 c0 c1 (λ values. n) layout (sym (ap (λ (z : Size). z.words) (size_number n))) x
       (λ reads values. sym (value_number reads values n)) (λ values. small))
 
-  pub linear-operand : (own : Expr) (sum : Linear) (r leaf s : ℕ) (c0 c1 : List ℕ) → own ≡ e.Linear sum → IsLeafPlace r leaf
-      → MakesHeld c0 c1 (2 + 4 * length sum.terms) scope leaf s (λ hart values. linear_value values sum) → Operand c0 c1 r leaf s own
-  linear-operand own sum r leaf s c0 c1 eo place x =
-      operand-as own (e.Linear sum) r leaf s c0 c1 eo
-      (leaf-made (e.Linear sum) r leaf s (2 + 4 * length sum.terms) c0 c1 (λ values. linear_value values sum) place
+  pub linear-operand : (new_expression : Expr) (sum : Linear) (r leaf s : ℕ) (c0 c1 : List ℕ) → new_expression ≡ e.Linear sum → IsLeafPlace r leaf
+      → MakesHeld c0 c1 (2 + 4 * length sum.terms) scope leaf s (λ hart values. linear_value values sum) → Operand c0 c1 r leaf s new_expression
+  linear-operand new_expression sum r leaf s c0 c1 eo layout x =
+      operand-as new_expression (e.Linear sum) r leaf s c0 c1 eo
+      (leaf-made (e.Linear sum) r leaf s (2 + 4 * length sum.terms) c0 c1 (λ values. linear_value values sum) layout
       (sym (ap (λ (z : Size). z.words) (size_linear sum))) x
       (λ reads values. sym (value_linear reads values sum)) (λ values. linear-small values sum))
 
@@ -218,14 +218,15 @@ module _ (places : Places) (scope : List Held) where
     }
 
     -- of one operand
-    from-operand : (own a : Expr) (s most : ℕ) (says : ℕ → ℕ) (c0 c1 c2 : List ℕ) → size a + most ≤ size own
-        → ((reads : Reads) (values : Values) → loads reads values own ≡ loads reads values a)
-        → ((reads : Reads) (values : Values) → value reads values own ≡ says (value reads values a))
-        → Operand c0 c1 r r s a → MakesFrom c1 c2 most scope r s says → Operand c0 c2 r r r own
-    from-operand own a s most says c0 c1 c2 fits same is x z = record {
+    from-operand : (new_expression a : Expr) (s most : ℕ) (says : ℕ → ℕ) (c0 c1 c2 : List ℕ)
+        → size a + most ≤ size new_expression
+        → ((reads : Reads) (values : Values) → loads reads values new_expression ≡ loads reads values a)
+        → ((reads : Reads) (values : Values) → value reads values new_expression ≡ says (value reads values a))
+        → Operand c0 c1 r r s a → MakesFrom c1 c2 most scope r s says → Operand c0 c2 r r r new_expression
+    from-operand new_expression a s most says c0 c1 c2 fits same is x z = record {
       insns = x.insns ++ z.insns;
       emits = emits_then x.emits z.emits;
-      short = short-then x.insns z.insns (size a) most (size own) x.short z.short fits;
+      short = short-then x.insns z.insns (size a) most (size new_expression) x.short z.short fits;
       source = (high, ((λ g. omega (arith, g, low)), (λ g. omega (arith, g, low))));
       which = inl refl;
       does = λ w m values reads f l holders knows may.
@@ -319,13 +320,13 @@ module _ (places : Places) (scope : List Held) where
     -- an index stays while another one is found above
     index-stays : (index : PointIndex) (values : Values) (f g : ℕ → ℕ) (v : ℕ) → ((s : ℕ) → index ≡ indexes.Register s → g s ≡ f s)
         → IsIndex values f index v → IsIndex values g index v
-    index-stays (indexes.Sum own) values f g v same is = is
+    index-stays (indexes.Sum new_expression) values f g v same is = is
     index-stays (indexes.Register s) values f g v same is = same s refl ∙ is
 
-    pub load-operand : (source : Source) (place : BufferLayout) (x y : Expr) (column row : PointIndex) (c0 c1 c2 c3 : List ℕ) → place ≡ place_of places source
-        → MakesIndex c0 c1 places scope r column x → MakesIndex c1 c2 places scope (r + 1) row y → MakesPixel c2 c3 scope place column row r
+    pub load-operand : (source : Source) (layout : BufferLayout) (x y : Expr) (column row : PointIndex) (c0 c1 c2 c3 : List ℕ) → layout ≡ place_of places source
+        → MakesIndex c0 c1 places scope r column x → MakesIndex c1 c2 places scope (r + 1) row y → MakesPixel c2 c3 scope layout column row r
         → Operand c0 c3 r r r (e.Load source x y)
-    load-operand source place x y column row c0 c1 c2 c3 ep a b z = record {
+    load-operand source layout x y column row c0 c1 c2 c3 ep a b z = record {
       insns = a.insns ++ (b.insns ++ z.insns);
       emits = emits_then a.emits (emits_then b.emits z.emits);
       short =
@@ -369,63 +370,64 @@ module _ (places : Places) (scope : List Held) where
 
   -- ---- as the emitter calls them
 
-  -- a value that is no leaf stands in the stack's register
-  operand-own : (own : Expr) (r leaf : ℕ) (c0 c1 : List ℕ) → Operand c0 c1 r r r own → Operand c0 c1 r leaf r own
-  operand-own own r leaf c0 c1 x = record { insns = x.insns; emits = x.emits; short = x.short; source = x.source; which = inr (inl refl); does = x.does }
+  -- a value that is no leaf is in the stack's register
+  operand-own : (new_expression : Expr) (r leaf : ℕ) (c0 c1 : List ℕ) → Operand c0 c1 r r r new_expression
+      → Operand c0 c1 r leaf r new_expression
+  operand-own new_expression r leaf c0 c1 x = record { insns = x.insns; emits = x.emits; short = x.short; source = x.source; which = inr (inl refl); does = x.does }
 
-  module _ (r : ℕ) (low : 20 ≤ r) (own : Expr) (leaf : ℕ) where
+  module _ (r : ℕ) (low : 20 ≤ r) (new_expression : Expr) (leaf : ℕ) where
     abbrev Part : List ℕ → List ℕ → ℕ → ℕ → ℕ → Expr → Type 0
     Part c0 c1 q l s x = Operand c0 c1 q l s x
 
-    pub binary-arm : (o : Operation) (a b x y : Expr) (s t : ℕ) (c0 c1 c2 c3 : List ℕ) → r < 32 → own ≡ e.Binary o a b → x ≡ a → y ≡ b → Part c0 c1 r r s x
-        → Part c1 c2 (r + 1) address_register t y → MakesOfTwo c2 c3 4 r s t (word.applied o) → Operand c0 c3 r leaf r own
+    pub binary-arm : (o : Operation) (a b x y : Expr) (s t : ℕ) (c0 c1 c2 c3 : List ℕ) → r < 32 → new_expression ≡ e.Binary o a b → x ≡ a → y ≡ b → Part c0 c1 r r s x
+        → Part c1 c2 (r + 1) address_register t y → MakesOfTwo c2 c3 4 r s t (word.applied o) → Operand c0 c3 r leaf r new_expression
     binary-arm o a b x y s t c0 c1 c2 c3 high eo ex ey u v z =
-        operand-as own (e.Binary o a b) r leaf r c0 c3 eo (operand-own (e.Binary o a b) r leaf c0 c3
+        operand-as new_expression (e.Binary o a b) r leaf r c0 c3 eo (operand-own (e.Binary o a b) r leaf c0 c3
         (binary-operand r low high o a b s t c0 c1 c2 c3 (subst (Part c0 c1 r r s) ex u) (subst (Part c1 c2 (r + 1) address_register t) ey v) z))
 
-    pub immediate-arm : (o : Operation) (a b x y : Expr) (s : ℕ) (i : Immediate) (c0 c1 c2 : List ℕ) → r < 32 → own ≡ e.Binary o a b → x ≡ a → y ≡ b
+    pub immediate-arm : (o : Operation) (a b x y : Expr) (s : ℕ) (i : Immediate) (c0 c1 c2 : List ℕ) → r < 32 → new_expression ≡ e.Binary o a b → x ≡ a → y ≡ b
         → Part c0 c1 r r s x
-        → IsImmediate o y i → MakesOf c1 c2 3 r s (immediate_value i) → Operand c0 c2 r leaf r own
+        → IsImmediate o y i → MakesOf c1 c2 3 r s (immediate_value i) → Operand c0 c2 r leaf r new_expression
     immediate-arm o a b x y s i c0 c1 c2 high eo ex ey u is z =
         let en : b ≡ e.Number is.number = sym ey ∙ is.is in
-        operand-as own (e.Binary o a (e.Number is.number)) r leaf r c0 c2 (eo ∙ ap (λ k. e.Binary o a k) en)
+        operand-as new_expression (e.Binary o a (e.Number is.number)) r leaf r c0 c2 (eo ∙ ap (λ k. e.Binary o a k) en)
         (operand-own (e.Binary o a (e.Number is.number)) r leaf c0 c2
         (immediate-operand r low high o a is.number s i c0 c1 c2 is.small is.makes (subst (Part c0 c1 r r s) ex u) z))
 
-    pub divide-arm : (a x : Expr) (c s : ℕ) (c0 c1 c2 : List ℕ) → r < 32 → own ≡ e.Divide a c → x ≡ a → Part c0 c1 r r s x
-        → MakesFrom c1 c2 6 scope r s (λ v. word.divide v c) → Operand c0 c2 r leaf r own
+    pub divide-arm : (a x : Expr) (c s : ℕ) (c0 c1 c2 : List ℕ) → r < 32 → new_expression ≡ e.Divide a c → x ≡ a → Part c0 c1 r r s x
+        → MakesFrom c1 c2 6 scope r s (λ v. word.divide v c) → Operand c0 c2 r leaf r new_expression
     divide-arm a x c s c0 c1 c2 high eo ex u z =
-        operand-as own (e.Divide a c) r leaf r c0 c2 eo (operand-own (e.Divide a c) r leaf c0 c2
+        operand-as new_expression (e.Divide a c) r leaf r c0 c2 eo (operand-own (e.Divide a c) r leaf c0 c2
         (divide-operand r low high a c s c0 c1 c2 (subst (Part c0 c1 r r s) ex u) z))
 
-    pub remainder-arm : (a x : Expr) (c s : ℕ) (c0 c1 c2 : List ℕ) → r < 32 → own ≡ e.Remainder a c → x ≡ a → Part c0 c1 r r s x
-        → MakesFrom c1 c2 8 scope r s (λ v. word.remainder v c) → Operand c0 c2 r leaf r own
+    pub remainder-arm : (a x : Expr) (c s : ℕ) (c0 c1 c2 : List ℕ) → r < 32 → new_expression ≡ e.Remainder a c → x ≡ a → Part c0 c1 r r s x
+        → MakesFrom c1 c2 8 scope r s (λ v. word.remainder v c) → Operand c0 c2 r leaf r new_expression
     remainder-arm a x c s c0 c1 c2 high eo ex u z =
-        operand-as own (e.Remainder a c) r leaf r c0 c2 eo (operand-own (e.Remainder a c) r leaf c0 c2
+        operand-as new_expression (e.Remainder a c) r leaf r c0 c2 eo (operand-own (e.Remainder a c) r leaf c0 c2
         (remainder-operand r low high a c s c0 c1 c2 (subst (Part c0 c1 r r s) ex u) z))
 
-    pub select-arm : (c a b x y g : Expr) (s t u : ℕ) (c0 c1 c2 c3 c4 : List ℕ) → r + 2 < 32 → own ≡ e.Select c a b → x ≡ c → y ≡ a → g ≡ b
+    pub select-arm : (c a b x y g : Expr) (s t u : ℕ) (c0 c1 c2 c3 c4 : List ℕ) → r + 2 < 32 → new_expression ≡ e.Select c a b → x ≡ c → y ≡ a → g ≡ b
         → Part c0 c1 r r s x
-        → Part c1 c2 (r + 1) (r + 1) t y → Part c2 c3 (r + 2) (r + 2) u g → Selects c3 c4 r s t u → Operand c0 c4 r leaf r own
+        → Part c1 c2 (r + 1) (r + 1) t y → Part c2 c3 (r + 2) (r + 2) u g → Selects c3 c4 r s t u → Operand c0 c4 r leaf r new_expression
     select-arm c a b x y g s t u c0 c1 c2 c3 c4 room eo ex ey eg p q k z =
-        operand-as own (e.Select c a b) r leaf r c0 c4 eo (operand-own (e.Select c a b) r leaf c0 c4
+        operand-as new_expression (e.Select c a b) r leaf r c0 c4 eo (operand-own (e.Select c a b) r leaf c0 c4
         (select-operand r low (omega (arith, room)) c a b s t u c0 c1 c2 c3 c4 room (subst (Part c0 c1 r r s) ex p) (subst (Part c1 c2 (r + 1) (r +
         1) t) ey q)
         (subst (Part c2 c3 (r + 2) (r + 2) u) eg k) z))
 
-    pub load-arm : (source : Source) (place : BufferLayout) (a b x y : Expr) (column row : PointIndex) (c0 c1 c2 c3 : List ℕ) → r < 32
-        → own ≡ e.Load source a b → x ≡ a → y ≡ b
-        → place ≡ place_of places source → MakesIndex c0 c1 places scope r column x → MakesIndex c1 c2 places scope (r + 1) row y
-        → MakesPixel c2 c3 scope place column row r → Operand c0 c3 r leaf r own
-    load-arm source place a b x y column row c0 c1 c2 c3 high eo ex ey ep u v z =
-        operand-as own (e.Load source a b) r leaf r c0 c3 eo (operand-own (e.Load source a b) r leaf c0 c3
-        (load-operand r low high source place a b column row c0 c1 c2 c3 ep (subst (MakesIndex c0 c1 places scope r column) ex u)
+    pub load-arm : (source : Source) (layout : BufferLayout) (a b x y : Expr) (column row : PointIndex) (c0 c1 c2 c3 : List ℕ) → r < 32
+        → new_expression ≡ e.Load source a b → x ≡ a → y ≡ b
+        → layout ≡ place_of places source → MakesIndex c0 c1 places scope r column x → MakesIndex c1 c2 places scope (r + 1) row y
+        → MakesPixel c2 c3 scope layout column row r → Operand c0 c3 r leaf r new_expression
+    load-arm source layout a b x y column row c0 c1 c2 c3 high eo ex ey ep u v z =
+        operand-as new_expression (e.Load source a b) r leaf r c0 c3 eo (operand-own (e.Load source a b) r leaf c0 c3
+        (load-operand r low high source layout a b column row c0 c1 c2 c3 ep (subst (MakesIndex c0 c1 places scope r column) ex u)
         (subst (MakesIndex c1 c2 places scope (r + 1) row) ey v) z))
 
   -- ---- indexes
 
-  pub index-sum : (own : Expr) (sum : Linear) (r : ℕ) (c : List ℕ) → IsSum own sum → MakesIndex c c places scope r (indexes.Sum sum) own
-  index-sum own sum r c is = record {
+  pub index-sum : (new_expression : Expr) (sum : Linear) (r : ℕ) (c : List ℕ) → IsSum new_expression sum → MakesIndex c c places scope r (indexes.Sum sum) new_expression
+  index-sum new_expression sum r c is = record {
     insns = [];
     emits = emits-none c;
     short = let k = is.short in omega (arith, k);
@@ -440,9 +442,9 @@ module _ (places : Places) (scope : List Held) where
     };
   }
 
-  pub index-register : (own : Expr) (r s : ℕ) (c0 c1 : List ℕ) → IsStack r → Operand c0 c1 r r s own → MakesIndex c0 c1 places scope r
-      (indexes.Register s) own
-  index-register own r s c0 c1 is x = record {
+  pub index-register : (new_expression : Expr) (r s : ℕ) (c0 c1 : List ℕ) → IsStack r → Operand c0 c1 r r s new_expression → MakesIndex c0 c1 places scope r
+      (indexes.Register s) new_expression
+  index-register new_expression r s c0 c1 is x = record {
     insns = x.insns;
     emits = x.emits;
     short = let k = x.short in omega (arith, k);

@@ -44,86 +44,95 @@ agree-level (layer.Load source x y) =
     agrees _ _ x.left.firsts (ap (λ (n : Need). need_at (layer.Load source n y.left.needs)) x.is.same
     ∙ ap (λ (n : Need). need_at (layer.Load source x.right n)) y.is.same)
 
-all-agree : (own : Expr) → Agrees (depth_of own) (need_of own)
+all-agree : (expression : Expr) → Agrees (depth_of expression) (need_of expression)
 unfolding depth_of need_of
-all-agree own = folds_related Agrees depth_at need_at agree-level own
+all-agree expression = folds_related Agrees depth_at need_at agree-level expression
 
-pub depth-over : (own : Expr) → 0 < depth own → 12 < need own
-depth-over own some = let a = all-agree own in subst (λ (n : Need). 12 < n.count) a.same (a.many some)
+pub depth-over : (new_expression : Expr) → 0 < depth new_expression → 12 < need new_expression
+depth-over new_expression some = let a = all-agree new_expression in subst (λ (n : Need). 12 < n.count) a.same
+    (a.many some)
 
 -- ---- first operands
 
 -- an expression over the stack counts one more than its first operand does
 abbrev pub HasFirst : Expr → Expr → Type 0
-HasFirst own first = depth own ≡ (if nat_le (need own) 12 then 0 else suc (depth first))
+HasFirst expression first = depth expression ≡ (if nat_le (need expression) 12 then 0 else suc (depth first))
 
-has-first : (own first : Expr) (n : Need) → depth_of own ≡ over n (depth first) → HasFirst own first
-has-first own first n is =
+has-first : (expression first : Expr) (n : Need) → depth_of expression ≡ over n (depth first)
+    → HasFirst expression first
+has-first expression first n is =
     ap (λ (d : Depth). d.firsts) is
-    ∙ ap (λ (m : Need). if nat_le m.count 12 then 0 else suc (depth first)) (sym (ap (λ (d : Depth). d.needs) is) ∙ (all-agree own).same)
+    ∙ ap (λ (m : Need). if nat_le m.count 12 then 0 else suc (depth first)) (sym (ap (λ (d : Depth). d.needs) is) ∙ (all-agree expression).same)
 
-has-first-as : (own whole a x : Expr) → own ≡ whole → x ≡ a → HasFirst whole a → HasFirst own x
-has-first-as own whole a x eo ex is = subst (λ (y : Expr). HasFirst y x) (sym eo) (subst (λ (y : Expr). HasFirst whole y) (sym ex) is)
+has-first-as : (expression whole a x : Expr) → expression ≡ whole → x ≡ a → HasFirst whole a → HasFirst expression x
+has-first-as expression whole a x eo ex is = subst (λ (y : Expr). HasFirst y x) (sym eo) (subst (λ (y : Expr). HasFirst whole y) (sym ex) is)
 
-pub first-binary : (own : Expr) (o : Operation) (a b x : Expr) → own ≡ e.Binary o a b → x ≡ a → HasFirst own x
+pub first-binary : (expression : Expr) (o : Operation) (a b x : Expr) → expression ≡ e.Binary o a b → x ≡ a
+    → HasFirst expression x
 unfolding depth_of
-first-binary own o a b x eo ex =
-    has-first-as own (e.Binary o a b) a x eo ex (has-first (e.Binary o a b) a _ (at_binary Depth depth_at o a b))
+first-binary expression o a b x eo ex =
+    has-first-as expression (e.Binary o a b) a x eo ex (has-first (e.Binary o a b) a _ (at_binary Depth depth_at o a b))
 
-pub first-divide : (own a : Expr) (c : ℕ) (x : Expr) → own ≡ e.Divide a c → x ≡ a → HasFirst own x
+pub first-divide : (expression a : Expr) (c : ℕ) (x : Expr) → expression ≡ e.Divide a c → x ≡ a → HasFirst expression x
 unfolding depth_of
-first-divide own a c x eo ex = has-first-as own (e.Divide a c) a x eo ex (has-first (e.Divide a c) a _ (at_divide Depth depth_at a c))
+first-divide expression a c x eo ex = has-first-as expression (e.Divide a c) a x eo ex (has-first (e.Divide a c) a _ (at_divide Depth depth_at a c))
 
-pub first-remainder : (own a : Expr) (c : ℕ) (x : Expr) → own ≡ e.Remainder a c → x ≡ a → HasFirst own x
+pub first-remainder : (expression a : Expr) (c : ℕ) (x : Expr) → expression ≡ e.Remainder a c → x ≡ a
+    → HasFirst expression x
 unfolding depth_of
-first-remainder own a c x eo ex =
-    has-first-as own (e.Remainder a c) a x eo ex (has-first (e.Remainder a c) a _ (at_remainder Depth depth_at a c))
+first-remainder expression a c x eo ex =
+    has-first-as expression (e.Remainder a c) a x eo ex (has-first (e.Remainder a c) a _
+    (at_remainder Depth depth_at a c))
 
-pub first-select : (own c a b x : Expr) → own ≡ e.Select c a b → x ≡ c → HasFirst own x
+pub first-select : (expression c a b x : Expr) → expression ≡ e.Select c a b → x ≡ c → HasFirst expression x
 unfolding depth_of
-first-select own c a b x eo ex = has-first-as own (e.Select c a b) c x eo ex (has-first (e.Select c a b) c _ (at_select Depth depth_at c a b))
+first-select expression c a b x eo ex = has-first-as expression (e.Select c a b) c x eo ex (has-first (e.Select c a b) c _ (at_select Depth depth_at c a b))
 
-pub first-load : (own : Expr) (source : Source) (a b x : Expr) → own ≡ e.Load source a b → x ≡ a → HasFirst own x
+pub first-load : (expression : Expr) (source : Source) (a b x : Expr) → expression ≡ e.Load source a b → x ≡ a
+    → HasFirst expression x
 unfolding depth_of
-first-load own source a b x eo ex =
-    has-first-as own (e.Load source a b) a x eo ex (has-first (e.Load source a b) a _ (at_load Depth depth_at source a b))
+first-load expression source a b x eo ex =
+    has-first-as expression (e.Load source a b) a x eo ex (has-first (e.Load source a b) a _ (at_load Depth depth_at source a b))
 
 -- what is known of it, its first operand has one less of
-pub known-first : (own first : Expr) (k : ℕ) → HasFirst own first → 1 + k ≤ depth own → k ≤ depth first
-known-first own first k is some = by-test (nat_le (need own) 12) is
+pub known-first : (expression first : Expr) (k : ℕ) → HasFirst expression first → 1 + k ≤ depth expression
+    → k ≤ depth first
+known-first expression first k is some = by-test (nat_le (need expression) 12) is
   where
-    by-test : (t : Bool) → depth own ≡ (if t then 0 else suc (depth first)) → k ≤ depth first
+    by-test : (t : Bool) → depth expression ≡ (if t then 0 else suc (depth first)) → k ≤ depth first
     by-test true e = absurd (omega (arith, e, some))
     by-test false e = omega (arith, e, some)
 
 -- ---- counting them
 
-counted : (own x : Expr) (m first others k : ℕ) → HasFirst own x → need own ≡ max (need x) m
+counted : (expression x : Expr) (m first others k : ℕ) → HasFirst expression x → need expression ≡ max (need x) m
     → (first ≤ depth x) × (first ≡ 0 → need x ≤ 12) → others ≡ min m 13 → k ≤ 1 + first → (k ≡ 0 → (first ≡ 0) × (others ≤ 12))
-    → (0 < k → (0 < first) ⊎ (12 < others)) → (k ≤ depth own) × (k ≡ 0 → need own ≤ 12)
-counted own x m first others k is en knows eo most none some = (by-test (nat_le (need own) 12) refl is, few)
+    → (0 < k → (0 < first) ⊎ (12 < others)) → (k ≤ depth expression) × (k ≡ 0 → need expression ≤ 12)
+counted expression x m first others k is en knows eo most none some =
+    (by-test (nat_le (need expression) 12) refl is, few)
   where
-    few : k ≡ 0 → need own ≤ 12
+    few : k ≡ 0 → need expression ≤ 12
     few zero = let n = none zero in let l = knows.1 n.0 in let r = n.1 in omega (arith, en, l, r, eo)
 
-    many : (0 < first) ⊎ (12 < others) → 12 < need own
+    many : (0 < first) ⊎ (12 < others) → 12 < need expression
     many (inl g) = let d = depth-over x (let l = knows.0 in omega (arith, g, l)) in omega (arith, en, d)
     many (inr g) = omega (arith, en, g, eo)
 
-    by-test : (t : Bool) → nat_le (need own) 12 ≡ t → depth own ≡ (if t then 0 else suc (depth x)) → k ≤ depth own
+    by-test : (t : Bool) → nat_le (need expression) 12 ≡ t → depth expression ≡ (if t then 0 else suc (depth x))
+        → k ≤ depth expression
     by-test false e d = let l = knows.0 in omega (arith, d, l, most)
     by-test true e d =
-        let low : need own ≤ 12 = grind (arith, nat_tests, e) in
+        let low : need expression ≤ 12 = grind (arith, nat_tests, e) in
         let none-left : 0 < k → ⊥ = λ g. let n = many (some g) in omega (arith, n, low) in
         let zero : k ≤ 0 = omega (arith, none-left) in
         omega (arith, zero)
 
-need-as : (own whole : Expr) (n : Need) → own ≡ whole → need_of whole ≡ n → need own ≡ n.count
-need-as own whole n eo en = ap (λ (m : Need). m.count) (ap need_of eo ∙ en)
+need-as : (expression whole : Expr) (n : Need) → expression ≡ whole → need_of whole ≡ n → need expression ≡ n.count
+need-as expression whole n eo en = ap (λ (m : Need). m.count) (ap need_of eo ∙ en)
 
--- a first operand and what stands beside it
-first-as : (own x a : Expr) (m : ℕ) → x ≡ a → need own ≡ max (need a) m → need own ≡ max (need x) m
-first-as own x a m ex is = is ∙ ap (λ (y : Expr). max (need y) m) (sym ex)
+-- a first operand and what is beside it
+first-as : (expression x a : Expr) (m : ℕ) → x ≡ a → need expression ≡ max (need a) m → need expression ≡ max (need x) m
+first-as expression x a m ex is = is ∙ ap (λ (y : Expr). max (need y) m) (sym ex)
 
 beside-as : (y b : Expr) (k : ℕ) → y ≡ b → k ≡ min (beside_first (need_of y)) 13 → k ≡ min (beside_first (need_of b)) 13
 beside-as y b k ey is = is ∙ ap (λ (z : Expr). min (beside_first (need_of z)) 13) ey
@@ -133,59 +142,63 @@ abbrev pub IsMore : ℕ → ℕ → ℕ → Type 0
 IsMore first others k = (k ≤ 1 + first) × ((k ≡ 0 → (first ≡ 0) × (others ≤ 12)) × (0 < k → (0 < first) ⊎ (12 < others)))
 
 abbrev pub Counts : Expr → ℕ → Type 0
-Counts own k = (k ≤ depth own) × (k ≡ 0 → need own ≤ 12)
+Counts expression k = (k ≤ depth expression) × (k ≡ 0 → need expression ≤ 12)
 
-more : (own x : Expr) (m first others k : ℕ) → HasFirst own x → need own ≡ max (need x) m → Counts x first → others ≡ min m 13 → IsMore first others k
-    → Counts own k
-more own x m first others k is en knows eo says = counted own x m first others k is en knows eo says.0 says.1.0 says.1.1
+more : (expression x : Expr) (m first others k : ℕ) → HasFirst expression x → need expression ≡ max (need x) m → Counts x first → others ≡ min m 13 → IsMore first others k
+    → Counts expression k
+more expression x m first others k is en knows eo says = counted expression x m first others k is en knows eo says.0
+    says.1.0 says.1.1
 
-pub number-depth : (own : Expr) (n : ℕ) → own ≡ e.Number n → Counts own 0
-number-depth own n eo = let l = need-as own (e.Number n) _ eo (need_number n) in (omega arith, λ zero. omega (arith, l))
+pub number-depth : (expression : Expr) (n : ℕ) → expression ≡ e.Number n → Counts expression 0
+number-depth expression n eo = let l = need-as expression (e.Number n) _ eo (need_number n) in
+    (omega arith, λ zero. omega (arith, l))
 
-pub linear-depth : (own : Expr) (sum : Linear) → own ≡ e.Linear sum → Counts own 0
-linear-depth own sum eo = let l = need-as own (e.Linear sum) _ eo (need_linear sum) in (omega arith, λ zero. omega (arith, l))
+pub linear-depth : (expression : Expr) (sum : Linear) → expression ≡ e.Linear sum → Counts expression 0
+linear-depth expression sum eo = let l = need-as expression (e.Linear sum) _ eo (need_linear sum) in (omega arith, λ zero. omega (arith, l))
 
-pub binary-depth : (own : Expr) (o : Operation) (a b x y : Expr) (first others k : ℕ) → own ≡ e.Binary o a b → x ≡ a → y ≡ b → Counts x first
-    → others ≡ min (beside_first (need_of y)) 13 → IsMore first others k → Counts own k
-binary-depth own o a b x y first others k eo ex ey knows is says =
-    more own x _ first others k (first-binary own o a b x eo ex) (first-as own x a _ ex (need-as own (e.Binary o a b) _ eo (need_binary o a b))) knows
+pub binary-depth : (expression : Expr) (o : Operation) (a b x y : Expr) (first others k : ℕ) → expression ≡ e.Binary o a b → x ≡ a → y ≡ b → Counts x first
+    → others ≡ min (beside_first (need_of y)) 13 → IsMore first others k → Counts expression k
+binary-depth expression o a b x y first others k eo ex ey knows is says =
+    more expression x _ first others k (first-binary expression o a b x eo ex) (first-as expression x a _ ex (need-as expression (e.Binary o a b) _ eo (need_binary o a b))) knows
     (beside-as y b others ey is) says
 
-pub load-depth : (own : Expr) (source : Source) (a b x y : Expr) (first others k : ℕ) → own ≡ e.Load source a b → x ≡ a → y ≡ b → Counts x first
-    → others ≡ min (beside_first (need_of y)) 13 → IsMore first others k → Counts own k
-load-depth own source a b x y first others k eo ex ey knows is says =
-    more own x _ first others k (first-load own source a b x eo ex) (first-as own x a _ ex (need-as own (e.Load source a b) _ eo (need_load source a b)))
+pub load-depth : (expression : Expr) (source : Source) (a b x y : Expr) (first others k : ℕ) → expression ≡ e.Load source a b → x ≡ a → y ≡ b → Counts x first
+    → others ≡ min (beside_first (need_of y)) 13 → IsMore first others k → Counts expression k
+load-depth expression source a b x y first others k eo ex ey knows is says =
+    more expression x _ first others k (first-load expression source a b x eo ex) (first-as expression x a _ ex (need-as expression (e.Load source a b) _ eo (need_load source a b)))
     knows (beside-as y b others ey is) says
 
-pub divide-depth : (own a : Expr) (c : ℕ) (x : Expr) (first others k : ℕ) → own ≡ e.Divide a c → x ≡ a → Counts x first
-    → others ≡ min (divisor_need c) 13 → IsMore first others k → Counts own k
-divide-depth own a c x first others k eo ex knows is says =
-    more own x _ first others k (first-divide own a c x eo ex) (first-as own x a _ ex (need-as own (e.Divide a c) _ eo (need_divide a c))) knows is says
+pub divide-depth : (expression a : Expr) (c : ℕ) (x : Expr) (first others k : ℕ) → expression ≡ e.Divide a c → x ≡ a
+    → Counts x first
+    → others ≡ min (divisor_need c) 13 → IsMore first others k → Counts expression k
+divide-depth expression a c x first others k eo ex knows is says =
+    more expression x _ first others k (first-divide expression a c x eo ex) (first-as expression x a _ ex (need-as expression (e.Divide a c) _ eo (need_divide a c))) knows is says
 
-pub remainder-depth : (own a : Expr) (c : ℕ) (x : Expr) (first others k : ℕ) → own ≡ e.Remainder a c → x ≡ a → Counts x first
-    → others ≡ min (divisor_need c) 13 → IsMore first others k → Counts own k
-remainder-depth own a c x first others k eo ex knows is says =
-    more own x _ first others k (first-remainder own a c x eo ex) (first-as own x a _ ex (need-as own (e.Remainder a c) _ eo (need_remainder a c))) knows
+pub remainder-depth : (expression a : Expr) (c : ℕ) (x : Expr) (first others k : ℕ) → expression ≡ e.Remainder a c → x ≡ a → Counts x first
+    → others ≡ min (divisor_need c) 13 → IsMore first others k → Counts expression k
+remainder-depth expression a c x first others k eo ex knows is says =
+    more expression x _ first others k (first-remainder expression a c x eo ex) (first-as expression x a _ ex (need-as expression (e.Remainder a c) _ eo (need_remainder a c))) knows
     is says
 
-pub select-depth : (own c a b x y z : Expr) (first second third others k : ℕ) → own ≡ e.Select c a b → x ≡ c → y ≡ a → z ≡ b → Counts x first
-    → second ≡ min (1 + need y) 13 → third ≡ min (2 + need z) 13 → others ≡ max second third → IsMore first others k → Counts own k
-select-depth own c a b x y z first second third others k eo ex ey ez knows es et is says =
+pub select-depth : (expression c a b x y z : Expr) (first second third others k : ℕ) → expression ≡ e.Select c a b → x ≡ c → y ≡ a → z ≡ b → Counts x first
+    → second ≡ min (1 + need y) 13 → third ≡ min (2 + need z) 13 → others ≡ max second third → IsMore first others k → Counts expression k
+select-depth expression c a b x y z first second third others k eo ex ey ez knows es et is says =
     let m = ap need ey in
     let n = ap need ez in
-    more own x _ first others k (first-select own c a b x eo ex) (first-as own x c _ ex (need-as own (e.Select c a b) _ eo (need_select c a b))) knows
+    more expression x _ first others k (first-select expression c a b x eo ex) (first-as expression x c _ ex (need-as expression (e.Select c a b) _ eo (need_select c a b))) knows
     (omega (arith, es, et, is, m, n)) says
 
 -- ---- how high the stack grows
 
 abbrev pub IsHeight : ℕ → Expr → ℕ → Type 0
-IsHeight taken own k = k ≡ min (taken + need own) 13
+IsHeight taken expression k = k ≡ min (taken + need expression) 13
 
 height-as : (taken : ℕ) (x a : Expr) (k : ℕ) → x ≡ a → IsHeight taken x k → IsHeight taken a k
 height-as taken x a k ex is = subst (λ (y : Expr). IsHeight taken y k) ex is
 
-whole-height : (own : Expr) (taken n k : ℕ) → need own ≡ n → k ≡ min (taken + n) 13 → IsHeight taken own k
-whole-height own taken n k en is = omega (arith, en, is)
+whole-height : (expression : Expr) (taken n k : ℕ) → need expression ≡ n → k ≡ min (taken + n) 13
+    → IsHeight taken expression k
+whole-height expression taken n k en is = omega (arith, en, is)
 
 pair-height : (a b x y z : Expr) (taken first second k : ℕ) (t : Bool) → x ≡ a → y ≡ b → z ≡ b → IsHeight taken x first → IsHeight (taken + 1) y second
     → t ≡ (need_of z).is_leaf
@@ -195,39 +208,39 @@ pair-height a b x y z taken first second k t ex ey ez hx hy ht is =
     is (need a) (need b) (height-as taken x a first ex hx) (height-as (taken + 1) y b second ey hy)
     ∙ ap (λ (u : Bool). min (taken + max (need a) (if u then 0 else 1 + need b)) 13) (ht ∙ ap (λ (q : Expr). (need_of q).is_leaf) ez)
 
-pub binary-height : (own : Expr) (o : Operation) (a b x y z : Expr) (taken first second k : ℕ) (t : Bool) → own ≡ e.Binary o a b → x ≡ a → y ≡ b → z ≡ b
+pub binary-height : (expression : Expr) (o : Operation) (a b x y z : Expr) (taken first second k : ℕ) (t : Bool) → expression ≡ e.Binary o a b → x ≡ a → y ≡ b → z ≡ b
     → IsHeight taken x first → IsHeight (taken + 1) y second → t ≡ (need_of z).is_leaf
     → ((m n : ℕ) → first ≡ min (taken + m) 13 → second ≡ min (taken + 1 + n) 13 → k ≡ min (taken + max m (if t then 0 else 1 + n)) 13)
-    → IsHeight taken own k
-binary-height own o a b x y z taken first second k t eo ex ey ez hx hy ht is =
-    whole-height own taken _ k (need-as own (e.Binary o a b) _ eo (need_binary o a b)) (pair-height a b x y z taken first second k t ex ey ez hx hy ht is)
+    → IsHeight taken expression k
+binary-height expression o a b x y z taken first second k t eo ex ey ez hx hy ht is =
+    whole-height expression taken _ k (need-as expression (e.Binary o a b) _ eo (need_binary o a b)) (pair-height a b x y z taken first second k t ex ey ez hx hy ht is)
 
-pub load-height : (own : Expr) (source : Source) (a b x y z : Expr) (taken first second k : ℕ) (t : Bool) → own ≡ e.Load source a b → x ≡ a → y ≡ b
+pub load-height : (expression : Expr) (source : Source) (a b x y z : Expr) (taken first second k : ℕ) (t : Bool) → expression ≡ e.Load source a b → x ≡ a → y ≡ b
     → z ≡ b → IsHeight taken x first → IsHeight (taken + 1) y second → t ≡ (need_of z).is_leaf
     → ((m n : ℕ) → first ≡ min (taken + m) 13 → second ≡ min (taken + 1 + n) 13 → k ≡ min (taken + max m (if t then 0 else 1 + n)) 13)
-    → IsHeight taken own k
-load-height own source a b x y z taken first second k t eo ex ey ez hx hy ht is =
-    whole-height own taken _ k (need-as own (e.Load source a b) _ eo (need_load source a b)) (pair-height a b x y z taken first second k t ex ey ez hx hy
+    → IsHeight taken expression k
+load-height expression source a b x y z taken first second k t eo ex ey ez hx hy ht is =
+    whole-height expression taken _ k (need-as expression (e.Load source a b) _ eo (need_load source a b)) (pair-height a b x y z taken first second k t ex ey ez hx hy
     ht is)
 
-pub divide-height : (own a : Expr) (c : ℕ) (x : Expr) (taken first k : ℕ) → own ≡ e.Divide a c → x ≡ a → IsHeight taken x first
-    → ((m : ℕ) → first ≡ min (taken + m) 13 → k ≡ min (taken + max m (divisor_need c)) 13) → IsHeight taken own k
-divide-height own a c x taken first k eo ex hx is =
-    whole-height own taken _ k (need-as own (e.Divide a c) _ eo (need_divide a c)) (is (need a) (height-as taken x a first ex hx))
+pub divide-height : (expression a : Expr) (c : ℕ) (x : Expr) (taken first k : ℕ) → expression ≡ e.Divide a c → x ≡ a → IsHeight taken x first
+    → ((m : ℕ) → first ≡ min (taken + m) 13 → k ≡ min (taken + max m (divisor_need c)) 13) → IsHeight taken expression k
+divide-height expression a c x taken first k eo ex hx is =
+    whole-height expression taken _ k (need-as expression (e.Divide a c) _ eo (need_divide a c)) (is (need a) (height-as taken x a first ex hx))
 
-pub remainder-height : (own a : Expr) (c : ℕ) (x : Expr) (taken first k : ℕ) → own ≡ e.Remainder a c → x ≡ a → IsHeight taken x first
-    → ((m : ℕ) → first ≡ min (taken + m) 13 → k ≡ min (taken + max m (divisor_need c)) 13) → IsHeight taken own k
-remainder-height own a c x taken first k eo ex hx is =
-    whole-height own taken _ k (need-as own (e.Remainder a c) _ eo (need_remainder a c)) (is (need a) (height-as taken x a first ex hx))
+pub remainder-height : (expression a : Expr) (c : ℕ) (x : Expr) (taken first k : ℕ) → expression ≡ e.Remainder a c → x ≡ a → IsHeight taken x first
+    → ((m : ℕ) → first ≡ min (taken + m) 13 → k ≡ min (taken + max m (divisor_need c)) 13) → IsHeight taken expression k
+remainder-height expression a c x taken first k eo ex hx is =
+    whole-height expression taken _ k (need-as expression (e.Remainder a c) _ eo (need_remainder a c)) (is (need a) (height-as taken x a first ex hx))
 
-pub select-height : (own c a b x y z : Expr) (taken first second third k : ℕ) → own ≡ e.Select c a b → x ≡ c → y ≡ a → z ≡ b → IsHeight taken x first
+pub select-height : (expression c a b x y z : Expr) (taken first second third k : ℕ) → expression ≡ e.Select c a b → x ≡ c → y ≡ a → z ≡ b → IsHeight taken x first
     → IsHeight (taken + 1) y second → IsHeight (taken + 2) z third
     → ((l m n : ℕ) → first ≡ min (taken + l) 13 → second ≡ min (taken + 1 + m) 13 → third ≡ min (taken + 2 + n) 13
-    → k ≡ min (taken + max l (max (1 + m) (2 + n))) 13) → IsHeight taken own k
-select-height own c a b x y z taken first second third k eo ex ey ez hx hy hz is =
-    whole-height own taken _ k (need-as own (e.Select c a b) _ eo (need_select c a b)) (is (need c) (need a) (need b) (height-as taken x c first ex hx)
+    → k ≡ min (taken + max l (max (1 + m) (2 + n))) 13) → IsHeight taken expression k
+select-height expression c a b x y z taken first second third k eo ex ey ez hx hy hz is =
+    whole-height expression taken _ k (need-as expression (e.Select c a b) _ eo (need_select c a b)) (is (need c) (need a) (need b) (height-as taken x c first ex hx)
     (height-as (taken + 1) y a second ey hy) (height-as (taken + 2) z b third ez hz))
 
 -- registers that are all taken
-pub none-left : (own : Expr) (taken : ℕ) → 12 ≤ taken → IsHeight taken own 13
-none-left own taken all = let s = need-some own in omega (arith, all, s)
+pub none-left : (expression : Expr) (taken : ℕ) → 12 ≤ taken → IsHeight taken expression 13
+none-left expression taken all = let s = need-some expression in omega (arith, all, s)

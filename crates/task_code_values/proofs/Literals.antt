@@ -34,24 +34,24 @@ pub multiply-number : (operation : Operation) (n : ℕ) → operation ≡ op.Mul
 unfolding word.multiply
 multiply-number operation n eo = subst (λ o. IsImmediateNumber o n (immediates.Times n)) (sym eo) (λ v small. refl)
 
-pub is-immediate : (operation : Operation) (own : Expr) (n : ℕ) (i : Immediate) → own ≡ e.Number n → n < 2 ^ 32 → IsImmediateNumber operation n i
-    → IsImmediate operation own i
-is-immediate operation own n i eo small makes = record { number = n; is = eo; small = small; makes = makes }
+pub is-immediate : (operation : Operation) (expression : Expr) (n : ℕ) (i : Immediate) → expression ≡ e.Number n → n < 2 ^ 32 → IsImmediateNumber operation n i
+    → IsImmediate operation expression i
+is-immediate operation expression n i eo small makes = record { number = n; is = eo; small = small; makes = makes }
 
 -- ---- what they make
 
-made-as : (i own : Immediate) (r s : ℕ) (c0 c1 : List ℕ) → own ≡ i → MakesOf c0 c1 3 r s (immediate_value i) → MakesOf c0 c1 3 r s (immediate_value own)
-made-as i own r s c0 c1 eo x = subst (λ k. MakesOf c0 c1 3 r s (immediate_value k)) (sym eo) x
+made-as : (i own_immediate : Immediate) (r s : ℕ) (c0 c1 : List ℕ) → own_immediate ≡ i → MakesOf c0 c1 3 r s (immediate_value i) → MakesOf c0 c1 3 r s (immediate_value own_immediate)
+made-as i own_immediate r s c0 c1 eo x = subst (λ k. MakesOf c0 c1 3 r s (immediate_value k)) (sym eo) x
 
-pub plus-made : (own : Immediate) (n r s : ℕ) (c0 c1 : List ℕ) → own ≡ immediates.Plus n → MakesOf c0 c1 3 r s (λ v. (v + n) % 2 ^ 32)
-    → MakesOf c0 c1 3 r s (immediate_value own)
-plus-made own n r s c0 c1 eo x = made-as (immediates.Plus n) own r s c0 c1 eo x
+pub plus-made : (own_immediate : Immediate) (n r s : ℕ) (c0 c1 : List ℕ) → own_immediate ≡ immediates.Plus n → MakesOf c0 c1 3 r s (λ v. (v + n) % 2 ^ 32)
+    → MakesOf c0 c1 3 r s (immediate_value own_immediate)
+plus-made own_immediate n r s c0 c1 eo x = made-as (immediates.Plus n) own_immediate r s c0 c1 eo x
 
 -- what is made of the registers as they were is made of one
-pub times-made : (own : Immediate) (n r s : ℕ) (c0 c1 : List ℕ) → own ≡ immediates.Times n → Makes c0 c1 3 r (λ f. (f s * n) % 2 ^ 32)
-    → MakesOf c0 c1 3 r s (immediate_value own)
-times-made own n r s c0 c1 eo x =
-    made-as (immediates.Times n) own r s c0 c1 eo
+pub times-made : (own_immediate : Immediate) (n r s : ℕ) (c0 c1 : List ℕ) → own_immediate ≡ immediates.Times n → Makes c0 c1 3 r (λ f. (f s * n) % 2 ^ 32)
+    → MakesOf c0 c1 3 r s (immediate_value own_immediate)
+times-made own_immediate n r s c0 c1 eo x =
+    made-as (immediates.Times n) own_immediate r s c0 c1 eo
     (record { insns = x.insns; emits = x.emits; short = x.short; does = λ w m f l zero small. x.does w m f l zero })
 
 -- so it is of an operand

@@ -155,8 +155,8 @@ module _ (r a b : ℕ) (requires : IsPlace r × (IsSource a × IsSource b)) wher
   abbrev sb : IsSource b
   sb = requires.1.1
 
-  pub made-as : (o own : Operation) (c0 c1 : List ℕ) → own ≡ o → Made c0 c1 o → Made c0 c1 own
-  made-as o own c0 c1 e x = subst (λ k. Made c0 c1 k) (sym e) x
+  pub made-as : (o operation : Operation) (c0 c1 : List ℕ) → operation ≡ o → Made c0 c1 o → Made c0 c1 operation
+  made-as o operation c0 c1 e x = subst (λ k. Made c0 c1 k) (sym e) x
 
   pub made-add : (c0 c1 : List ℕ) → Emits c0 c1 (Alu alus.Add r a b ∷ []) → Made c0 c1 op.Add
   unfolding word.add

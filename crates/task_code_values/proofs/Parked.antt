@@ -128,10 +128,10 @@ module _ (places : Places) (scope : List Held) (all : are_registers scope ≡ tr
 
   -- ---- the point of a store
 
-  module _ (store : Store) (place : BufferLayout) (s t offset : ℕ) (c0 c1 c2 c3 c4 c5 c6 : List ℕ) where
-    pub point-made : place ≡ place_of places (sources.Func store.func) → OpensParking c0 c1 → MakesValue c1 c2 places scope 0 s store.x → Parks c2 c3 s
+  module _ (store : Store) (layout : BufferLayout) (s t offset : ℕ) (c0 c1 c2 c3 c4 c5 c6 : List ℕ) where
+    pub point-made : layout ≡ place_of places (sources.Func store.func) → OpensParking c0 c1 → MakesValue c1 c2 places scope 0 s store.x → Parks c2 c3 s
         → MakesValue c3 c4 places scope 0 t store.y → Unparks c4 c5 second_value
-        → ReachesPoint c5 c6 scope place (indexes.Register second_value) (indexes.Register t) second_value offset
+        → ReachesPoint c5 c6 scope layout (indexes.Register second_value) (indexes.Register t) second_value offset
         → MakesPoint c0 c6 places scope offset store
     point-made ep o x p y u z = record {
       insns = o.insns ++ (x.insns ++ (p.insns ++ (y.insns ++ (u.insns ++ z.insns))));
@@ -174,7 +174,7 @@ module _ (places : Places) (scope : List Held) (all : are_registers scope ≡ tr
           g.value ∙ d.keeps parking (above parking (omega arith)) ∙ c.there ∙ ap (λ n. n % 2 ^ 32) b.value ∙ own-word xv b.small in
           let is-y : g.after t ≡ yv =
           g.keeps t (apart-from scope second_value t holders (inr ((omega arith, omega arith), omega arith)) y.which) ∙ d.value in
-          let here : point_address own funcs values store ≡ address place w.hart xv yv =
+          let here : point_address own funcs values store ≡ address layout w.hart xv yv =
           ap (λ ps. address (place_of ps (sources.Func store.func)) w.hart xv yv) at-places ∙ ap (λ pl. address pl w.hart xv yv) (sym ep) in
           let e = z.does w d.left values g.after xv yv d.holds.size holders kg is-x is-y (subst (λ n. n < 2 ^ 32) here low) in
           let se = λ (n : ℕ) (h : IsKept scope n). e.keeps n (kept-below scope n second_value (omega arith) holders h) in

@@ -41,13 +41,13 @@ some-level (layer.Remainder a c) = let k = a.is in omega (arith, k)
 some-level (layer.Select c a b) = let k = c.is in omega (arith, k)
 some-level (layer.Load source x y) = let k = x.is in omega (arith, k)
 
-pub need-some : (own : Expr) → 1 ≤ need own
+pub need-some : (expression : Expr) → 1 ≤ need expression
 unfolding need_of
-need-some own = folds_related HasSome need_at need_at some-level own
+need-some expression = folds_related HasSome need_at need_at some-level expression
 
 -- what is no leaf fits
-stacked : (own whole : Expr) (n : Need) (r : ℕ) → own ≡ whole → need_of whole ≡ n → n.is_leaf ≡ false → FitsOperand own r → n.count + r ≤ 32
-stacked own whole n r eo en leaf fits =
+stacked : (expression whole : Expr) (n : Need) (r : ℕ) → expression ≡ whole → need_of whole ≡ n → n.is_leaf ≡ false → FitsOperand expression r → n.count + r ≤ 32
+stacked expression whole n r eo en leaf fits =
     let is = ap need_of eo ∙ en in
     subst (λ (y : Need). y.count + r ≤ 32) is (fits (ap (λ (y : Need). y.is_leaf) is ∙ leaf))
 
@@ -66,11 +66,12 @@ pair-fits a b r room =
     let s = need-some a in
     record { first = λ leaf. omega (arith, room); second = second-fits b (need a) r room; room = omega (arith, room, s) }
 
-pub binary-fits : (own : Expr) (o : Operation) (a b : Expr) (r : ℕ) → own ≡ e.Binary o a b → FitsOperand own r → PairFits a b r
-binary-fits own o a b r eo fits = pair-fits a b r (stacked own (e.Binary o a b) _ r eo (need_binary o a b) refl fits)
+pub binary-fits : (expression : Expr) (o : Operation) (a b : Expr) (r : ℕ) → expression ≡ e.Binary o a b → FitsOperand expression r → PairFits a b r
+binary-fits expression o a b r eo fits = pair-fits a b r (stacked expression (e.Binary o a b) _ r eo (need_binary o a b)
+    refl fits)
 
-pub load-fits : (own : Expr) (source : Source) (a b : Expr) (r : ℕ) → own ≡ e.Load source a b → FitsOperand own r → PairFits a b r
-load-fits own source a b r eo fits = pair-fits a b r (stacked own (e.Load source a b) _ r eo (need_load source a b) refl fits)
+pub load-fits : (expression : Expr) (source : Source) (a b : Expr) (r : ℕ) → expression ≡ e.Load source a b → FitsOperand expression r → PairFits a b r
+load-fits expression source a b r eo fits = pair-fits a b r (stacked expression (e.Load source a b) _ r eo (need_load source a b) refl fits)
 
 pub record DividedFits (a : Expr) (c r : ℕ) : Type 0 where
   pub first : FitsOperand a r
@@ -86,11 +87,14 @@ divided-fits a c r room =
     by-test true is l = absurd (omega (arith, l))
     by-test false is l = grind (arith, nat_tests, is)
 
-pub divide-fits : (own a : Expr) (c r : ℕ) → own ≡ e.Divide a c → FitsOperand own r → DividedFits a c r
-divide-fits own a c r eo fits = divided-fits a c r (stacked own (e.Divide a c) _ r eo (need_divide a c) refl fits)
+pub divide-fits : (expression a : Expr) (c r : ℕ) → expression ≡ e.Divide a c → FitsOperand expression r
+    → DividedFits a c r
+divide-fits expression a c r eo fits = divided-fits a c r (stacked expression (e.Divide a c) _ r eo (need_divide a c)
+    refl fits)
 
-pub remainder-fits : (own a : Expr) (c r : ℕ) → own ≡ e.Remainder a c → FitsOperand own r → DividedFits a c r
-remainder-fits own a c r eo fits = divided-fits a c r (stacked own (e.Remainder a c) _ r eo (need_remainder a c) refl fits)
+pub remainder-fits : (expression a : Expr) (c r : ℕ) → expression ≡ e.Remainder a c → FitsOperand expression r
+    → DividedFits a c r
+remainder-fits expression a c r eo fits = divided-fits a c r (stacked expression (e.Remainder a c) _ r eo (need_remainder a c) refl fits)
 
 pub record SelectFits (c a b : Expr) (r : ℕ) : Type 0 where
   pub first : FitsOperand c r
@@ -98,9 +102,10 @@ pub record SelectFits (c a b : Expr) (r : ℕ) : Type 0 where
   pub third : FitsOperand b (r + 2)
   pub room : r + 2 < 32
 
-pub select-fits : (own c a b : Expr) (r : ℕ) → own ≡ e.Select c a b → FitsOperand own r → SelectFits c a b r
-select-fits own c a b r eo fits =
-    let room = stacked own (e.Select c a b) _ r eo (need_select c a b) refl fits in
+pub select-fits : (new_expression c a b : Expr) (r : ℕ) → new_expression ≡ e.Select c a b
+    → FitsOperand new_expression r → SelectFits c a b r
+select-fits new_expression c a b r eo fits =
+    let room = stacked new_expression (e.Select c a b) _ r eo (need_select c a b) refl fits in
     let s = need-some b in
     record { first = λ leaf. omega (arith, room); second = λ leaf. omega (arith, room); third = λ leaf. omega (arith, room); room = omega (arith, room, s) }
 
@@ -109,43 +114,45 @@ pub fits-as : (x a : Expr) (r : ℕ) → x ≡ a → FitsOperand a r → FitsOpe
 fits-as x a r ex fits = subst (λ (y : Expr). FitsOperand y r) (sym ex) fits
 
 -- a value that is no leaf has its first register
-pub roomy : (own : Expr) (r : ℕ) → (need_of own).is_leaf ≡ false → FitsOperand own r → r < 32
-roomy own r leaf fits = let l = fits leaf in let s = need-some own in omega (arith, l, s)
+pub roomy : (expression : Expr) (r : ℕ) → (need_of expression).is_leaf ≡ false → FitsOperand expression r → r < 32
+roomy expression r leaf fits = let l = fits leaf in let s = need-some expression in omega (arith, l, s)
 
 -- ---- loop variables
 
 module _ (scope : List Held) where
   abbrev AreHeld : Expr → Type 0
-  AreHeld own = are_held scope own ≡ true
+  AreHeld expression = are_held scope expression ≡ true
 
-  pub held-linear : (own : Expr) (sum : Linear) → own ≡ e.Linear sum → AreHeld own → have_registers scope sum.terms ≡ true
+  pub held-linear : (expression : Expr) (sum : Linear) → expression ≡ e.Linear sum → AreHeld expression → have_registers scope sum.terms ≡ true
   unfolding are_held
-  held-linear own sum eo held = sym (ap (are_held scope) eo ∙ at_linear Bool (are_held_at scope) sum) ∙ held
+  held-linear expression sum eo held = sym (ap (are_held scope) eo ∙ at_linear Bool (are_held_at scope) sum) ∙ held
 
-  pub held-binary : (own : Expr) (o : Operation) (a b : Expr) → own ≡ e.Binary o a b → AreHeld own → AreHeld a × AreHeld b
+  pub held-binary : (expression : Expr) (o : Operation) (a b : Expr) → expression ≡ e.Binary o a b → AreHeld expression → AreHeld a × AreHeld b
   unfolding are_held
-  held-binary own o a b eo held =
+  held-binary expression o a b eo held =
       and_parts (are_held scope a) (are_held scope b) (sym (ap (are_held scope) eo ∙ at_binary Bool (are_held_at scope) o a b) ∙ held)
 
-  pub held-divide : (own a : Expr) (c : ℕ) → own ≡ e.Divide a c → AreHeld own → AreHeld a
+  pub held-divide : (expression a : Expr) (c : ℕ) → expression ≡ e.Divide a c → AreHeld expression → AreHeld a
   unfolding are_held
-  held-divide own a c eo held = sym (ap (are_held scope) eo ∙ at_divide Bool (are_held_at scope) a c) ∙ held
+  held-divide expression a c eo held = sym (ap (are_held scope) eo ∙ at_divide Bool (are_held_at scope) a c) ∙ held
 
-  pub held-remainder : (own a : Expr) (c : ℕ) → own ≡ e.Remainder a c → AreHeld own → AreHeld a
+  pub held-remainder : (expression a : Expr) (c : ℕ) → expression ≡ e.Remainder a c → AreHeld expression → AreHeld a
   unfolding are_held
-  held-remainder own a c eo held = sym (ap (are_held scope) eo ∙ at_remainder Bool (are_held_at scope) a c) ∙ held
+  held-remainder expression a c eo held = sym (ap (are_held scope) eo ∙ at_remainder Bool (are_held_at scope) a c) ∙
+      held
 
-  pub held-select : (own c a b : Expr) → own ≡ e.Select c a b → AreHeld own → AreHeld c × AreHeld a × AreHeld b
+  pub held-select : (expression c a b : Expr) → expression ≡ e.Select c a b → AreHeld expression
+      → AreHeld c × AreHeld a × AreHeld b
   unfolding are_held
-  held-select own c a b eo held =
+  held-select expression c a b eo held =
       let k = and_parts (are_held scope c) (are_held scope a && are_held scope b) (sym (ap (are_held scope) eo
       ∙ at_select Bool (are_held_at scope) c a b) ∙ held) in
       let j = and_parts (are_held scope a) (are_held scope b) k.1 in
       (k.0, j.0, j.1)
 
-  pub held-load : (own : Expr) (source : Source) (a b : Expr) → own ≡ e.Load source a b → AreHeld own → AreHeld a × AreHeld b
+  pub held-load : (expression : Expr) (source : Source) (a b : Expr) → expression ≡ e.Load source a b → AreHeld expression → AreHeld a × AreHeld b
   unfolding are_held
-  held-load own source a b eo held =
+  held-load expression source a b eo held =
       and_parts (are_held scope a) (are_held scope b) (sym (ap (are_held scope) eo ∙ at_load Bool (are_held_at scope) source a b) ∙ held)
 
   pub held-as : (x a : Expr) → x ≡ a → AreHeld a → AreHeld x
@@ -158,10 +165,10 @@ module _ (scope : List Held) where
 
 -- ---- sums
 
-pub sum-number : (own : Expr) (n : ℕ) (sum : Linear) → own ≡ e.Number n → ((values : Values) → linear_value values sum ≡ n) → length sum.terms ≡ 0
-    → IsSum own sum
+pub sum-number : (expression : Expr) (n : ℕ) (sum : Linear) → expression ≡ e.Number n → ((values : Values) → linear_value values sum ≡ n) → length sum.terms ≡ 0
+    → IsSum expression sum
 unfolding value
-sum-number own n sum eo is few = record {
+sum-number expression n sum eo is few = record {
   value_is = λ reads values. ap (value reads values) eo ∙ at_number ℕ (value_at reads values) n ∙ sym (is values);
   held = λ scope held. none scope sum.terms few;
   short = let w = ap size eo ∙ ap (λ (z : Size). z.words) (size_number n) in omega (arith, w, few);
@@ -171,64 +178,72 @@ sum-number own n sum eo is few = record {
     none scope [] z = refl
     none scope (first ∷ others) z = absurd (omega (arith, z))
 
-pub sum-linear : (own : Expr) (l sum : Linear) → own ≡ e.Linear l → sum ≡ l → IsSum own sum
+pub sum-linear : (expression : Expr) (l sum : Linear) → expression ≡ e.Linear l → sum ≡ l → IsSum expression sum
 unfolding value
-sum-linear own l sum eo same = record {
+sum-linear expression l sum eo same = record {
   value_is = λ reads values. ap (value reads values) eo ∙ at_linear ℕ (value_at reads values) l ∙ ap (linear_value values) (sym same);
-  held = λ scope held. ap (λ (k : Linear). have_registers scope k.terms) same ∙ held-linear scope own l eo held;
+  held = λ scope held. ap (λ (k : Linear). have_registers scope k.terms) same ∙ held-linear scope expression l eo held;
   short = let w = ap size eo ∙ ap (λ (z : Size). z.words) (size_linear l) in let n = ap (λ (k : Linear). length k.terms) same in omega (arith, w, n);
 }
 
-through : (own whole : Expr) (n : Need) → own ≡ whole → need_of whole ≡ n → n.is_leaf ≡ false → (need_of own).is_leaf ≡ false
-through own whole n eo en leaf = ap (λ (y : Need). y.is_leaf) (ap need_of eo ∙ en) ∙ leaf
+through : (expression whole : Expr) (n : Need) → expression ≡ whole → need_of whole ≡ n → n.is_leaf ≡ false → (need_of expression).is_leaf ≡ false
+through expression whole n eo en leaf = ap (λ (y : Need). y.is_leaf) (ap need_of eo ∙ en) ∙ leaf
 
-pub binary-is-no-leaf : (own : Expr) (o : Operation) (a b : Expr) → own ≡ e.Binary o a b → (need_of own).is_leaf ≡ false
-binary-is-no-leaf own o a b eo = through own (e.Binary o a b) _ eo (need_binary o a b) refl
+pub binary-is-no-leaf : (expression : Expr) (o : Operation) (a b : Expr) → expression ≡ e.Binary o a b
+    → (need_of expression).is_leaf ≡ false
+binary-is-no-leaf expression o a b eo = through expression (e.Binary o a b) _ eo (need_binary o a b) refl
 
-pub divide-is-no-leaf : (own a : Expr) (c : ℕ) → own ≡ e.Divide a c → (need_of own).is_leaf ≡ false
-divide-is-no-leaf own a c eo = through own (e.Divide a c) _ eo (need_divide a c) refl
+pub divide-is-no-leaf : (expression a : Expr) (c : ℕ) → expression ≡ e.Divide a c → (need_of expression).is_leaf ≡ false
+divide-is-no-leaf expression a c eo = through expression (e.Divide a c) _ eo (need_divide a c) refl
 
-pub remainder-is-no-leaf : (own a : Expr) (c : ℕ) → own ≡ e.Remainder a c → (need_of own).is_leaf ≡ false
-remainder-is-no-leaf own a c eo = through own (e.Remainder a c) _ eo (need_remainder a c) refl
+pub remainder-is-no-leaf : (expression a : Expr) (c : ℕ) → expression ≡ e.Remainder a c
+    → (need_of expression).is_leaf ≡ false
+remainder-is-no-leaf expression a c eo = through expression (e.Remainder a c) _ eo (need_remainder a c) refl
 
-pub select-is-no-leaf : (own c a b : Expr) → own ≡ e.Select c a b → (need_of own).is_leaf ≡ false
-select-is-no-leaf own c a b eo = through own (e.Select c a b) _ eo (need_select c a b) refl
+pub select-is-no-leaf : (expression c a b : Expr) → expression ≡ e.Select c a b → (need_of expression).is_leaf ≡ false
+select-is-no-leaf expression c a b eo = through expression (e.Select c a b) _ eo (need_select c a b) refl
 
-pub load-is-no-leaf : (own : Expr) (source : Source) (a b : Expr) → own ≡ e.Load source a b → (need_of own).is_leaf ≡ false
-load-is-no-leaf own source a b eo = through own (e.Load source a b) _ eo (need_load source a b) refl
+pub load-is-no-leaf : (expression : Expr) (source : Source) (a b : Expr) → expression ≡ e.Load source a b → (need_of expression).is_leaf ≡ false
+load-is-no-leaf expression source a b eo = through expression (e.Load source a b) _ eo (need_load source a b) refl
 
 -- ---- sizes
 
-part-smaller : (own whole x a : Expr) → own ≡ whole → x ≡ a → size-Expr a < size-Expr whole → size-Expr x < size-Expr own
-part-smaller own whole x a eo ex less =
+part-smaller : (expression whole x a : Expr) → expression ≡ whole → x ≡ a → size-Expr a < size-Expr whole → size-Expr x < size-Expr expression
+part-smaller expression whole x a eo ex less =
     subst (λ (y : Expr). size-Expr x < size-Expr y) (sym eo) (subst (λ (y : Expr). size-Expr y < size-Expr whole) (sym ex) less)
 
-pub binary-first : (own : Expr) (o : Operation) (a b x : Expr) → own ≡ e.Binary o a b → x ≡ a → size-Expr x < size-Expr own
-binary-first own o a b x eo ex = part-smaller own (e.Binary o a b) x a eo ex (let h = sized-Binary o a b in omega (arith, h))
+pub binary-first : (expression : Expr) (o : Operation) (a b x : Expr) → expression ≡ e.Binary o a b → x ≡ a → size-Expr x < size-Expr expression
+binary-first expression o a b x eo ex = part-smaller expression (e.Binary o a b) x a eo ex (let h = sized-Binary o a b in omega (arith, h))
 
-pub binary-second : (own : Expr) (o : Operation) (a b x : Expr) → own ≡ e.Binary o a b → x ≡ b → size-Expr x < size-Expr own
-binary-second own o a b x eo ex = part-smaller own (e.Binary o a b) x b eo ex (let h = sized-Binary o a b in omega (arith, h))
+pub binary-second : (expression : Expr) (o : Operation) (a b x : Expr) → expression ≡ e.Binary o a b → x ≡ b → size-Expr x < size-Expr expression
+binary-second expression o a b x eo ex = part-smaller expression (e.Binary o a b) x b eo ex (let h = sized-Binary o a b in omega (arith, h))
 
-pub divide-first : (own a x : Expr) (c : ℕ) → own ≡ e.Divide a c → x ≡ a → size-Expr x < size-Expr own
-divide-first own a x c eo ex = part-smaller own (e.Divide a c) x a eo ex (let h = sized-Divide a c in omega (arith, h))
+pub divide-first : (expression a x : Expr) (c : ℕ) → expression ≡ e.Divide a c → x ≡ a
+    → size-Expr x < size-Expr expression
+divide-first expression a x c eo ex = part-smaller expression (e.Divide a c) x a eo ex
+    (let h = sized-Divide a c in omega (arith, h))
 
-pub remainder-first : (own a x : Expr) (c : ℕ) → own ≡ e.Remainder a c → x ≡ a → size-Expr x < size-Expr own
-remainder-first own a x c eo ex = part-smaller own (e.Remainder a c) x a eo ex (let h = sized-Remainder a c in omega (arith, h))
+pub remainder-first : (expression a x : Expr) (c : ℕ) → expression ≡ e.Remainder a c → x ≡ a
+    → size-Expr x < size-Expr expression
+remainder-first expression a x c eo ex = part-smaller expression (e.Remainder a c) x a eo ex (let h = sized-Remainder a c in omega (arith, h))
 
-pub select-first : (own c a b x : Expr) → own ≡ e.Select c a b → x ≡ c → size-Expr x < size-Expr own
-select-first own c a b x eo ex = part-smaller own (e.Select c a b) x c eo ex (let h = sized-Select c a b in omega (arith, h))
+pub select-first : (expression c a b x : Expr) → expression ≡ e.Select c a b → x ≡ c
+    → size-Expr x < size-Expr expression
+select-first expression c a b x eo ex = part-smaller expression (e.Select c a b) x c eo ex (let h = sized-Select c a b in omega (arith, h))
 
-pub select-second : (own c a b x : Expr) → own ≡ e.Select c a b → x ≡ a → size-Expr x < size-Expr own
-select-second own c a b x eo ex = part-smaller own (e.Select c a b) x a eo ex (let h = sized-Select c a b in omega (arith, h))
+pub select-second : (expression c a b x : Expr) → expression ≡ e.Select c a b → x ≡ a
+    → size-Expr x < size-Expr expression
+select-second expression c a b x eo ex = part-smaller expression (e.Select c a b) x a eo ex (let h = sized-Select c a b in omega (arith, h))
 
-pub select-third : (own c a b x : Expr) → own ≡ e.Select c a b → x ≡ b → size-Expr x < size-Expr own
-select-third own c a b x eo ex = part-smaller own (e.Select c a b) x b eo ex (let h = sized-Select c a b in omega (arith, h))
+pub select-third : (expression c a b x : Expr) → expression ≡ e.Select c a b → x ≡ b
+    → size-Expr x < size-Expr expression
+select-third expression c a b x eo ex = part-smaller expression (e.Select c a b) x b eo ex (let h = sized-Select c a b in omega (arith, h))
 
-pub load-first : (own : Expr) (source : Source) (a b x : Expr) → own ≡ e.Load source a b → x ≡ a → size-Expr x < size-Expr own
-load-first own source a b x eo ex = part-smaller own (e.Load source a b) x a eo ex (let h = sized-Load source a b in omega (arith, h))
+pub load-first : (expression : Expr) (source : Source) (a b x : Expr) → expression ≡ e.Load source a b → x ≡ a → size-Expr x < size-Expr expression
+load-first expression source a b x eo ex = part-smaller expression (e.Load source a b) x a eo ex (let h = sized-Load source a b in omega (arith, h))
 
-pub load-second : (own : Expr) (source : Source) (a b x : Expr) → own ≡ e.Load source a b → x ≡ b → size-Expr x < size-Expr own
-load-second own source a b x eo ex = part-smaller own (e.Load source a b) x b eo ex (let h = sized-Load source a b in omega (arith, h))
+pub load-second : (expression : Expr) (source : Source) (a b x : Expr) → expression ≡ e.Load source a b → x ≡ b → size-Expr x < size-Expr expression
+load-second expression source a b x eo ex = part-smaller expression (e.Load source a b) x b eo ex (let h = sized-Load source a b in omega (arith, h))
 
 -- a part's measure
 pub part-measure : (m n t : ℕ) → 2 * n ≡ t → m < n → 2 * m < t

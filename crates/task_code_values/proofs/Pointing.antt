@@ -66,18 +66,18 @@ pixel-loaded pixels.Bytes n = refl
 -- ---- a load
 
 module _ (w : World) (m : List ℕ) (l : length m ≡ w.size) where
-  pub fetched : (place : BufferLayout) (f : ℕ → ℕ) (r base offset a pixel : ℕ) → IsStack r → base < 32 → Fits offset → offset < 2 ^ 32
-      → (f base + offset) % 2 ^ 32 ≡ a → HasPixel w place m a pixel → Leaves w m (Load (load_op place.pixels) r base (lower offset) ∷ []) f r r pixel
-  fetched place f r base offset a pixel is lb fit small e has =
+  pub fetched : (layout : BufferLayout) (f : ℕ → ℕ) (r base offset a pixel : ℕ) → IsStack r → base < 32 → Fits offset → offset < 2 ^ 32
+      → (f base + offset) % 2 ^ 32 ≡ a → HasPixel w layout m a pixel → Leaves w m (Load (load_op layout.pixels) r base (lower offset) ∷ []) f r r pixel
+  fetched layout f r base offset a pixel is lb fit small e has =
       let low = is.0 in
       let high = is.1 in
-      let op = load_op place.pixels in
+      let op = load_op layout.pixels in
       let v = loaded op (number_in w.text m (load_size op) a) in
       let line = rules.load w f m l op r base a (lower offset) (omega (arith, low)) high lb (at-offset (f base) offset a fit small e) has.may in
       record {
         after = update f r v;
         line = line;
-        value = update-same f r v ∙ pixel-loaded place.pixels _ ∙ has.holds;
+        value = update-same f r v ∙ pixel-loaded layout.pixels _ ∙ has.holds;
         small = has.is_word;
         keeps = λ q k. update-other f r v q (below-apart r r q (inr (refl, high)) k).0;
       }
@@ -93,38 +93,38 @@ leaves-behind w m is js f g r s v line same a = record {
   keeps = λ q k. a.keeps q k ∙ same q k;
 }
 
-module _ (scope : List Held) (place : BufferLayout) (x y : Linear) (form : AffineForm) (r base offset : ℕ) (is : IsStack r) (point : IsPoint place x y form) where
+module _ (scope : List Held) (layout : BufferLayout) (x y : Linear) (form : AffineForm) (r base offset : ℕ) (is : IsStack r) (point : IsPoint layout x y form) where
   -- at two sums
   pub point-loaded : (c0 c1 c2 : List ℕ) → MakesFormAddress c0 c1 scope form r (record { register = base; offset = offset })
-      → Emits c1 c2 (Load (load_op place.pixels) r base (lower offset) ∷ []) → LoadsPoint c0 c2 scope place x y r
+      → Emits c1 c2 (Load (load_op layout.pixels) r base (lower offset) ∷ []) → LoadsPoint c0 c2 scope layout x y r
   point-loaded c0 c1 c2 a z = record {
-    insns = a.insns ++ (Load (load_op place.pixels) r base (lower offset) ∷ []);
+    insns = a.insns ++ (Load (load_op layout.pixels) r base (lower offset) ∷ []);
     emits = emits_then a.emits z;
     short =
         let few = point.few in
         let most = base-most form.per_hart in
-        short-then a.insns (Load (load_op place.pixels) r base (lower offset) ∷ []) (sum_words form.per_hart form.sum.terms) 1
+        short-then a.insns (Load (load_op layout.pixels) r base (lower offset) ∷ []) (sum_words form.per_hart form.sum.terms) 1
         (7 + 4 * (length x.terms + length y.terms)) a.short (omega arith) (omega (arith, few, most));
     does = λ w m values f pixel l holders knows has.
         let free = working-free scope r holders (inr is) in
         let t = a.does w m w.hart values f l holders free knows in
-        let e = t.value ∙ point.value w.hart values ∙ own-word (address place w.hart (linear_value values x) (linear_value values y)) has.low in
-        let u = fetched w m l place t.after r base offset (address place w.hart (linear_value values x) (linear_value values y)) pixel is a.low
+        let e = t.value ∙ point.value w.hart values ∙ own-word (address layout w.hart (linear_value values x) (linear_value values y)) has.low in
+        let u = fetched w m l layout t.after r base offset (address layout w.hart (linear_value values x) (linear_value values y)) pixel is a.low
         a.fits a.small e has in
-        leaves-behind w m a.insns (Load (load_op place.pixels) r base (lower offset) ∷ []) f t.after r r pixel t.line
+        leaves-behind w m a.insns (Load (load_op layout.pixels) r base (lower offset) ∷ []) f t.after r r pixel t.line
         (λ q k. let b = below-apart r r q (inr (refl, is.1)) k in t.others q b.0 b.1.0 b.1.1) u;
   }
 
-  -- and so many bytes after
+  -- and this many bytes after
   pub behind-loaded : (c0 c1 c2 c3 : List ℕ) → MakesFormAddress c0 c1 scope form address_register (record { register = base; offset = offset })
-      → Emits c1 c2 (Alu alus.Add r r base ∷ []) → Emits c2 c3 (Load (load_op place.pixels) r r (lower offset) ∷ []) → LoadsBehind c0 c3 scope place x y r
+      → Emits c1 c2 (Alu alus.Add r r base ∷ []) → Emits c2 c3 (Load (load_op layout.pixels) r r (lower offset) ∷ []) → LoadsBehind c0 c3 scope layout x y r
   behind-loaded c0 c1 c2 c3 a y1 z = record {
-    insns = a.insns ++ (Alu alus.Add r r base ∷ Load (load_op place.pixels) r r (lower offset) ∷ []);
+    insns = a.insns ++ (Alu alus.Add r r base ∷ Load (load_op layout.pixels) r r (lower offset) ∷ []);
     emits = emits_then a.emits (emits_then y1 z);
     short =
         let few = point.few in
         let most = base-most form.per_hart in
-        short-then a.insns (Alu alus.Add r r base ∷ Load (load_op place.pixels) r r (lower offset) ∷ []) (sum_words form.per_hart form.sum.terms) 2
+        short-then a.insns (Alu alus.Add r r base ∷ Load (load_op layout.pixels) r r (lower offset) ∷ []) (sum_words form.per_hart form.sum.terms) 2
         (8 + 4 * (length x.terms + length y.terms)) a.short (omega arith) (omega (arith, few, most));
     does = λ w m values f at pixel l holders knows eat has.
         let low = is.0 in
@@ -136,14 +136,14 @@ module _ (scope : List Held) (place : BufferLayout) (x y : Linear) (form : Affin
         let t = a.does w m w.hart values f l holders free knows in
         let e-r = t.others r n15 n13 n14 in
         let b = t.after base in
-        let p = address place w.hart (linear_value values x) (linear_value values y) in
+        let p = address layout w.hart (linear_value values x) (linear_value values y) in
         let eb : (b + offset) % 2 ^ 32 ≡ p % 2 ^ 32 = t.value ∙ point.value w.hart values in
         let i = alu-sets w m l alus.Add t.after r r base (f r) b (omega (arith, low)) high high a.low e-r refl in
         let e : (i.after r + offset) % 2 ^ 32 ≡ at = ap (λ n. (n + offset) % 2 ^ 32) i.value ∙ moved (f r) b offset p eb ∙ eat in
-        let u = fetched w m l place i.after r r offset at pixel is high a.fits a.small e has in
-        let second = leaves-behind w m (Alu alus.Add r r base ∷ []) (Load (load_op place.pixels) r r (lower offset) ∷ []) t.after i.after r r pixel i.line
+        let u = fetched w m l layout i.after r r offset at pixel is high a.fits a.small e has in
+        let second = leaves-behind w m (Alu alus.Add r r base ∷ []) (Load (load_op layout.pixels) r r (lower offset) ∷ []) t.after i.after r r pixel i.line
         (λ q k. i.others q (below-apart r r q (inr (refl, high)) k).0) u in
-        leaves-behind w m a.insns (Alu alus.Add r r base ∷ Load (load_op place.pixels) r r (lower offset) ∷ []) f t.after r r pixel t.line
+        leaves-behind w m a.insns (Alu alus.Add r r base ∷ Load (load_op layout.pixels) r r (lower offset) ∷ []) f t.after r r pixel t.line
         (λ q k. let d = below-apart r address_register q (inl refl) k in t.others q d.0 d.1.0 d.1.1) second;
   }
     where
@@ -191,37 +191,39 @@ row-bytes y row = mul-mod_second y row (2 ^ 32)
 no-rows : (w x : ℕ) → 0 * w + x ≡ x
 no-rows w x = let z : 0 * w ≡ 0 = omega arith in ap (λ n. n + x) z ∙ (let g : 0 + x ≡ x = omega arith in g)
 
-module _ (place : BufferLayout) (hart x y : ℕ) (low : address place hart x y < 2 ^ 32) where
+module _ (layout : BufferLayout) (hart x y : ℕ) (low : address layout hart x y < 2 ^ 32) where
   abbrev b : ℕ
-  b = pixel_bytes place.pixels
+  b = pixel_bytes layout.pixels
 
   abbrev start : ℕ
-  start = place.start + place.distance * hart
+  start = layout.start + layout.distance * hart
 
   abbrev whole : ℕ
-  whole = address place hart x y
+  whole = address layout hart x y
 
-  parts : whole ≡ start + (y * (b * place.width) + x * b)
-  parts = ap (λ n. start + n) (sym (spread-out b place.width x y))
+  parts : whole ≡ start + (y * (b * layout.width) + x * b)
+  parts = ap (λ n. start + n) (sym (spread-out b layout.width x y))
 
   grouped-rows : (p q n : ℕ) → p % 2 ^ 32 ≡ q % 2 ^ 32 → whole ≡ q + n → (p % 2 ^ 32 + n) % 2 ^ 32 ≡ whole
   grouped-rows p q n e g = omega (arith, e, g, low)
 
-  first-rows : (v : ℕ) → v ≡ 0 → ((y * ((b * place.width) % 2 ^ 32)) % 2 ^ 32 + address place hart x v) % 2 ^ 32 ≡ whole
+  first-rows : (v : ℕ) → v ≡ 0 → ((y * ((b * layout.width) % 2 ^ 32)) % 2 ^ 32 + address layout hart x v) % 2 ^ 32 ≡
+      whole
   first-rows v none =
-      let e : address place hart x v ≡ start + b * x = ap (λ n. start + b * (n * place.width + x)) none ∙ ap (λ n. start + b * n) (no-rows place.width x) in
+      let e : address layout hart x v ≡ start + b * x = ap (λ n. start + b * (n * layout.width + x)) none ∙ ap (λ n. start + b * n) (no-rows layout.width x) in
       let c : x * b ≡ b * x = mul_comm x b in
-      let r = y * (b * place.width) in
+      let r = y * (b * layout.width) in
       let g : whole ≡ r + (start + b * x) = parts ∙ (let k : start + (r + x * b) ≡ r + (start + x * b) = omega arith in k) ∙ ap (λ n. r + (start + n)) c in
-      ap (λ n. ((y * ((b * place.width) % 2 ^ 32)) % 2 ^ 32 + n) % 2 ^ 32) e
-      ∙ grouped-rows (y * ((b * place.width) % 2 ^ 32)) r (start + b * x) (row-bytes y (b * place.width)) g
+      ap (λ n. ((y * ((b * layout.width) % 2 ^ 32)) % 2 ^ 32 + n) % 2 ^ 32) e
+      ∙ grouped-rows (y * ((b * layout.width) % 2 ^ 32)) r (start + b * x) (row-bytes y (b * layout.width)) g
 
-  pub first-columns : (v : ℕ) → v ≡ 0 → ((x * b) % 2 ^ 32 + address place hart v y) % 2 ^ 32 ≡ whole
+  pub first-columns : (v : ℕ) → v ≡ 0 → ((x * b) % 2 ^ 32 + address layout hart v y) % 2 ^ 32 ≡ whole
   first-columns v none =
-      let n = y * place.width in
+      let n = y * layout.width in
       let z : n + 0 ≡ n = omega arith in
-      let e : address place hart v y ≡ start + b * n = ap (λ k. start + b * (n + k)) none ∙ ap (λ k. start + b * k) z in
-      let c : y * (b * place.width) ≡ b * n = sym (mul_assoc y b place.width) ∙ ap (λ k. k * place.width) (mul_comm y b) ∙ mul_assoc b y place.width in
+      let e : address layout hart v y ≡ start + b * n = ap (λ k. start + b * (n + k)) none ∙ ap (λ k. start + b * k) z
+      in
+      let c : y * (b * layout.width) ≡ b * n = sym (mul_assoc y b layout.width) ∙ ap (λ k. k * layout.width) (mul_comm y b) ∙ mul_assoc b y layout.width in
       let g : whole ≡ x * b + (start + b * n) = parts ∙ ap (λ k. start + (k + x * b)) c ∙ (let k : start + (b * n + x * b) ≡ x * b + (start + b * n)
       = omega arith in k) in
       ap (λ k. ((x * b) % 2 ^ 32 + k) % 2 ^ 32) e ∙ grouped-rows (x * b) (x * b) (start + b * n) refl g
@@ -230,42 +232,42 @@ module _ (place : BufferLayout) (hart x y : ℕ) (low : address place hart x y <
   both-added p q k n e g = omega (arith, e, g, low)
 
   pub both-first : (u v : ℕ) → u ≡ 0 → v ≡ 0
-      → (((x * b) % 2 ^ 32 + (y * ((b * place.width) % 2 ^ 32)) % 2 ^ 32) % 2 ^ 32 + address place hart u v) % 2 ^ 32 ≡ whole
+      → (((x * b) % 2 ^ 32 + (y * ((b * layout.width) % 2 ^ 32)) % 2 ^ 32) % 2 ^ 32 + address layout hart u v) % 2 ^ 32 ≡ whole
   both-first u v eu ev =
-      let r = (x * b) % 2 ^ 32 + (y * ((b * place.width) % 2 ^ 32)) % 2 ^ 32 in
+      let r = (x * b) % 2 ^ 32 + (y * ((b * layout.width) % 2 ^ 32)) % 2 ^ 32 in
       let z : b * 0 ≡ 0 = omega arith in
       let s : start + 0 ≡ start = omega arith in
-      let e : address place hart u v ≡ start =
-      ap (λ k. start + b * (v * place.width + k)) eu ∙ ap (λ k. start + b * (k * place.width + 0)) ev ∙ ap (λ k. start + b * k) (no-rows place.width 0)
+      let e : address layout hart u v ≡ start =
+      ap (λ k. start + b * (v * layout.width + k)) eu ∙ ap (λ k. start + b * (k * layout.width + 0)) ev ∙ ap (λ k. start + b * k) (no-rows layout.width 0)
       ∙ ap (λ k. start + k) z ∙ s in
       ap (λ k. (r % 2 ^ 32 + k) % 2 ^ 32) e
-      ∙ both-added (x * b) (y * ((b * place.width) % 2 ^ 32)) (y * (b * place.width)) start (row-bytes y (b * place.width)) parts
+      ∙ both-added (x * b) (y * ((b * layout.width) % 2 ^ 32)) (y * (b * layout.width)) start (row-bytes y (b * layout.width)) parts
 
 -- ---- indexes
 
-pub can-pixel : (w : World) (place : BufferLayout) (m : List ℕ) (x y pixel : ℕ) → LoadsAt w place m x y pixel → HasPixel w place m (address place w.hart x y) pixel
-can-pixel w place m x y pixel can = record { low = can.low; may = can.may; holds = can.holds; is_word = can.is_word }
+pub can-pixel : (w : World) (layout : BufferLayout) (m : List ℕ) (x y pixel : ℕ) → LoadsAt w layout m x y pixel → HasPixel w layout m (address layout w.hart x y) pixel
+can-pixel w layout m x y pixel can = record { low = can.low; may = can.may; holds = can.holds; is_word = can.is_word }
 
 -- a sum that is 0
-pub record IsZero (own : Linear) : Type 0 where
-  pub none : (values : Values) → linear_value values own ≡ 0
-  pub few : length own.terms ≡ 0
+pub record IsZero (new_sum : Linear) : Type 0 where
+  pub none : (values : Values) → linear_value values new_sum ≡ 0
+  pub few : length new_sum.terms ≡ 0
 
-module _ (scope : List Held) (place : BufferLayout) (r : ℕ) (is : IsStack r) where
+module _ (scope : List Held) (layout : BufferLayout) (r : ℕ) (is : IsStack r) where
   abbrev Pixel : List ℕ → List ℕ → PointIndex → PointIndex → Type 0
-  Pixel c0 c1 column row = MakesPixel c0 c1 scope place column row r
+  Pixel c0 c1 column row = MakesPixel c0 c1 scope layout column row r
 
   pub pixel-as : (column row x y : PointIndex) (c0 c1 : List ℕ) → column ≡ x → row ≡ y → Pixel c0 c1 x y → Pixel c0 c1 column row
   pixel-as column row x y c0 c1 ex ey z = subst (λ k. Pixel c0 c1 k row) (sym ex) (subst (λ k. Pixel c0 c1 x k) (sym ey) z)
 
-  pub pixel-sums : (x y : Linear) (c0 c1 : List ℕ) → LoadsPoint c0 c1 scope place x y r → Pixel c0 c1 (indexes.Sum x) (indexes.Sum y)
+  pub pixel-sums : (x y : Linear) (c0 c1 : List ℕ) → LoadsPoint c0 c1 scope layout x y r → Pixel c0 c1 (indexes.Sum x) (indexes.Sum y)
   pixel-sums x y c0 c1 z = record {
     insns = z.insns;
     emits = z.emits;
     short = let k = z.short in omega (arith, k);
     does = λ w m values f xv yv pixel l holders knows ex ey lx ly can.
-        z.does w m values f pixel l holders knows (subst (λ i. HasPixel w place m (address place w.hart i (linear_value values y)) pixel) (sym ex)
-        (subst (λ j. HasPixel w place m (address place w.hart xv j) pixel) (sym ey) (can-pixel w place m xv yv pixel can)));
+        z.does w m values f pixel l holders knows (subst (λ i. HasPixel w layout m (address layout w.hart i (linear_value values y)) pixel) (sym ex)
+        (subst (λ j. HasPixel w layout m (address layout w.hart xv j) pixel) (sym ey) (can-pixel w layout m xv yv pixel can)));
   }
 
   -- the scope is known after code that changes r and the scratch registers
@@ -278,7 +280,7 @@ module _ (scope : List Held) (place : BufferLayout) (r : ℕ) (is : IsStack r) w
       b.1.0 b.1.1) knows
 
   pub pixel-row : (x zero : Linear) (t : ℕ) (c0 c1 c2 : List ℕ) → IsZero zero
-      → Makes c0 c1 3 r (λ f. (f t * ((pixel_bytes place.pixels * place.width) % 2 ^ 32)) % 2 ^ 32) → LoadsBehind c1 c2 scope place x zero r
+      → Makes c0 c1 3 r (λ f. (f t * ((pixel_bytes layout.pixels * layout.width) % 2 ^ 32)) % 2 ^ 32) → LoadsBehind c1 c2 scope layout x zero r
       → Pixel c0 c2 (indexes.Sum x) (indexes.Register t)
   pixel-row x zero t c0 c1 c2 nil y z = record {
     insns = y.insns ++ z.insns;
@@ -286,40 +288,40 @@ module _ (scope : List Held) (place : BufferLayout) (r : ℕ) (is : IsStack r) w
     short = let n = nil.few in short-then y.insns z.insns 3 (8 + 4 * (length x.terms + length zero.terms)) (2 + 4 * length x.terms + 0 + 13) y.short
         z.short (omega (arith, n));
     does = λ w m values f xv yv pixel l holders knows ex ey lx ly can.
-        let row = (pixel_bytes place.pixels * place.width) % 2 ^ 32 in
+        let row = (pixel_bytes layout.pixels * layout.width) % 2 ^ 32 in
         let a = y.does w m f l (knows-zero w.hart scope values f knows) in
         let k = known-behind r (inl refl) is.1 w.hart values f a.after holders a.others knows in
-        let e : (a.after r + address place w.hart (linear_value values x) (linear_value values zero)) % 2 ^ 32 ≡ address place w.hart xv yv =
-        ap (λ n. (n + address place w.hart (linear_value values x) (linear_value values zero)) % 2 ^ 32) (a.value ∙ ap (λ n. (n * row) % 2 ^ 32) ey)
-        ∙ ap (λ i. ((yv * row) % 2 ^ 32 + address place w.hart i (linear_value values zero)) % 2 ^ 32) ex
-        ∙ first-rows place w.hart xv yv can.low (linear_value values zero) (nil.none values) in
-        let u = z.does w m values a.after (address place w.hart xv yv) pixel l holders k e (can-pixel w place m xv yv pixel can) in
+        let e : (a.after r + address layout w.hart (linear_value values x) (linear_value values zero)) % 2 ^ 32 ≡ address layout w.hart xv yv =
+        ap (λ n. (n + address layout w.hart (linear_value values x) (linear_value values zero)) % 2 ^ 32) (a.value ∙ ap (λ n. (n * row) % 2 ^ 32) ey)
+        ∙ ap (λ i. ((yv * row) % 2 ^ 32 + address layout w.hart i (linear_value values zero)) % 2 ^ 32) ex
+        ∙ first-rows layout w.hart xv yv can.low (linear_value values zero) (nil.none values) in
+        let u = z.does w m values a.after (address layout w.hart xv yv) pixel l holders k e (can-pixel w layout m xv yv pixel can) in
         leaves-behind w m y.insns z.insns f a.after r r pixel a.line (λ q h. let b = below-apart r r q (inr (refl, is.1)) h in a.others q b.0 b.1.0 b.1.1) u;
   }
 
-  pub pixel-column : (y zero : Linear) (s : ℕ) (c0 c1 c2 : List ℕ) → IsZero zero → Makes c0 c1 1 r (λ f. (f s * pixel_bytes place.pixels) % 2 ^ 32)
-      → LoadsBehind c1 c2 scope place zero y r → Pixel c0 c2 (indexes.Register s) (indexes.Sum y)
+  pub pixel-column : (y zero : Linear) (s : ℕ) (c0 c1 c2 : List ℕ) → IsZero zero → Makes c0 c1 1 r (λ f. (f s * pixel_bytes layout.pixels) % 2 ^ 32)
+      → LoadsBehind c1 c2 scope layout zero y r → Pixel c0 c2 (indexes.Register s) (indexes.Sum y)
   pixel-column y zero s c0 c1 c2 nil x z = record {
     insns = x.insns ++ z.insns;
     emits = emits_then x.emits z.emits;
     short = let n = nil.few in short-then x.insns z.insns 1 (8 + 4 * (length zero.terms + length y.terms)) (0 + (2 + 4 * length y.terms) + 13)
         x.short z.short (omega (arith, n));
     does = λ w m values f xv yv pixel l holders knows ex ey lx ly can.
-        let b = pixel_bytes place.pixels in
+        let b = pixel_bytes layout.pixels in
         let a = x.does w m f l (knows-zero w.hart scope values f knows) in
         let k = known-behind r (inl refl) is.1 w.hart values f a.after holders a.others knows in
-        let e : (a.after r + address place w.hart (linear_value values zero) (linear_value values y)) % 2 ^ 32 ≡ address place w.hart xv yv =
-        ap (λ n. (n + address place w.hart (linear_value values zero) (linear_value values y)) % 2 ^ 32) (a.value ∙ ap (λ n. (n * b) % 2 ^ 32) ex)
-        ∙ ap (λ j. ((xv * b) % 2 ^ 32 + address place w.hart (linear_value values zero) j) % 2 ^ 32) ey
-        ∙ first-columns place w.hart xv yv can.low (linear_value values zero) (nil.none values) in
-        let u = z.does w m values a.after (address place w.hart xv yv) pixel l holders k e (can-pixel w place m xv yv pixel can) in
+        let e : (a.after r + address layout w.hart (linear_value values zero) (linear_value values y)) % 2 ^ 32 ≡ address layout w.hart xv yv =
+        ap (λ n. (n + address layout w.hart (linear_value values zero) (linear_value values y)) % 2 ^ 32) (a.value ∙ ap (λ n. (n * b) % 2 ^ 32) ex)
+        ∙ ap (λ j. ((xv * b) % 2 ^ 32 + address layout w.hart (linear_value values zero) j) % 2 ^ 32) ey
+        ∙ first-columns layout w.hart xv yv can.low (linear_value values zero) (nil.none values) in
+        let u = z.does w m values a.after (address layout w.hart xv yv) pixel l holders k e (can-pixel w layout m xv yv pixel can) in
         leaves-behind w m x.insns z.insns f a.after r r pixel a.line (λ q h. let d = below-apart r r q (inr (refl, is.1)) h in a.others q d.0 d.1.0 d.1.1) u;
   }
 
   pub pixel-both : (zero : Linear) (s t : ℕ) (c0 c1 c2 c3 c4 : List ℕ) → IsZero zero → StandsIn scope (r + 1) (indexes.Register t)
-      → Makes c0 c1 1 r (λ f. (f s * pixel_bytes place.pixels) % 2 ^ 32)
-      → Makes c1 c2 3 (r + 1) (λ f. (f t * ((pixel_bytes place.pixels * place.width) % 2 ^ 32)) % 2 ^ 32) → Emits c2 c3 (Alu alus.Add r r (r + 1) ∷ [])
-      → LoadsBehind c3 c4 scope place zero zero r → Pixel c0 c4 (indexes.Register s) (indexes.Register t)
+      → Makes c0 c1 1 r (λ f. (f s * pixel_bytes layout.pixels) % 2 ^ 32)
+      → Makes c1 c2 3 (r + 1) (λ f. (f t * ((pixel_bytes layout.pixels * layout.width) % 2 ^ 32)) % 2 ^ 32) → Emits c2 c3 (Alu alus.Add r r (r + 1) ∷ [])
+      → LoadsBehind c3 c4 scope layout zero zero r → Pixel c0 c4 (indexes.Register s) (indexes.Register t)
   pixel-both zero s t c0 c1 c2 c3 c4 nil stands x y o z = record {
     insns = x.insns ++ (y.insns ++ ((Alu alus.Add r r (r + 1) ∷ []) ++ z.insns));
     emits = emits_then x.emits (emits_then y.emits (emits_then o z.emits));
@@ -334,8 +336,8 @@ module _ (scope : List Held) (place : BufferLayout) (r : ℕ) (is : IsStack r) w
         let high = is.1 in
         let next = stands.0.1 in
         let source = stands.1.0 in
-        let b = pixel_bytes place.pixels in
-        let row = (pixel_bytes place.pixels * place.width) % 2 ^ 32 in
+        let b = pixel_bytes layout.pixels in
+        let row = (pixel_bytes layout.pixels * layout.width) % 2 ^ 32 in
         let tr = t-apart holders stands.1.1 in
         let r-next : r ≢ r + 1 = (λ e. omega (arith, e)) in
         let r13 : r ≢ scratch = (λ e. omega (arith, e, low)) in
@@ -348,10 +350,10 @@ module _ (scope : List Held) (place : BufferLayout) (r : ℕ) (is : IsStack r) w
         let vt = c.value ∙ ap (λ n. (n * row) % 2 ^ 32) (a.others t tr source.1.0 source.1.1 ∙ ey) in
         let i = alu-sets w m l alus.Add c.after r r (r + 1) ((xv * b) % 2 ^ 32) ((yv * row) % 2 ^ 32) (omega (arith, low)) high high next vr vt in
         let k3 = known-behind r (inl refl) high w.hart values c.after i.after holders (λ q n1 n2 n3. i.others q n1) k2 in
-        let e : (i.after r + address place w.hart (linear_value values zero) (linear_value values zero)) % 2 ^ 32 ≡ address place w.hart xv yv =
-        ap (λ n. (n + address place w.hart (linear_value values zero) (linear_value values zero)) % 2 ^ 32) i.value
-        ∙ both-first place w.hart xv yv can.low (linear_value values zero) (linear_value values zero) (nil.none values) (nil.none values) in
-        let u = z.does w m values i.after (address place w.hart xv yv) pixel l holders k3 e (can-pixel w place m xv yv pixel can) in
+        let e : (i.after r + address layout w.hart (linear_value values zero) (linear_value values zero)) % 2 ^ 32 ≡ address layout w.hart xv yv =
+        ap (λ n. (n + address layout w.hart (linear_value values zero) (linear_value values zero)) % 2 ^ 32) i.value
+        ∙ both-first layout w.hart xv yv can.low (linear_value values zero) (linear_value values zero) (nil.none values) (nil.none values) in
+        let u = z.does w m values i.after (address layout w.hart xv yv) pixel l holders k3 e (can-pixel w layout m xv yv pixel can) in
         let first = leaves-behind w m (Alu alus.Add r r (r + 1) ∷ []) z.insns c.after i.after r r pixel i.line
         (λ q h. i.others q (below-apart r r q (inr (refl, high)) h).0) u in
         let second = leaves-behind w m y.insns ((Alu alus.Add r r (r + 1) ∷ []) ++ z.insns) a.after c.after r r pixel c.line
@@ -368,26 +370,28 @@ module _ (scope : List Held) (place : BufferLayout) (r : ℕ) (is : IsStack r) w
 
 -- ---- as the emitter calls them
 
-pub rows-made : (place : BufferLayout) (bytes row r s : ℕ) (c0 c1 : List ℕ) → bytes ≡ pixel_bytes place.pixels → row ≡ word.multiply bytes place.width
-    → Makes c0 c1 3 r (λ f. (f s * row) % 2 ^ 32) → Makes c0 c1 3 r (λ f. (f s * ((pixel_bytes place.pixels * place.width) % 2 ^ 32)) % 2 ^ 32)
+pub rows-made : (layout : BufferLayout) (bytes row r s : ℕ) (c0 c1 : List ℕ) → bytes ≡ pixel_bytes layout.pixels → row ≡ word.multiply bytes layout.width
+    → Makes c0 c1 3 r (λ f. (f s * row) % 2 ^ 32) → Makes c0 c1 3 r (λ f. (f s * ((pixel_bytes layout.pixels * layout.width) % 2 ^ 32)) % 2 ^ 32)
 unfolding word.multiply
-rows-made place bytes row r s c0 c1 eb er x =
-    let e : row ≡ (pixel_bytes place.pixels * place.width) % 2 ^ 32 = er ∙ ap (λ b. (b * place.width) % 2 ^ 32) eb in
+rows-made layout bytes row r s c0 c1 eb er x =
+    let e : row ≡ (pixel_bytes layout.pixels * layout.width) % 2 ^ 32 = er ∙ ap (λ b. (b * layout.width) % 2 ^ 32) eb in
     subst (λ k. Makes c0 c1 3 r (λ f. (f s * k) % 2 ^ 32)) e x
 
-pub zero-sum : (own : Linear) → ((values : Values) → linear_value values own ≡ 0) → length own.terms ≡ 0 → IsZero own
-zero-sum own none few = record { none = none; few = few }
+pub zero-sum : (new_sum : Linear) → ((values : Values) → linear_value values new_sum ≡ 0) → length new_sum.terms ≡ 0
+    → IsZero new_sum
+zero-sum new_sum none few = record { none = none; few = few }
 
-pub zero-held : (scope : List Held) (own : Linear) → length own.terms ≡ 0 → have_registers scope own.terms ≡ true
-zero-held scope own few = by own.terms few
+pub zero-held : (scope : List Held) (new_sum : Linear) → length new_sum.terms ≡ 0
+    → have_registers scope new_sum.terms ≡ true
+zero-held scope new_sum few = by new_sum.terms few
   where
     by : (terms : List Term) → length terms ≡ 0 → have_registers scope terms ≡ true
     by [] e = refl
     by (first ∷ others) e = absurd (omega (arith, e))
 
 -- an index's sum has registers where the index has
-pub have-sum : (scope : List Held) (index : PointIndex) (own : Linear) → index ≡ indexes.Sum own → HaveIndex scope index → have_registers scope own.terms ≡ true
-have-sum scope index own e have = subst (λ k. HaveIndex scope k) e have
+pub have-sum : (scope : List Held) (index : PointIndex) (new_sum : Linear) → index ≡ indexes.Sum new_sum → HaveIndex scope index → have_registers scope new_sum.terms ≡ true
+have-sum scope index new_sum e have = subst (λ k. HaveIndex scope k) e have
 
 -- a register's
 pub stands-register : (scope : List Held) (r s : ℕ) (index : PointIndex) → index ≡ indexes.Register s → StandsIn scope r index
@@ -400,9 +404,10 @@ stack-place r is =
     let high = is.1 in
     ((omega (arith, low), high), ((λ e. omega (arith, low, e)), (λ e. omega (arith, low, e))))
 
-pub column-as : (scope : List Held) (place own : BufferLayout) (r : ℕ) (column x row : PointIndex) (c0 c1 : List ℕ) → own ≡ place → column ≡ x
-    → MakesPixel c0 c1 scope own x row r → MakesPixel c0 c1 scope place column row r
-column-as scope place own r column x row c0 c1 ep e z = subst (λ k. MakesPixel c0 c1 scope place k row r) (sym e)
+pub column-as : (scope : List Held) (buffer_layout layout : BufferLayout) (r : ℕ) (column x row : PointIndex) (c0 c1 : List ℕ) → layout ≡ buffer_layout → column ≡ x
+    → MakesPixel c0 c1 scope layout x row r → MakesPixel c0 c1 scope buffer_layout column row r
+column-as scope buffer_layout layout r column x row c0 c1 ep e z = subst
+    (λ k. MakesPixel c0 c1 scope buffer_layout k row r) (sym e)
     (subst (λ p. MakesPixel c0 c1 scope p x row r) ep z)
 
 pub rows-requires : (scope : List Held) (r t : ℕ) (row : PointIndex) → row ≡ indexes.Register t → IsStack r → StandsIn scope (r + 1) row

@@ -41,39 +41,43 @@ same-level (layer.Select c a b) = refl
 same-level (layer.Load source x y) = refl
 
 -- what is no leaf counts what it takes to keep a first operand
-pub waits : (own : Expr) → (need_of own).is_leaf ≡ false → kept (size_of own) ≡ 15
+pub waits : (expression : Expr) → (need_of expression).is_leaf ≡ false → kept (size_of expression) ≡ 15
 unfolding size_of need_of
-waits own leaf = ap (λ (t : Bool). if t then 0 else 15) (folds_related SameLeaf size_at need_at same-level own ∙ leaf)
+waits expression leaf = ap (λ (t : Bool). if t then 0 else 15)
+    (folds_related SameLeaf size_at need_at same-level expression ∙ leaf)
 
 -- ---- on the stack, or in the frame
 
-pub deep-over : (frames : Option ℕ) (own : Expr) (word k : ℕ) → 0 < k → k ≤ depth own → FitsFrame frames own word → IsDeep frames own word
-deep-over frames own word k some most fits = (fits.0, (many, by fits.1))
+pub deep-over : (frames : Option ℕ) (expression : Expr) (word k : ℕ) → 0 < k → k ≤ depth expression → FitsFrame frames expression word → IsDeep frames expression word
+deep-over frames expression word k some most fits = (fits.0, (many, by fits.1))
   where
-    many : 12 < need own
-    many = depth-over own (omega (arith, some, most))
+    many : 12 < need expression
+    many = depth-over expression (omega (arith, some, most))
 
-    by : HasRoom frames (need own) word → need own + word ≤ frame_words frames
+    by : HasRoom frames (need expression) word → need expression + word ≤ frame_words frames
     by (inl few) = absurd (let m = many in omega (arith, few, m))
     by (inr room) = room
 
-pub stack-few : (own : Expr) → need own ≤ 12 → FitsOperand own first_value
-stack-few own few leaf = omega (arith, few)
+pub stack-few : (expression : Expr) → need expression ≤ 12 → FitsOperand expression first_value
+stack-few expression few leaf = omega (arith, few)
 
 -- ---- parts
 
 module _ (frames : Option ℕ) where
-  through : (own whole : Expr) (n : Need) (word : ℕ) → own ≡ whole → need_of whole ≡ n → IsDeep frames own word → n.count + word ≤ frame_words frames
-  through own whole n word eo en deep = subst (λ (y : Need). y.count + word ≤ frame_words frames) (ap need_of eo ∙ en) deep.1.1
+  through : (new_expression whole : Expr) (n : Need) (word : ℕ) → new_expression ≡ whole → need_of whole ≡ n → IsDeep frames new_expression word → n.count + word ≤ frame_words frames
+  through new_expression whole n word eo en deep = subst (λ (y : Need). y.count + word ≤ frame_words frames) (ap need_of eo ∙ en) deep.1.1
 
-  many : (own whole : Expr) (n : Need) (word : ℕ) → own ≡ whole → need_of whole ≡ n → IsDeep frames own word → 12 < n.count
-  many own whole n word eo en deep = subst (λ (y : Need). 12 < y.count) (ap need_of eo ∙ en) deep.1.0
+  many : (new_expression whole : Expr) (n : Need) (word : ℕ) → new_expression ≡ whole → need_of whole ≡ n → IsDeep frames new_expression word → 12 < n.count
+  many new_expression whole n word eo en deep = subst (λ (y : Need). 12 < y.count) (ap need_of eo ∙ en) deep.1.0
 
-  pub number-shallow : (own : Expr) (n word : ℕ) → own ≡ e.Number n → IsDeep frames own word → ⊥
-  number-shallow own n word eo deep = let k = many own (e.Number n) _ word eo (need_number n) deep in omega (arith, k)
+  pub number-shallow : (new_expression : Expr) (n word : ℕ) → new_expression ≡ e.Number n
+      → IsDeep frames new_expression word → ⊥
+  number-shallow new_expression n word eo deep = let k = many new_expression (e.Number n) _ word eo (need_number n) deep
+      in omega (arith, k)
 
-  pub linear-shallow : (own : Expr) (sum : Linear) (word : ℕ) → own ≡ e.Linear sum → IsDeep frames own word → ⊥
-  linear-shallow own sum word eo deep = let k = many own (e.Linear sum) _ word eo (need_linear sum) deep in omega (arith, k)
+  pub linear-shallow : (new_expression : Expr) (sum : Linear) (word : ℕ) → new_expression ≡ e.Linear sum
+      → IsDeep frames new_expression word → ⊥
+  linear-shallow new_expression sum word eo deep = let k = many new_expression (e.Linear sum) _ word eo (need_linear sum) deep in omega (arith, k)
 
   second-room : (a b : Expr) (word : ℕ) → LieLow frames → max (need a) (beside_first (need_of b)) + word ≤ frame_words frames → FitsSecond frames b word
   second-room a b word low room leaf =
@@ -84,14 +88,14 @@ module _ (frames : Option ℕ) where
     pub first : FitsFrame frames a word
     pub second : FitsSecond frames b word
 
-  pub binary-deep-fits : (own : Expr) (o : Operation) (a b : Expr) (word : ℕ) → own ≡ e.Binary o a b → IsDeep frames own word → DeepPair a b word
-  binary-deep-fits own o a b word eo deep =
-      let room = through own (e.Binary o a b) _ word eo (need_binary o a b) deep in
+  pub binary-deep-fits : (new_expression : Expr) (o : Operation) (a b : Expr) (word : ℕ) → new_expression ≡ e.Binary o a b → IsDeep frames new_expression word → DeepPair a b word
+  binary-deep-fits new_expression o a b word eo deep =
+      let room = through new_expression (e.Binary o a b) _ word eo (need_binary o a b) deep in
       record { first = (deep.0, inr (omega (arith, room))); second = second-room a b word deep.0 room }
 
-  pub load-deep-fits : (own : Expr) (source : Source) (a b : Expr) (word : ℕ) → own ≡ e.Load source a b → IsDeep frames own word → DeepPair a b word
-  load-deep-fits own source a b word eo deep =
-      let room = through own (e.Load source a b) _ word eo (need_load source a b) deep in
+  pub load-deep-fits : (new_expression : Expr) (source : Source) (a b : Expr) (word : ℕ) → new_expression ≡ e.Load source a b → IsDeep frames new_expression word → DeepPair a b word
+  load-deep-fits new_expression source a b word eo deep =
+      let room = through new_expression (e.Load source a b) _ word eo (need_load source a b) deep in
       record { first = (deep.0, inr (omega (arith, room))); second = second-room a b word deep.0 room }
 
   divided : (a : Expr) (c word : ℕ) → LieLow frames → max (need a) (divisor_need c) + word ≤ frame_words frames → FitsFrame frames a word × (0 < c)
@@ -101,11 +105,11 @@ module _ (frames : Option ℕ) where
       by-test true is l = let f = few-words frames in absurd (omega (arith, l, f))
       by-test false is l = grind (arith, nat_tests, is)
 
-  pub divide-deep-fits : (own a : Expr) (c word : ℕ) → own ≡ e.Divide a c → IsDeep frames own word → FitsFrame frames a word × (0 < c)
-  divide-deep-fits own a c word eo deep = divided a c word deep.0 (through own (e.Divide a c) _ word eo (need_divide a c) deep)
+  pub divide-deep-fits : (new_expression a : Expr) (c word : ℕ) → new_expression ≡ e.Divide a c → IsDeep frames new_expression word → FitsFrame frames a word × (0 < c)
+  divide-deep-fits new_expression a c word eo deep = divided a c word deep.0 (through new_expression (e.Divide a c) _ word eo (need_divide a c) deep)
 
-  pub remainder-deep-fits : (own a : Expr) (c word : ℕ) → own ≡ e.Remainder a c → IsDeep frames own word → FitsFrame frames a word × (0 < c)
-  remainder-deep-fits own a c word eo deep = divided a c word deep.0 (through own (e.Remainder a c) _ word eo (need_remainder a c) deep)
+  pub remainder-deep-fits : (new_expression a : Expr) (c word : ℕ) → new_expression ≡ e.Remainder a c → IsDeep frames new_expression word → FitsFrame frames a word × (0 < c)
+  remainder-deep-fits new_expression a c word eo deep = divided a c word deep.0 (through new_expression (e.Remainder a c) _ word eo (need_remainder a c) deep)
 
   pub record DeepTriple (c a b : Expr) (word : ℕ) : Type 0 where
     pub first : FitsFrame frames c word
@@ -113,9 +117,9 @@ module _ (frames : Option ℕ) where
     pub second : FitsFrame frames a (word + 1)
     pub third : FitsPair frames b (word + 1)
 
-  pub select-deep-fits : (own c a b : Expr) (word : ℕ) → own ≡ e.Select c a b → IsDeep frames own word → DeepTriple c a b word
-  select-deep-fits own c a b word eo deep =
-      let room = through own (e.Select c a b) _ word eo (need_select c a b) deep in
+  pub select-deep-fits : (new_expression c a b : Expr) (word : ℕ) → new_expression ≡ e.Select c a b → IsDeep frames new_expression word → DeepTriple c a b word
+  select-deep-fits new_expression c a b word eo deep =
+      let room = through new_expression (e.Select c a b) _ word eo (need_select c a b) deep in
       let s = need-some b in
       record {
         first = (deep.0, inr (omega (arith, room)));
@@ -156,21 +160,22 @@ own-beside n t et = omega (arith, et)
 
 -- ---- all of the frame
 
-pub limit-fits : (frames : Option ℕ) (own : Expr) (k limit : ℕ) → k ≡ min (need own) 2000 → limit ≡ room_limit frames → k ≤ limit → FitsFrame frames own 0
-limit-fits None own k limit is el few = (tt, inl (omega (arith, is, el, few)))
-limit-fits (Some start) own k limit is el few = by-test (nat_le start 4294901760) refl el
+pub limit-fits : (frames : Option ℕ) (expression : Expr) (k limit : ℕ) → k ≡ min (need expression) 2000 → limit ≡ room_limit frames → k ≤ limit → FitsFrame frames expression 0
+limit-fits None expression k limit is el few = (tt, inl (omega (arith, is, el, few)))
+limit-fits (Some start) expression k limit is el few = by-test (nat_le start 4294901760) refl el
   where
-    by-test : (t : Bool) → nat_le start 4294901760 ≡ t → limit ≡ (if t then 1024 else 0) → FitsFrame (Some start) own 0
+    by-test : (t : Bool) → nat_le start 4294901760 ≡ t → limit ≡ (if t then 1024 else 0)
+        → FitsFrame (Some start) expression 0
     by-test true e g = (grind (arith, nat_tests, e), inr (omega (arith, is, g, few)))
-    by-test false e g = let s = need-some own in absurd (omega (arith, is, g, few, s))
+    by-test false e g = let s = need-some expression in absurd (omega (arith, is, g, few, s))
 
-pub limit-none : (frames : Option ℕ) (own : Expr) (k limit : ℕ) → k ≡ min (need own) 2000 → limit ≡ room_limit frames → limit < k → FitsFrame frames own 0 → ⊥
-limit-none None own k limit is el many fits = by fits.1
+pub limit-none : (frames : Option ℕ) (expression : Expr) (k limit : ℕ) → k ≡ min (need expression) 2000 → limit ≡ room_limit frames → limit < k → FitsFrame frames expression 0 → ⊥
+limit-none None expression k limit is el many fits = by fits.1
   where
-    by : (need own ≤ 12) ⊎ (need own + 0 ≤ 0) → ⊥
+    by : (need expression ≤ 12) ⊎ (need expression + 0 ≤ 0) → ⊥
     by (inl l) = omega (arith, is, el, many, l)
     by (inr l) = omega (arith, is, el, many, l)
-limit-none (Some start) own k limit is el many fits = by fits.1
+limit-none (Some start) expression k limit is el many fits = by fits.1
   where
     low : nat_le start 4294901760 ≡ true
     low = let l = fits.0 in grind (arith, nat_tests, l)
@@ -178,6 +183,6 @@ limit-none (Some start) own k limit is el many fits = by fits.1
     el-is : limit ≡ 1024
     el-is = el ∙ ap (λ (t : Bool). if t then 1024 else 0) low
 
-    by : (need own ≤ 12) ⊎ (need own + 0 ≤ 1024) → ⊥
+    by : (need expression ≤ 12) ⊎ (need expression + 0 ≤ 1024) → ⊥
     by (inl l) = let g = el-is in omega (arith, is, g, many, l)
     by (inr l) = let g = el-is in omega (arith, is, g, many, l)

@@ -64,10 +64,10 @@ use Rattle.task_code_values.proofs.Pointing.{at-offset, own-word}
 
 -- ---- values on the stack alone
 
-pub value-stacked : (places : Places) (scope : List Held) (first r : ℕ) (own : Expr) (c0 c1 : List ℕ) → MakesOperand c0 c1 places scope first_value
-    first_value r own
-    → MakesValue c0 c1 places scope first r own
-value-stacked places scope first r own c0 c1 x = record {
+pub value-stacked : (places : Places) (scope : List Held) (first r : ℕ) (expression : Expr) (c0 c1 : List ℕ) → MakesOperand c0 c1 places scope first_value
+    first_value r expression
+    → MakesValue c0 c1 places scope first r expression
+value-stacked places scope first r expression c0 c1 x = record {
   insns = x.insns;
   emits = x.emits;
   short = x.short;
@@ -76,8 +76,8 @@ value-stacked places scope first r own c0 c1 x = record {
   does = λ set good at values holders f memory funcs holds knows may.
       let w = set.world in
       let reads = reads_of set.inputs funcs in
-      let can = subst (λ ps. AllByRecursion (Loads w ps memory reads) (loads reads values own)) at (all-loaded set good funcs memory holds
-      (loads reads values own) may) in
+      let can = subst (λ ps. AllByRecursion (Loads w ps memory reads) (loads reads values expression)) at (all-loaded set good funcs memory holds
+      (loads reads values expression) may) in
       let a = x.does w memory values reads f holds.size holders knows can in
       record {
         after = a.after;
@@ -107,39 +107,39 @@ equal-parts a b c d g h t =
     same : (m n : ℕ) → (m == n) ≡ true → m ≡ n
     same m n u = grind (arith, nat_tests)
 
-module _ (own : Setting) (good : IsSetting own) (values : Values) where
+module _ (setting : Setting) (good : IsSetting setting) (values : Values) where
   abbrev w : World
-  w = own.world
+  w = setting.world
 
   -- a single store is of no Func that is stored in runs
-  pub is-single : (store : Store) → RunsIn own (s.Store store) values → (funcs : Planes) → AreWords funcs → own.in_runs store.func ≡ false
-  is-single store sure funcs words = by-test (own.in_runs store.func) refl
+  pub is-single : (store : Store) → RunsIn setting (s.Store store) values → (funcs : Planes) → AreWords funcs → setting.in_runs store.func ≡ false
+  is-single store sure funcs words = by-test (setting.in_runs store.func) refl
     where
-      by-test : (t : Bool) → own.in_runs store.func ≡ t → own.in_runs store.func ≡ false
+      by-test : (t : Bool) → setting.in_runs store.func ≡ t → setting.in_runs store.func ≡ false
       by-test true e =
-          let r = reads_of own.inputs funcs in
-          let k = sym (ap (λ (a : Runs). a.are_runs values) (runs_store r store.func 0 0 (own.run store.func 0 0) store))
+          let r = reads_of setting.inputs funcs in
+          let k = sym (ap (λ (a : Runs). a.are_runs values) (runs_store r store.func 0 0 (setting.run store.func 0 0) store))
           ∙ sure funcs words store.func e 0 0 in
           absurd (true≢false (sym (eq-eqb store.func store.func refl) ∙ not-true (store.func == store.func) k))
       by-test false e = e
 
   abbrev spot : Store → Planes → ℕ
   spot store funcs =
-      address_of w own.places (func_point store.func (value (reads_of own.inputs funcs) values store.x) (value (reads_of own.inputs funcs) values store.y))
+      address_of w setting.places (func_point store.func (value (reads_of setting.inputs funcs) values store.x) (value (reads_of setting.inputs funcs) values store.y))
 
   abbrev store_hits : Store → Planes → Hits
   store_hits store funcs func x y =
-      (store.func ≡ func) × ((value (reads_of own.inputs funcs) values store.x ≡ x) × (value (reads_of own.inputs funcs) values store.y ≡ y))
+      (store.func ≡ func) × ((value (reads_of setting.inputs funcs) values store.x ≡ x) × (value (reads_of setting.inputs funcs) values store.y ≡ y))
 
   -- the last instruction, with any base and offset
   pub saved : (keeps_it : ℕ → Type 0) (store : Store) (b r : ℕ) (z : ℤ) (f : ℕ → ℕ) (memory : List ℕ) (funcs : Planes) → b < 32 → r < 32
-      → HoldsFuncs own memory funcs
-      → own.written store.func (value (reads_of own.inputs funcs) values store.x) (value (reads_of own.inputs funcs) values store.y) ≡ true
-      → own.in_runs store.func ≡ false → value (reads_of own.inputs funcs) values store.value < 2 ^ 32 → plus (f b) z ≡ spot store funcs
-      → f r ≡ value (reads_of own.inputs funcs) values store.value
-      → Does own (Save save_ops.Sw b r z ∷ []) 1 f memory keeps_it (stored own.points (reads_of own.inputs funcs) store values funcs) (store_hits store funcs)
+      → HoldsFuncs setting memory funcs
+      → setting.written store.func (value (reads_of setting.inputs funcs) values store.x) (value (reads_of setting.inputs funcs) values store.y) ≡ true
+      → setting.in_runs store.func ≡ false → value (reads_of setting.inputs funcs) values store.value < 2 ^ 32 → plus (f b) z ≡ spot store funcs
+      → f r ≡ value (reads_of setting.inputs funcs) values store.value
+      → Does setting (Save save_ops.Sw b r z ∷ []) 1 f memory keeps_it (stored setting.points (reads_of setting.inputs funcs) store values funcs) (store_hits store funcs)
   saved keeps_it store b r z f memory funcs lb lr holds is single small at-a er =
-      let reads = reads_of own.inputs funcs in
+      let reads = reads_of setting.inputs funcs in
       let x = value reads values store.x in
       let y = value reads values store.y in
       let v = value reads values store.value in
@@ -158,16 +158,16 @@ module _ (own : Setting) (good : IsSetting own) (values : Values) where
         holds = record {
           size = size-stays memory a v ∙ holds.size;
           are_bytes = bytes-stay memory a v holds.are_bytes;
-          are_words = words-put own.points store.func x y v funcs holds.are_words small;
-          holds = stored-holds w own.places own.written own.loaded good.laid own.points own.inputs funcs memory store.func x y v is
+          are_words = words-put setting.points store.func x y v funcs holds.are_words small;
+          holds = stored-holds w setting.places setting.written setting.loaded good.laid setting.points setting.inputs funcs memory store.func x y v is
               (good.have store.func x y is) holds.size small holds.holds;
         };
-        elsewhere = λ byte other. others-stay w own.places own.written own.loaded good.laid memory store.func x y v byte is other;
+        elsewhere = λ byte other. others-stay w setting.places setting.written setting.loaded good.laid memory store.func x y v byte is other;
         are_bytes = bytes-stay memory a v;
         writes = λ func i j byte at hit of s.
-            let e : a ≡ address_of w own.places (func_point func i j) =
-            ap (λ k. address_of w own.places (func_point k x y)) hit.0 ∙ ap (λ k. address_of w own.places (func_point func k y)) hit.1.0
-            ∙ ap (λ k. address_of w own.places (func_point func i k)) hit.1.1 in
+            let e : a ≡ address_of w setting.places (func_point func i j) =
+            ap (λ k. address_of w setting.places (func_point k x y)) hit.0 ∙ ap (λ k. address_of w setting.places (func_point func k y)) hit.1.0
+            ∙ ap (λ k. address_of w setting.places (func_point func i k)) hit.1.1 in
             let above = of.above in
             let below = of.below in
             rules.store-writes w f memory holds.size save_ops.Sw b r a z at byte lb at-a writable s.0 (is-touched a byte (omega (arith, e, above))
@@ -176,19 +176,19 @@ module _ (own : Setting) (good : IsSetting own) (values : Values) where
 
   -- ---- parts of code, one after the other
 
-  -- what stands after other code
+  -- what is after other code
   pub does-then : {is js : List Insn} {f : ℕ → ℕ} {memory : List ℕ} {keeps_it : ℕ → Type 0} {n k : ℕ} {middle funcs : Planes} {hits : Hits}
-      → (a : Does own is n f memory keeps_it middle no_hits) → Does own js k a.after a.left keeps_it funcs hits
-      → Does own (is ++ js) (n + k) f memory keeps_it funcs hits
+      → (a : Does setting is n f memory keeps_it middle no_hits) → Does setting js k a.after a.left keeps_it funcs hits
+      → Does setting (is ++ js) (n + k) f memory keeps_it funcs hits
   does-then {is} {js} {f} {memory} {keeps_it} {n} {k} {middle} {funcs} {hits} a b =
-      let first : Went own (is ++ js) (λ at. at) (λ at. end at is) n f memory keeps_it middle no_hits =
-      within own (λ at. at) (λ at. end at is) (λ at s. stand-front w.text at is js s) (λ at. refl) a in
-      let second : Went own (is ++ js) (λ at. end at is) (λ at. end at (is ++ js)) k a.after a.left keeps_it funcs hits =
-      within own (λ at. end at is) (λ at. end at (is ++ js)) (λ at s. stand-back w.text at is js s) (λ at. sym (end-append at is js)) b in
-      went-hits own (λ func x y h. inr h) (went-then own first second)
+      let first : Went setting (is ++ js) (λ at. at) (λ at. end at is) n f memory keeps_it middle no_hits =
+      within setting (λ at. at) (λ at. end at is) (λ at s. stand-front w.text at is js s) (λ at. refl) a in
+      let second : Went setting (is ++ js) (λ at. end at is) (λ at. end at (is ++ js)) k a.after a.left keeps_it funcs hits =
+      within setting (λ at. end at is) (λ at. end at (is ++ js)) (λ at s. stand-back w.text at is js s) (λ at. sym (end-append at is js)) b in
+      went-hits setting (λ func x y h. inr h) (went-then setting first second)
 
   abbrev pub deep-does : {is : List Insn} {f : ℕ → ℕ} {memory : List ℕ} {funcs : Planes} {r v : ℕ} (scope : List Held) → AreHolders scope
-      → (a : LeavesDeep own funcs is 0 f memory first_value r v) → Does own is (length is) f memory (IsKept scope) funcs no_hits
+      → (a : LeavesDeep setting funcs is 0 f memory first_value r v) → Does setting is (length is) f memory (IsKept scope) funcs no_hits
   deep-does scope holders a = record {
     after = a.after;
     left = a.left;
@@ -215,11 +215,11 @@ did-went a = record {
 
 -- ---- a store whose indexes are sums
 
-pub store-made : (places : Places) (scope : List Held) (store : Store) (x y : Linear) (form : AffineForm) (place : BufferLayout) (at : At) (r : ℕ) (c0 c1 c2 c3 : List ℕ)
-    → IsSum store.x x → IsSum store.y y → place ≡ place_of places (sources.Func store.func) → IsPoint place x y form
+pub store-made : (places : Places) (scope : List Held) (store : Store) (x y : Linear) (form : AffineForm) (layout : BufferLayout) (at : At) (r : ℕ) (c0 c1 c2 c3 : List ℕ)
+    → IsSum store.x x → IsSum store.y y → layout ≡ place_of places (sources.Func store.func) → IsPoint layout x y form
     → MakesValue c0 c1 places scope 0 r store.value → MakesFormAddress c1 c2 scope form address_register at
     → Emits c2 c3 (Save save_ops.Sw at.register r (lower at.offset) ∷ []) → MakesStore c0 c3 places scope store
-store-made places scope store x y form place at r c0 c1 c2 c3 ex ey ep point v t z = record {
+store-made places scope store x y form layout at r c0 c1 c2 c3 ex ey ep point v t z = record {
   insns = v.insns ++ (t.insns ++ (Save save_ops.Sw at.register r (lower at.offset) ∷ []));
   emits = emits_then v.emits (emits_then t.emits z);
   short =
@@ -250,14 +250,14 @@ store-made places scope store x y form place at r c0 c1 c2 c3 ex ey ep point v t
       let b = t.does w a.left w.hart values a.after a.holds.size holders free ka in
       let r15 = value-apart holders v.which in
       let may-store = good.laid.stores store.func xv yv k.0 in
-      let here : address_of w own.places (func_point store.func xv yv) ≡ address place w.hart (linear_value values x) (linear_value values y) =
+      let here : address_of w own.places (func_point store.func xv yv) ≡ address layout w.hart (linear_value values x) (linear_value values y) =
       ap (λ ps. address (place_of ps (sources.Func store.func)) w.hart xv yv) at-places ∙ ap (λ pl. address pl w.hart xv yv) (sym ep)
-      ∙ ap (λ i. address place w.hart i yv) (ex.value_is reads values) ∙ ap (λ j. address place w.hart (linear_value values x) j) (ey.value_is reads
+      ∙ ap (λ i. address layout w.hart i yv) (ex.value_is reads values) ∙ ap (λ j. address layout w.hart (linear_value values x) j) (ey.value_is reads
       values) in
-      let low : address place w.hart (linear_value values x) (linear_value values y) < 2 ^ 32 = subst (λ n. n < 2 ^ 32) here may-store.low in
+      let low : address layout w.hart (linear_value values x) (linear_value values y) < 2 ^ 32 = subst (λ n. n < 2 ^ 32) here may-store.low in
       let at-a : plus (b.after at.register) (lower at.offset) ≡ address_of w own.places (func_point store.func xv yv) =
       at-offset (b.after at.register) at.offset _ t.fits t.small
-      (b.value ∙ point.value w.hart values ∙ own-word (address place w.hart (linear_value values x) (linear_value values y)) low ∙ sym here) in
+      (b.value ∙ point.value w.hart values ∙ own-word (address layout w.hart (linear_value values x) (linear_value values y)) low ∙ sym here) in
       let second : Does own t.insns (length t.insns) a.after a.left (IsKept scope) funcs no_hits =
       still own (λ i. i) (λ i. end i t.insns) (length t.insns) b.after a.holds (λ n h. let u = kept-apart scope n holders h in b.others n (free n h)
       u.0 u.1) (λ i st. b.line i st) in
@@ -282,17 +282,18 @@ store-made places scope store x y form place at r c0 c1 c2 c3 ex ey ep point v t
 
 -- ---- loop variables
 
-pub point-held : (places : Places) (scope : List Held) (store : Store) (place : BufferLayout) (x y : Linear) (form : AffineForm) → IsPoint place x y form
+pub point-held : (places : Places) (scope : List Held) (store : Store) (layout : BufferLayout) (x y : Linear) (form : AffineForm) → IsPoint layout x y form
     → IsSum store.x x → IsSum store.y y
     → FitsDirect places scope store → have_registers scope form.sum.terms ≡ true
-point-held places scope store place x y form point ex ey fits = point.have scope (ex.held scope fits.column_held) (ey.held scope fits.row_held)
+point-held places scope store layout x y form point ex ey fits = point.have scope (ex.held scope fits.column_held) (ey.held scope fits.row_held)
 
 -- ---- a store whose indexes are computed
 
-module _ (places : Places) (scope : List Held) (store : Store) (place : BufferLayout) (column row : PointIndex) (s offset : ℕ) (c0 c1 c2 c3 c4 c5 : List ℕ) where
-  pub scattered-made : place ≡ place_of places (sources.Func store.func) → MakesValue c0 c1 places scope 0 s store.value
+module _ (places : Places) (scope : List Held) (store : Store) (layout : BufferLayout) (column row : PointIndex) (s offset : ℕ) (c0 c1 c2 c3 c4 c5 : List ℕ) where
+  pub scattered-made : layout ≡ place_of places (sources.Func store.func)
+      → MakesValue c0 c1 places scope 0 s store.value
       → MakesIndex c1 c2 places scope second_value column store.x → MakesIndex c2 c3 places scope third_value row store.y
-      → ReachesPoint c3 c4 scope place column row second_value offset → Emits c4 c5 (Save save_ops.Sw second_value s (lower offset) ∷ [])
+      → ReachesPoint c3 c4 scope layout column row second_value offset → Emits c4 c5 (Save save_ops.Sw second_value s (lower offset) ∷ [])
       → MakesStore c0 c5 places scope store
   scattered-made ep v x y z last = record {
     insns = v.insns ++ (x.insns ++ (y.insns ++ (z.insns ++ saving)));
@@ -331,9 +332,9 @@ module _ (places : Places) (scope : List Held) (store : Store) (place : BufferLa
         let ex = index-stays column values b.after d.after xv
         (λ r er. d.keeps r (column-below holders r (subst (λ i. StandsIn scope second_value i) er x.stands).1.1)) b.value in
         let may-store = good.laid.stores store.func xv yv k.0 in
-        let here : address_of w own.places (func_point store.func xv yv) ≡ address place w.hart xv yv =
+        let here : address_of w own.places (func_point store.func xv yv) ≡ address layout w.hart xv yv =
         ap (λ ps. address (place_of ps (sources.Func store.func)) w.hart xv yv) at-places ∙ ap (λ pl. address pl w.hart xv yv) (sym ep) in
-        let low : address place w.hart xv yv < 2 ^ 32 = subst (λ n. n < 2 ^ 32) here may-store.low in
+        let low : address layout w.hart xv yv < 2 ^ 32 = subst (λ n. n < 2 ^ 32) here may-store.low in
         let g = z.does w a.left values d.after xv yv a.holds.size holders kd ex d.value low in
         let sg = λ (n : ℕ) (h : IsKept scope n). g.keeps n (kept-below scope n second_value (omega arith) holders h) in
         let at-a : plus (g.after second_value) (lower offset) ≡ address_of w own.places (func_point store.func xv yv) =

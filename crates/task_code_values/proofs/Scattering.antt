@@ -32,21 +32,22 @@ use Rattle.task_code_values.proofs.Standing.{kept-below, below-apart}
 
 -- ---- parts of indexes
 
-pub sum-itself : (index : PointIndex) (own made : Linear) → index ≡ indexes.Sum own → made ≡ own → IsSumPart index made
-sum-itself index own made ei em = subst (λ i. IsSumPart i made) (sym ei) (subst (λ m. IsSumPart (indexes.Sum own) m) (sym em) (record {
+pub sum-itself : (index : PointIndex) (new_sum linear : Linear) → index ≡ indexes.Sum new_sum → linear ≡ new_sum
+    → IsSumPart index linear
+sum-itself index new_sum linear ei em = subst (λ i. IsSumPart i linear) (sym ei) (subst (λ m. IsSumPart (indexes.Sum new_sum) m) (sym em) (record {
   value_is = λ values. refl;
   few = omega arith;
   few_columns = omega arith;
   have = λ scope have. have;
 }))
 
-pub sum-none : (index : PointIndex) (s : ℕ) (made : Linear) → index ≡ indexes.Register s → ((values : Values) → linear_value values made ≡ 0)
-    → length made.terms ≡ 0 → IsSumPart index made
-sum-none index s made ei none few = subst (λ i. IsSumPart i made) (sym ei) (record {
+pub sum-none : (index : PointIndex) (s : ℕ) (new_sum : Linear) → index ≡ indexes.Register s → ((values : Values) → linear_value values new_sum ≡ 0)
+    → length new_sum.terms ≡ 0 → IsSumPart index new_sum
+sum-none index s new_sum ei none few = subst (λ i. IsSumPart i new_sum) (sym ei) (record {
   value_is = none;
   few = omega (arith, few);
   few_columns = omega (arith, few);
-  have = λ scope have. zero-held scope made few;
+  have = λ scope have. zero-held scope new_sum few;
 })
 
 -- an index is both of its parts
@@ -56,9 +57,9 @@ both-parts (indexes.Register s) values f v is = let g : f s + 0 ≡ f s = omega 
 
 -- ---- bytes
 
-pub columns-none : (index : PointIndex) (own : Linear) (r b : ℕ) (c0 c1 : List ℕ) → index ≡ indexes.Sum own → Makes c0 c1 2 r (λ f. 0)
+pub columns-none : (index : PointIndex) (new_sum : Linear) (r b : ℕ) (c0 c1 : List ℕ) → index ≡ indexes.Sum new_sum → Makes c0 c1 2 r (λ f. 0)
     → Makes c0 c1 (column_words index) r (λ f. (register_part index f * b) % 2 ^ 32)
-columns-none index own r b c0 c1 ei x =
+columns-none index new_sum r b c0 c1 ei x =
     let z : 0 ≡ (0 * b) % 2 ^ 32 = omega arith in
     subst (λ i. Makes c0 c1 (column_words i) r (λ f. (register_part i f * b) % 2 ^ 32)) (sym ei) (subst (λ n. Makes c0 c1 2 r (λ f. n)) z x)
 
@@ -66,22 +67,22 @@ pub columns-some : (index : PointIndex) (s r b : ℕ) (c0 c1 : List ℕ) → ind
     → Makes c0 c1 (column_words index) r (λ f. (register_part index f * b) % 2 ^ 32)
 columns-some index s r b c0 c1 ei x = subst (λ i. Makes c0 c1 (column_words i) r (λ f. (register_part i f * b) % 2 ^ 32)) (sym ei) x
 
-pub rows-none : (place : BufferLayout) (index : PointIndex) (own : Linear) (r : ℕ) (c : List ℕ) → index ≡ indexes.Sum own → Makes c c 4 r (with_rows place index r)
-rows-none place index own r c ei = subst (λ i. Makes c c 4 r (with_rows place i r)) (sym ei) (record {
+pub rows-none : (layout : BufferLayout) (index : PointIndex) (new_sum : Linear) (r : ℕ) (c : List ℕ) → index ≡ indexes.Sum new_sum → Makes c c 4 r (with_rows layout index r)
+rows-none layout index new_sum r c ei = subst (λ i. Makes c c 4 r (with_rows layout i r)) (sym ei) (record {
   insns = [];
   emits = emits-none c;
   short = omega arith;
   does = λ w m f l zero. puts-none w m l f r (f r) refl;
 })
 
-pub rows-some : (place : BufferLayout) (index : PointIndex) (t r bytes n : ℕ) (c0 c1 c2 : List ℕ) → IsStack r → index ≡ indexes.Register t
-    → bytes ≡ pixel_bytes place.pixels → n ≡ word.multiply bytes place.width → Makes c0 c1 3 second_scratch (λ f. (f t * n) % 2 ^ 32)
-    → Emits c1 c2 (Alu alus.Add r r second_scratch ∷ []) → Makes c0 c2 4 r (with_rows place index r)
+pub rows-some : (layout : BufferLayout) (index : PointIndex) (t r bytes n : ℕ) (c0 c1 c2 : List ℕ) → IsStack r → index ≡ indexes.Register t
+    → bytes ≡ pixel_bytes layout.pixels → n ≡ word.multiply bytes layout.width → Makes c0 c1 3 second_scratch (λ f. (f t * n) % 2 ^ 32)
+    → Emits c1 c2 (Alu alus.Add r r second_scratch ∷ []) → Makes c0 c2 4 r (with_rows layout index r)
 unfolding word.multiply
-rows-some place index t r bytes n c0 c1 c2 is ei eb en x y =
+rows-some layout index t r bytes n c0 c1 c2 is ei eb en x y =
     let p = stack-place r is in
-    let e : n ≡ row_bytes place = en ∙ ap (λ b. (b * place.width) % 2 ^ 32) eb in
-    subst (λ i. Makes c0 c2 4 r (with_rows place i r)) (sym ei)
+    let e : n ≡ row_bytes layout = en ∙ ap (λ b. (b * layout.width) % 2 ^ 32) eb in
+    subst (λ i. Makes c0 c2 4 r (with_rows layout i r)) (sym ei)
     (subst (λ k. Makes c0 c2 4 r (λ f. (f r + f t * k) % 2 ^ 32)) e (term-more r t n c0 c1 c2 p.0.0 p.0.1 p.1.0 p.1.1 x y))
 
 -- a source is one of its index
@@ -93,7 +94,7 @@ pub source-beside : (scope : List Held) (r : ℕ) (index : PointIndex) → Stand
 source-beside scope r (indexes.Sum own) stands = tt
 source-beside scope r (indexes.Register t) stands = stands.0
 
--- what stands in the register above another one
+-- what is in the register above another one
 pub stands-above : (scope : List Held) (r : ℕ) (index : PointIndex) → StandsIn scope (r + 1) index → StandsBeside scope r index
 stands-above scope r (indexes.Sum own) stands = tt
 stands-above scope r (indexes.Register t) stands = (stands.1.0, by stands.1.1)
@@ -108,11 +109,12 @@ source-is index s e has = subst HasSource e has
 
 -- ---- addresses
 
-module _ (scope : List Held) (place : BufferLayout) (r : ℕ) (is : IsStack r) where
-  -- so many bytes after
-  pub reached-behind : (x y : Linear) (form : AffineForm) (base offset : ℕ) (c0 c1 c2 : List ℕ) → IsPoint place x y form
+module _ (scope : List Held) (layout : BufferLayout) (r : ℕ) (is : IsStack r) where
+  -- this many bytes after
+  pub reached-behind : (x y : Linear) (form : AffineForm) (base offset : ℕ) (c0 c1 c2 : List ℕ)
+      → IsPoint layout x y form
       → MakesFormAddress c0 c1 scope form address_register (record { register = base; offset = offset }) → Emits c1 c2 (Alu alus.Add r r base ∷ [])
-      → ReachesBehind c0 c2 scope place x y r offset
+      → ReachesBehind c0 c2 scope layout x y r offset
   reached-behind x y form base offset c0 c1 c2 point a z = record {
     insns = a.insns ++ (Alu alus.Add r r base ∷ []);
     emits = emits_then a.emits z;
@@ -132,7 +134,7 @@ module _ (scope : List Held) (place : BufferLayout) (r : ℕ) (is : IsStack r) w
         let free = working-free scope address_register holders (inl (omega arith, omega arith)) in
         let t = a.does w m w.hart values f l holders free knows in
         let b = t.after base in
-        let p = address place w.hart (linear_value values x) (linear_value values y) in
+        let p = address layout w.hart (linear_value values x) (linear_value values y) in
         let eb : (b + offset) % 2 ^ 32 ≡ p % 2 ^ 32 = t.value ∙ point.value w.hart values in
         let i = alu-sets w m l alus.Add t.after r r base (f r) b (omega (arith, from)) high high a.low (t.others r n15 n13 n14) refl in
         record {
@@ -149,23 +151,23 @@ module _ (scope : List Held) (place : BufferLayout) (r : ℕ) (is : IsStack r) w
       moved n b o p e = omega (arith, e)
 
   abbrev b : ℕ
-  b = pixel_bytes place.pixels
+  b = pixel_bytes layout.pixels
 
   -- all bytes together
-  spread : (hart xr xs yr ys : ℕ) → xr * b + yr * (b * place.width) + address place hart xs ys ≡ address place hart (xr + xs) (yr + ys)
+  spread : (hart xr xs yr ys : ℕ) → xr * b + yr * (b * layout.width) + address layout hart xs ys ≡ address layout hart (xr + xs) (yr + ys)
   spread hart xr xs yr ys = omega arith
 
-  whole-bytes : (hart xr xs yr ys : ℕ) → address place hart (xr + xs) (yr + ys) < 2 ^ 32
-      → (((xr * b) % 2 ^ 32 + yr * row_bytes place) % 2 ^ 32 + address place hart xs ys) % 2 ^ 32 ≡ address place hart (xr + xs) (yr + ys)
+  whole-bytes : (hart xr xs yr ys : ℕ) → address layout hart (xr + xs) (yr + ys) < 2 ^ 32
+      → (((xr * b) % 2 ^ 32 + yr * row_bytes layout) % 2 ^ 32 + address layout hart xs ys) % 2 ^ 32 ≡ address layout hart (xr + xs) (yr + ys)
   whole-bytes hart xr xs yr ys low =
-      let e = row-bytes yr (b * place.width) in
+      let e = row-bytes yr (b * layout.width) in
       let g = spread hart xr xs yr ys in
-      joined (xr * b) (yr * row_bytes place) (yr * (b * place.width)) (address place hart xs ys) (address place hart (xr + xs) (yr + ys)) e g low
+      joined (xr * b) (yr * row_bytes layout) (yr * (b * layout.width)) (address layout hart xs ys) (address layout hart (xr + xs) (yr + ys)) e g low
     where
       joined : (n p q a whole : ℕ) → p % 2 ^ 32 ≡ q % 2 ^ 32 → n + q + a ≡ whole → whole < 2 ^ 32 → ((n % 2 ^ 32 + p) % 2 ^ 32 + a) % 2 ^ 32 ≡ whole
       joined n p q a whole e g l = omega (arith, e, g, l)
 
-  -- what stands beside r stays where r is made
+  -- what is beside r stays where r is made
   row-stays : (row : PointIndex) (f g : ℕ → ℕ) → AreHolders scope → StandsBeside scope r row
       → ((q : ℕ) → q ≢ r → q ≢ scratch → q ≢ second_scratch → g q ≡ f q) → register_part row g ≡ register_part row f
   row-stays (indexes.Sum own) f g holders stands same = refl
@@ -175,13 +177,13 @@ module _ (scope : List Held) (place : BufferLayout) (r : ℕ) (is : IsStack r) w
       apart (inl n) = n
       apart (inr h) = working-free scope r holders (inr is) t h
 
-  rows-are : (row : PointIndex) (f : ℕ → ℕ) → f r < 2 ^ 32 → with_rows place row r f ≡ (f r + register_part row f * row_bytes place) % 2 ^ 32
-  rows-are (indexes.Sum own) f small = let g : f r ≡ (f r + 0 * row_bytes place) % 2 ^ 32 = omega (arith, small) in g
+  rows-are : (row : PointIndex) (f : ℕ → ℕ) → f r < 2 ^ 32 → with_rows layout row r f ≡ (f r + register_part row f * row_bytes layout) % 2 ^ 32
+  rows-are (indexes.Sum own) f small = let g : f r ≡ (f r + 0 * row_bytes layout) % 2 ^ 32 = omega (arith, small) in g
   rows-are (indexes.Register t) f small = refl
 
   pub point-reached : (column row : PointIndex) (x y : Linear) (offset : ℕ) (c0 c1 c2 c3 : List ℕ) → StandsBeside scope r row → IsSumPart column x
-      → IsSumPart row y → Makes c0 c1 (column_words column) r (λ f. (register_part column f * b) % 2 ^ 32) → Makes c1 c2 4 r (with_rows place row r)
-      → ReachesBehind c2 c3 scope place x y r offset → ReachesPoint c0 c3 scope place column row r offset
+      → IsSumPart row y → Makes c0 c1 (column_words column) r (λ f. (register_part column f * b) % 2 ^ 32) → Makes c1 c2 4 r (with_rows layout row r)
+      → ReachesBehind c2 c3 scope layout x y r offset → ReachesPoint c0 c3 scope layout column row r offset
   point-reached column row x y offset c0 c1 c2 c3 stands px py u v z = record {
     insns = u.insns ++ (v.insns ++ z.insns);
     emits = emits_then u.emits (emits_then v.emits z.emits);
@@ -202,20 +204,20 @@ module _ (scope : List Held) (place : BufferLayout) (r : ℕ) (is : IsStack r) w
         let a2 = v.does w m a1.after l (knows-zero hart scope values a1.after k1) in
         let k2 = known hart values a1.after a2.after holders a2.others k1 in
         let small : a1.after r < 2 ^ 32 = subst (λ n. n < 2 ^ 32) (sym a1.value) (omega arith) in
-        let er : a2.after r ≡ ((xr * b) % 2 ^ 32 + yr * row_bytes place) % 2 ^ 32 =
+        let er : a2.after r ≡ ((xr * b) % 2 ^ 32 + yr * row_bytes layout) % 2 ^ 32 =
         a2.value ∙ rows-are row a1.after small
-        ∙ ap (λ n. (n + register_part row a1.after * row_bytes place) % 2 ^ 32) a1.value
-        ∙ ap (λ n. ((xr * b) % 2 ^ 32 + n * row_bytes place) % 2 ^ 32) (row-stays row f a1.after holders stands a1.others) in
+        ∙ ap (λ n. (n + register_part row a1.after * row_bytes layout) % 2 ^ 32) a1.value
+        ∙ ap (λ n. ((xr * b) % 2 ^ 32 + n * row_bytes layout) % 2 ^ 32) (row-stays row f a1.after holders stands a1.others) in
         let bx = both-parts column values f xv ex in
         let by = both-parts row values f yv ey in
-        let whole : address place hart (xr + sum_part column values) (yr + sum_part row values) ≡ address place hart xv yv =
-        ap (λ i. address place hart i (yr + sum_part row values)) bx ∙ ap (address place hart xv) by in
-        let e : (a2.after r + address place hart (linear_value values x) (linear_value values y)) % 2 ^ 32 ≡ address place hart xv yv =
-        ap (λ n. (n + address place hart (linear_value values x) (linear_value values y)) % 2 ^ 32) er
-        ∙ ap (λ i. (((xr * b) % 2 ^ 32 + yr * row_bytes place) % 2 ^ 32 + address place hart i (linear_value values y)) % 2 ^ 32) (px.value_is values)
-        ∙ ap (λ j. (((xr * b) % 2 ^ 32 + yr * row_bytes place) % 2 ^ 32 + address place hart (sum_part column values) j) % 2 ^ 32) (py.value_is values)
+        let whole : address layout hart (xr + sum_part column values) (yr + sum_part row values) ≡ address layout hart xv yv =
+        ap (λ i. address layout hart i (yr + sum_part row values)) bx ∙ ap (address layout hart xv) by in
+        let e : (a2.after r + address layout hart (linear_value values x) (linear_value values y)) % 2 ^ 32 ≡ address layout hart xv yv =
+        ap (λ n. (n + address layout hart (linear_value values x) (linear_value values y)) % 2 ^ 32) er
+        ∙ ap (λ i. (((xr * b) % 2 ^ 32 + yr * row_bytes layout) % 2 ^ 32 + address layout hart i (linear_value values y)) % 2 ^ 32) (px.value_is values)
+        ∙ ap (λ j. (((xr * b) % 2 ^ 32 + yr * row_bytes layout) % 2 ^ 32 + address layout hart (sum_part column values) j) % 2 ^ 32) (py.value_is values)
         ∙ whole-bytes hart xr (sum_part column values) yr (sum_part row values) (subst (λ n. n < 2 ^ 32) (sym whole) low) ∙ whole in
-        let a3 = z.does w m values a2.after (address place hart xv yv) l holders k2 e in
+        let a3 = z.does w m values a2.after (address layout hart xv yv) l holders k2 e in
         record {
           after = a3.after;
           line = line-then w u.insns (v.insns ++ z.insns) f a1.after a3.after m m m a1.line

@@ -62,12 +62,13 @@ below-apart r own q is k =
 
 -- ---- forms without a part of the hart's number
 
-pub form-alone : (hart : ℕ) (values : Values) (form : AffineForm) (own : Linear) → form.per_hart ≡ 0 → form.sum ≡ own
-    → form_value hart values form ≡ linear_value values own
+pub form-alone : (hart : ℕ) (values : Values) (form : AffineForm) (new_sum : Linear) → form.per_hart ≡ 0
+    → form.sum ≡ new_sum
+    → form_value hart values form ≡ linear_value values new_sum
 unfolding form_value
-form-alone hart values form own none same =
-    let small = linear-small values own in
-    let v = linear_value values own in
+form-alone hart values form new_sum none same =
+    let small = linear-small values new_sum in
+    let v = linear_value values new_sum in
     let g : (v + hart * 0) % 2 ^ 32 ≡ v = omega (arith, small) in
     ap (λ k. (linear_value values form.sum + hart * k) % 2 ^ 32) none ∙ ap (λ (k : Linear). (linear_value values k + hart * 0) % 2 ^ 32) same ∙ g
 
@@ -143,19 +144,19 @@ number-made scope r n c0 c1 place x = record {
       record { after = a.after; line = a.line; value = a.value; others = a.others };
 }
 
-pub sum-made : (scope : List Held) (form : AffineForm) (own : Linear) (r : ℕ) (c0 c1 : List ℕ) → IsPlace r → form.per_hart ≡ 0 → form.sum ≡ own
-    → MakesValue c0 c1 scope form r → MakesHeld c0 c1 (2 + 4 * length own.terms) scope r r (λ hart values. linear_value values own)
-sum-made scope form own r c0 c1 place none same x = record {
+pub sum-made : (scope : List Held) (form : AffineForm) (new_sum : Linear) (r : ℕ) (c0 c1 : List ℕ) → IsPlace r → form.per_hart ≡ 0 → form.sum ≡ new_sum
+    → MakesValue c0 c1 scope form r → MakesHeld c0 c1 (2 + 4 * length new_sum.terms) scope r r (λ hart values. linear_value values new_sum)
+sum-made scope form new_sum r c0 c1 place none same x = record {
   insns = x.insns;
   emits = x.emits;
   short =
       let k = x.short in
       let p : base_words form.per_hart ≡ 2 = ap base_words none in
-      let e : length form.sum.terms ≡ length own.terms = ap (λ (s : Linear). length s.terms) same in
+      let e : length form.sum.terms ≡ length new_sum.terms = ap (λ (s : Linear). length s.terms) same in
       omega (arith, k, p, e);
   source = (place.0.1, (place.1.0, place.1.1));
   which = inl refl;
   does = λ w m hart values f l holders free knows.
       let a = x.does w m hart values f l holders free knows in
-      record { after = a.after; line = a.line; value = a.value ∙ form-alone hart values form own none same; others = a.others };
+      record { after = a.after; line = a.line; value = a.value ∙ form-alone hart values form new_sum none same; others = a.others };
 }

@@ -108,15 +108,15 @@ module _ (places : Places) (scope : List Held) (o : Operation) (other : Expr) wh
 
 -- ---- the store
 
-module _ (places : Places) (scope : List Held) (store : Store) (o : Operation) (other : Expr) (place : BufferLayout) (column row : PointIndex) (offset : ℕ)
+module _ (places : Places) (scope : List Held) (store : Store) (o : Operation) (other : Expr) (layout : BufferLayout) (column row : PointIndex) (offset : ℕ)
     (c0 c1 c2 c3 c4 c5 c6 : List ℕ) where
   abbrev pixel : Expr
   pixel = e.Load (sources.Func store.func) store.x store.y
 
-  pub update-made : store.value ≡ e.Binary o pixel other → place ≡ place_of places (sources.Func store.func)
+  pub update-made : store.value ≡ e.Binary o pixel other → layout ≡ place_of places (sources.Func store.func)
       → MakesIndex c0 c1 places scope first_value column store.x → MakesIndex c1 c2 places scope second_value row store.y
-      → ReachesPoint c2 c3 scope place column row first_value offset
-      → Emits c3 c4 (Fetch (load_op place.pixels) second_value first_value (lower offset) ∷ []) → Changes c4 c5 places scope o other
+      → ReachesPoint c2 c3 scope layout column row first_value offset
+      → Emits c3 c4 (Fetch (load_op layout.pixels) second_value first_value (lower offset) ∷ []) → Changes c4 c5 places scope o other
       → Emits c5 c6 (Save save_ops.Sw first_value second_value (lower offset) ∷ []) → MakesStore c0 c6 places scope store
   update-made ev ep x y z last-load change last = record {
     insns = x.insns ++ (y.insns ++ (z.insns ++ (fetching ++ (change.insns ++ saving))));
@@ -162,14 +162,14 @@ module _ (places : Places) (scope : List Held) (store : Store) (o : Operation) (
         let ex = index-stays column values a.after b.after xv
         (λ r er. b.keeps r (column-below holders r (subst (λ i. StandsIn scope first_value i) er x.stands).1.1)) a.value in
         let may-store = good.laid.stores store.func xv yv k.0 in
-        let here : address_of w own.places (func_point store.func xv yv) ≡ address place w.hart xv yv =
+        let here : address_of w own.places (func_point store.func xv yv) ≡ address layout w.hart xv yv =
         ap (λ ps. address (place_of ps (sources.Func store.func)) w.hart xv yv) at-places ∙ ap (λ pl. address pl w.hart xv yv) (sym ep) in
-        let low : address place w.hart xv yv < 2 ^ 32 = subst (λ n. n < 2 ^ 32) here may-store.low in
+        let low : address layout w.hart xv yv < 2 ^ 32 = subst (λ n. n < 2 ^ 32) here may-store.low in
         let g = z.does w memory values b.after xv yv size holders kb ex b.value low in
         let sg = λ (n : ℕ) (h : IsKept scope n). g.keeps n (kept-below scope n first_value (omega arith) holders h) in
         let kg = knows-still w.hart scope values b.after g.after sg kb in
-        let d = fetched w memory size place g.after second_value first_value offset (address place w.hart xv yv) (reads (sources.Func store.func) xv yv)
-        (omega arith, omega arith) (omega arith) z.fits z.small g.value (can-pixel w place memory xv yv (reads (sources.Func store.func) xv yv) can-pixel-here)
+        let d = fetched w memory size layout g.after second_value first_value offset (address layout w.hart xv yv) (reads (sources.Func store.func) xv yv)
+        (omega arith, omega arith) (omega arith) z.fits z.small g.value (can-pixel w layout memory xv yv (reads (sources.Func store.func) xv yv) can-pixel-here)
         in
         let sd = λ (n : ℕ) (h : IsKept scope n). d.keeps n (kept-below scope n second_value (omega arith) holders h) in
         let kd = knows-still w.hart scope values g.after d.after sd kg in
@@ -202,17 +202,17 @@ module _ (places : Places) (scope : List Held) (store : Store) (o : Operation) (
   }
     where
       fetching : List Insn
-      fetching = Fetch (load_op place.pixels) second_value first_value (lower offset) ∷ []
+      fetching = Fetch (load_op layout.pixels) second_value first_value (lower offset) ∷ []
 
       saving : List Insn
       saving = Save save_ops.Sw first_value second_value (lower offset) ∷ []
 
-      all-lengths : (is js ks ls : List Insn) → length (is ++ (js ++ (ks ++ ((Fetch (load_op place.pixels) second_value first_value (lower offset) ∷ [])
+      all-lengths : (is js ks ls : List Insn) → length (is ++ (js ++ (ks ++ ((Fetch (load_op layout.pixels) second_value first_value (lower offset) ∷ [])
           ++ (ls ++ (Save save_ops.Sw first_value second_value (lower offset) ∷ []))))))
           ≡ length is + (length js + (length ks + (1 + (length ls + 1))))
       all-lengths is js ks ls =
           let s = Save save_ops.Sw first_value second_value (lower offset) ∷ [] in
-          let rest = (Fetch (load_op place.pixels) second_value first_value (lower offset) ∷ []) ++ (ls ++ s) in
+          let rest = (Fetch (load_op layout.pixels) second_value first_value (lower offset) ∷ []) ++ (ls ++ s) in
           let a = length-append is (js ++ (ks ++ rest)) in
           let b = length-append js (ks ++ rest) in
           let c = length-append ks rest in

@@ -56,20 +56,20 @@ slot-is start word form sum same part number none = record {
   none = ap (λ (s : Linear). length s.terms) same ∙ none;
 }
 
-module _ (own : Setting) (good : IsSetting own) (funcs : Planes) (n : ℕ) (within : n < frame_words own.places.frames) where
+module _ (setting : Setting) (good : IsSetting setting) (funcs : Planes) (n : ℕ) (within : n < frame_words setting.places.frames) where
   abbrev w : World
-  w = own.world
+  w = setting.world
 
   abbrev frame : ℕ
-  frame = frame_word w own.places n
+  frame = frame_word w setting.places n
 
   low : frame < 2 ^ 32
   low = good.laid.frame.low n within
 
-  pub frame-is : (hart start : ℕ) → hart ≡ w.hart → start ≡ frames_of own.places.frames → (start + 4 * n + hart * 4096) % 2 ^ 32 ≡ frame
+  pub frame-is : (hart start : ℕ) → hart ≡ w.hart → start ≡ frames_of setting.places.frames → (start + 4 * n + hart * 4096) % 2 ^ 32 ≡ frame
   frame-is hart start eh es =
       let l = low in
-      ap (λ h. (start + 4 * n + h * 4096) % 2 ^ 32) eh ∙ ap (λ s. (s + 4 * n + w.hart * 4096) % 2 ^ 32) es ∙ plain (frames_of own.places.frames) w.hart l
+      ap (λ h. (start + 4 * n + h * 4096) % 2 ^ 32) eh ∙ ap (λ s. (s + 4 * n + w.hart * 4096) % 2 ^ 32) es ∙ plain (frames_of setting.places.frames) w.hart l
     where
       plain : (s h : ℕ) → s + 4096 * h + 4 * n < 2 ^ 32 → (s + 4 * n + h * 4096) % 2 ^ 32 ≡ s + 4096 * h + 4 * n
       plain s h l = omega (arith, l)
@@ -79,12 +79,12 @@ module _ (own : Setting) (good : IsSetting own) (funcs : Planes) (n : ℕ) (with
   record Stored (is : List Insn) (f : ℕ → ℕ) (memory : List ℕ) (v : ℕ) : Type 0 where
     pub left : List ℕ
     pub line : Line w is f memory f left
-    pub holds : HoldsFuncs own left funcs
-    pub before : (byte : ℕ) → IsBefore w own.places n byte → byte_at w.text left byte ≡ byte_at w.text memory byte
+    pub holds : HoldsFuncs setting left funcs
+    pub before : (byte : ℕ) → IsBefore w setting.places n byte → byte_at w.text left byte ≡ byte_at w.text memory byte
     pub are_bytes : AreBytes memory → AreBytes left
     pub there : word_at w.text left frame ≡ v
 
-  stored-there : (f : ℕ → ℕ) (memory : List ℕ) (b s v : ℕ) (z : ℤ) → HoldsFuncs own memory funcs → b < 32 → s < 32 → plus (f b) z ≡ frame → f s ≡ v
+  stored-there : (f : ℕ → ℕ) (memory : List ℕ) (b s v : ℕ) (z : ℤ) → HoldsFuncs setting memory funcs → b < 32 → s < 32 → plus (f b) z ≡ frame → f s ≡ v
       → v < 2 ^ 32
       → Stored (Save save_ops.Sw b s z ∷ []) f memory v
   stored-there f memory b s v z holds lb ls at-a es small =
@@ -102,7 +102,7 @@ module _ (own : Setting) (good : IsSetting own) (funcs : Planes) (n : ℕ) (with
           are_bytes = bytes-stay memory frame v holds.are_bytes;
           are_words = holds.are_words;
           holds = λ point is.
-              number-other (place_of own.places point.source).pixels w.text memory frame (address_of w own.places point) v
+              number-other (place_of setting.places point.source).pixels w.text memory frame (address_of w setting.places point) v
               (good.laid.frame.apart n point within is) ∙ holds.holds point is;
         };
         before = λ byte out. byte-other w.text memory frame v byte (out n (omega arith) within);
@@ -112,7 +112,7 @@ module _ (own : Setting) (good : IsSetting own) (funcs : Planes) (n : ℕ) (with
 
   -- it stays where only later words change
   pub there-still : (first second : List ℕ) (v : ℕ)
-      → ((byte : ℕ) → IsBefore w own.places (n + 1) byte → byte_at w.text second byte ≡ byte_at w.text first byte) → word_at w.text first frame ≡ v
+      → ((byte : ℕ) → IsBefore w setting.places (n + 1) byte → byte_at w.text second byte ≡ byte_at w.text first byte) → word_at w.text first frame ≡ v
       → word_at w.text second frame ≡ v
   there-still first second v same is =
       let k = λ (i : ℕ) (l : i < 4). same (frame + i) (λ other after high. inl (omega (arith, after, l))) in

@@ -14,11 +14,12 @@ immediate_value (immediates.Times n) v = (v * n) % 2 ^ 32
 
 -- an operation with a number makes that
 abbrev pub IsImmediateNumber : Operation → ℕ → Immediate → Type 0
-IsImmediateNumber operation n own = (v : ℕ) → v < 2 ^ 32 → word.applied operation v n ≡ immediate_value own v
+IsImmediateNumber operation n immediate = (v : ℕ) → v < 2 ^ 32
+    → word.applied operation v n ≡ immediate_value immediate v
 
 -- so it is with an expression that is a number
-pub record IsImmediate (operation : Operation) (e : Expr) (own : Immediate) : Type 0 where
+pub record IsImmediate (operation : Operation) (e : Expr) (immediate : Immediate) : Type 0 where
   pub number : ℕ
   pub is : e ≡ expressions.Number number
   pub small : number < 2 ^ 32
-  pub makes : IsImmediateNumber operation number own
+  pub makes : IsImmediateNumber operation number immediate

@@ -32,7 +32,7 @@ pub record Leaves (world : World) (memory : List ℕ) (insns : List Insn) (f : �
 
 -- ---- from registers that hold words
 
--- At most so many appended instructions leave in r what is made of two registers.
+-- At most this many appended instructions leave in r what is made of two registers.
 pub record MakesOfTwo (old new : List ℕ) (most r a b : ℕ) (says : ℕ → ℕ → ℕ) : Type 0 where
   pub insns : List Insn
   pub emits : Emits old new insns
@@ -73,8 +73,8 @@ pub record Holds (world : World) (memory : List ℕ) (insns : List Insn) (f : �
   pub value : after s ≡ v
   pub others : (q : ℕ) → q ≢ r → q ≢ scratch → q ≢ second_scratch → after q ≡ f q
 
--- At most so many appended instructions leave what is made of the hart's number and the values of loop variables in register s: in r, or in
--- one of the scope, which holds it already.
+-- At most this many appended instructions leave what is made of the hart's number and the values of loop variables in
+-- register s: in r, or in one of the scope, which holds it already.
 pub record MakesHeld (old new : List ℕ) (most : ℕ) (scope : List Held) (r s : ℕ) (says : ℕ → Values → ℕ) : Type 0 where
   pub insns : List Insn
   pub emits : Emits old new insns

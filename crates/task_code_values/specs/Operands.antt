@@ -55,17 +55,17 @@ pub record MakesOperand (old new : List ℕ) (places : Places) (scope : List Hel
 -- ---- indexes of points
 
 -- an expression that loads nothing is this sum
-pub record IsSum (e : Expr) (own : Linear) : Type 0 where
-  pub value_is : (reads : Reads) (values : Values) → value reads values e ≡ linear_value values own
-  pub held : (scope : List Held) → are_held scope e ≡ true → have_registers scope own.terms ≡ true
-  pub short : 2 + 4 * length own.terms ≤ size e
+pub record IsSum (e : Expr) (sum : Linear) : Type 0 where
+  pub value_is : (reads : Reads) (values : Values) → value reads values e ≡ linear_value values sum
+  pub held : (scope : List Held) → are_held scope e ≡ true → have_registers scope sum.terms ≡ true
+  pub short : 2 + 4 * length sum.terms ≤ size e
 
 -- an index is this number
 abbrev pub IsIndex : Values → (ℕ → ℕ) → PointIndex → ℕ → Type 0
 IsIndex values f (indexes.Sum own) v = linear_value values own ≡ v
 IsIndex values f (indexes.Register s) v = f s ≡ v
 
--- it stands in r, or in one of the scope
+-- it is in r, or in one of the scope
 abbrev pub StandsIn : List Held → ℕ → PointIndex → Type 0
 StandsIn scope r (indexes.Sum own) = Unit {0}
 StandsIn scope r (indexes.Register s) = IsStack r × (IsSource s × IsOperand scope r r s)
@@ -94,10 +94,10 @@ pub record MakesIndex (old new : List ℕ) (places : Places) (scope : List Held)
       → Finds world memory insns values f r index (value reads values e)
 
 -- appended code leaves what a buffer holds at a point in r
-pub record MakesPixel (old new : List ℕ) (scope : List Held) (place : BufferLayout) (column row : PointIndex) (r : ℕ) : Type 0 where
+pub record MakesPixel (old new : List ℕ) (scope : List Held) (layout : BufferLayout) (column row : PointIndex) (r : ℕ) : Type 0 where
   pub insns : List Insn
   pub emits : Emits old new insns
   pub short : length insns ≤ index_words column + index_words row + 13
   pub does : (world : World) (memory : List ℕ) (values : Values) (f : ℕ → ℕ) (x y pixel : ℕ) → length memory ≡ world.size → AreHolders scope
       → Knows world.hart scope values f → IsIndex values f column x → IsIndex values f row y → x < 2 ^ 32 → y < 2 ^ 32
-      → LoadsAt world place memory x y pixel → Leaves world memory insns f r r pixel
+      → LoadsAt world layout memory x y pixel → Leaves world memory insns f r r pixel

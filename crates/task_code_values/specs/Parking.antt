@@ -87,23 +87,23 @@ pub record Unparks (old new : List ℕ) (r : ℕ) : Type 0 where
 
 -- straight code after which the second value and an offset are an address, with the lane configured; it keeps the scope's registers, these lanes,
 -- what the Funcs hold, and of memory all but the hart's frame
-pub record Pointed (own : Setting) (funcs : Planes) (insns : List Insn) (scope : List Held) (f : ℕ → ℕ) (memory : List ℕ) (offset a : ℕ) : Type 0 where
+pub record Pointed (setting : Setting) (funcs : Planes) (insns : List Insn) (scope : List Held) (f : ℕ → ℕ) (memory : List ℕ) (offset a : ℕ) : Type 0 where
   pub after : ℕ → ℕ
   pub left : List ℕ
-  pub line : Line own.world insns f memory after left
+  pub line : Line setting.world insns f memory after left
   pub has : HasParking after
   pub value : (after second_value + offset) % 2 ^ 32 ≡ a
   pub keeps : (q : ℕ) → IsKept scope q → after q ≡ f q
   pub lanes : (q : ℕ) → lane 2 0 ≤ q → after q ≡ f q
-  pub holds : HoldsFuncs own left funcs
-  pub before : (byte : ℕ) → IsBefore own.world own.places 0 byte → byte_at own.world.text left byte ≡ byte_at own.world.text memory byte
+  pub holds : HoldsFuncs setting left funcs
+  pub before : (byte : ℕ) → IsBefore setting.world setting.places 0 byte → byte_at setting.world.text left byte ≡ byte_at setting.world.text memory byte
   pub are_bytes : AreBytes memory → AreBytes left
 
 -- where it lies
 abbrev pub point_address : Setting → Planes → Values → Store → ℕ
-point_address own funcs values store =
-    address (place_of own.places (sources.Func store.func)) own.world.hart (value (reads_of own.inputs funcs) values store.x)
-    (value (reads_of own.inputs funcs) values store.y)
+point_address setting funcs values store =
+    address (place_of setting.places (sources.Func store.func)) setting.world.hart (value (reads_of setting.inputs funcs) values store.x)
+    (value (reads_of setting.inputs funcs) values store.y)
 
 -- Appended code leaves its address there.
 pub record MakesPoint (old new : List ℕ) (places : Places) (scope : List Held) (offset : ℕ) (store : Store) : Type 0 where
@@ -112,26 +112,26 @@ pub record MakesPoint (old new : List ℕ) (places : Places) (scope : List Held)
   pub short : length insns ≤ size store.x + size store.y + 15
   pub fits : Fits offset
   pub small : offset < 2 ^ 32
-  pub does : (own : Setting) → IsSetting own → own.places ≡ places → (values : Values) → AreHolders scope → (f : ℕ → ℕ) (memory : List ℕ) (funcs : Planes)
-      → HoldsFuncs own memory funcs → Knows own.world.hart scope values f → list_all own.loaded (loads (reads_of own.inputs funcs) values store.x) ≡ true
-      → list_all own.loaded (loads (reads_of own.inputs funcs) values store.y) ≡ true → point_address own funcs values store < 2 ^ 32
-      → Pointed own funcs insns scope f memory offset (point_address own funcs values store)
+  pub does : (setting : Setting) → IsSetting setting → setting.places ≡ places → (values : Values) → AreHolders scope → (f : ℕ → ℕ) (memory : List ℕ) (funcs : Planes)
+      → HoldsFuncs setting memory funcs → Knows setting.world.hart scope values f → list_all setting.loaded (loads (reads_of setting.inputs funcs) values store.x) ≡ true
+      → list_all setting.loaded (loads (reads_of setting.inputs funcs) values store.y) ≡ true → point_address setting funcs values store < 2 ^ 32
+      → Pointed setting funcs insns scope f memory offset (point_address setting funcs values store)
 
 -- ---- a store's pixel and its address, for a store that is made later
 
 -- straight code after which a register holds a pixel, and the one for addresses and an offset are where it lies; it keeps as much
-pub record StoreReached (own : Setting) (funcs : Planes) (insns : List Insn) (scope : List Held) (f : ℕ → ℕ) (memory : List ℕ) (s offset a v : ℕ) : Type 0 where
+pub record StoreReached (setting : Setting) (funcs : Planes) (insns : List Insn) (scope : List Held) (f : ℕ → ℕ) (memory : List ℕ) (s offset a v : ℕ) : Type 0 where
   pub after : ℕ → ℕ
   pub left : List ℕ
-  pub line : Line own.world insns f memory after left
+  pub line : Line setting.world insns f memory after left
   pub pixel : after s ≡ v
   pub small : v < 2 ^ 32
   pub word : after address_register < 2 ^ 32
   pub address : (after address_register + offset) % 2 ^ 32 ≡ a
   pub keeps : (q : ℕ) → IsKept scope q → after q ≡ f q
   pub lanes : (q : ℕ) → lane 2 0 ≤ q → after q ≡ f q
-  pub holds : HoldsFuncs own left funcs
-  pub before : (byte : ℕ) → IsBefore own.world own.places 0 byte → byte_at own.world.text left byte ≡ byte_at own.world.text memory byte
+  pub holds : HoldsFuncs setting left funcs
+  pub before : (byte : ℕ) → IsBefore setting.world setting.places 0 byte → byte_at setting.world.text left byte ≡ byte_at setting.world.text memory byte
   pub are_bytes : AreBytes memory → AreBytes left
 
 -- Appended code leaves a store's pixel so, and reaches its point.
@@ -143,23 +143,23 @@ pub record ReachesStore (old new : List ℕ) (places : Places) (scope : List Hel
   pub small : offset < 2 ^ 32
   pub source : IsSource s
   pub which : (s ≡ first_value) ⊎ IsKept scope s
-  pub does : (own : Setting) → IsSetting own → own.places ≡ places → (values : Values) → SoundIn own (statements.Store store) values → AreHolders scope
-      → (f : ℕ → ℕ) (memory : List ℕ) (funcs : Planes) → HoldsFuncs own memory funcs → Knows own.world.hart scope values f
-      → StoreReached own funcs insns scope f memory s offset (point_address own funcs values store) (value (reads_of own.inputs funcs) values store.value)
+  pub does : (setting : Setting) → IsSetting setting → setting.places ≡ places → (values : Values) → SoundIn setting (statements.Store store) values → AreHolders scope
+      → (f : ℕ → ℕ) (memory : List ℕ) (funcs : Planes) → HoldsFuncs setting memory funcs → Knows setting.world.hart scope values f
+      → StoreReached setting funcs insns scope f memory s offset (point_address setting funcs values store) (value (reads_of setting.inputs funcs) values store.value)
 
 -- straight code after which a register holds a pixel, and the one for addresses where it lies; it keeps the scope's registers, the lanes of all
 -- vector registers but the first two, what the Funcs hold, and of memory all but the hart's frame
-pub record Prepared (own : Setting) (funcs : Planes) (insns : List Insn) (scope : List Held) (f : ℕ → ℕ) (memory : List ℕ) (s a v : ℕ) : Type 0 where
+pub record Prepared (setting : Setting) (funcs : Planes) (insns : List Insn) (scope : List Held) (f : ℕ → ℕ) (memory : List ℕ) (s a v : ℕ) : Type 0 where
   pub after : ℕ → ℕ
   pub left : List ℕ
-  pub line : Line own.world insns f memory after left
+  pub line : Line setting.world insns f memory after left
   pub pixel : after s ≡ v
   pub small : v < 2 ^ 32
   pub address : after address_register ≡ a
   pub keeps : (q : ℕ) → IsKept scope q → after q ≡ f q
   pub lanes : (q : ℕ) → lane 2 0 ≤ q → after q ≡ f q
-  pub holds : HoldsFuncs own left funcs
-  pub before : (byte : ℕ) → IsBefore own.world own.places 0 byte → byte_at own.world.text left byte ≡ byte_at own.world.text memory byte
+  pub holds : HoldsFuncs setting left funcs
+  pub before : (byte : ℕ) → IsBefore setting.world setting.places 0 byte → byte_at setting.world.text left byte ≡ byte_at setting.world.text memory byte
   pub are_bytes : AreBytes memory → AreBytes left
 
 -- Appended code leaves the pixel of a store and its address so.
@@ -169,6 +169,6 @@ pub record PreparesStore (old new : List ℕ) (places : Places) (scope : List He
   pub short : length insns ≤ store_words store
   pub source : IsSource s
   pub which : (s ≡ first_value) ⊎ IsKept scope s
-  pub does : (own : Setting) → IsSetting own → own.places ≡ places → (values : Values) → SoundIn own (statements.Store store) values → AreHolders scope
-      → (f : ℕ → ℕ) (memory : List ℕ) (funcs : Planes) → HoldsFuncs own memory funcs → Knows own.world.hart scope values f
-      → Prepared own funcs insns scope f memory s (point_address own funcs values store) (value (reads_of own.inputs funcs) values store.value)
+  pub does : (setting : Setting) → IsSetting setting → setting.places ≡ places → (values : Values) → SoundIn setting (statements.Store store) values → AreHolders scope
+      → (f : ℕ → ℕ) (memory : List ℕ) (funcs : Planes) → HoldsFuncs setting memory funcs → Knows setting.world.hart scope values f
+      → Prepared setting funcs insns scope f memory s (point_address setting funcs values store) (value (reads_of setting.inputs funcs) values store.value)

@@ -19,7 +19,7 @@ use Rattle.task_code_values.specs.Making.{IsBelow}
 use Rattle.task_code_values.specs.Operands.{IsIndex, index_words}
 use Rattle.task_code_values.specs.Points.{HaveIndex}
 
--- ---- the two parts of an index: what stands in a register, and what is a sum
+-- ---- the two parts of an index: what is in a register, and what is a sum
 
 abbrev pub register_part : PointIndex → (ℕ → ℕ) → ℕ
 register_part (indexes.Sum own) f = 0
@@ -48,16 +48,16 @@ pub record IsSumPart (index : PointIndex) (sum : Linear) : Type 0 where
 -- ---- bytes
 
 abbrev pub row_bytes : BufferLayout → ℕ
-row_bytes place = (pixel_bytes place.pixels * place.width) % 2 ^ 32
+row_bytes layout = (pixel_bytes layout.pixels * layout.width) % 2 ^ 32
 
 -- a register's bytes, and those of as many rows as another one holds where an index is one
 abbrev pub with_rows : BufferLayout → PointIndex → ℕ → (ℕ → ℕ) → ℕ
-with_rows place (indexes.Sum own) r f = f r
-with_rows place (indexes.Register t) r f = (f r + f t * row_bytes place) % 2 ^ 32
+with_rows layout (indexes.Sum own) r f = f r
+with_rows layout (indexes.Register t) r f = (f r + f t * row_bytes layout) % 2 ^ 32
 
 -- ---- addresses
 
--- it stands in another register than r, or in one of the scope
+-- it is in another register than r, or in one of the scope
 abbrev pub StandsBeside : List Held → ℕ → PointIndex → Type 0
 StandsBeside scope r (indexes.Sum own) = Unit {0}
 StandsBeside scope r (indexes.Register t) = IsSource t × ((t ≢ r) ⊎ IsKept scope t)
@@ -69,24 +69,24 @@ pub record Reached (world : World) (memory : List ℕ) (insns : List Insn) (f : 
   pub value : (after r + offset) % 2 ^ 32 ≡ v
   pub keeps : (q : ℕ) → IsBelow r q → after q ≡ f q
 
--- Appended code does so for what lies so many bytes after the point of two sums as r says.
-pub record ReachesBehind (old new : List ℕ) (scope : List Held) (place : BufferLayout) (x y : Linear) (r offset : ℕ) : Type 0 where
+-- Appended code does so for what lies this many bytes after the point of two sums as r says.
+pub record ReachesBehind (old new : List ℕ) (scope : List Held) (layout : BufferLayout) (x y : Linear) (r offset : ℕ) : Type 0 where
   pub insns : List Insn
   pub emits : Emits old new insns
   pub short : length insns ≤ 7 + 4 * (length x.terms + length y.terms)
   pub fits : Fits offset
   pub small : offset < 2 ^ 32
   pub does : (world : World) (memory : List ℕ) (values : Values) (f : ℕ → ℕ) (a : ℕ) → length memory ≡ world.size → AreHolders scope
-      → Knows world.hart scope values f → (f r + address place world.hart (linear_value values x) (linear_value values y)) % 2 ^ 32 ≡ a
+      → Knows world.hart scope values f → (f r + address layout world.hart (linear_value values x) (linear_value values y)) % 2 ^ 32 ≡ a
       → Reached world memory insns f r offset a
 
 -- And for the point of two indexes.
-pub record ReachesPoint (old new : List ℕ) (scope : List Held) (place : BufferLayout) (column row : PointIndex) (r offset : ℕ) : Type 0 where
+pub record ReachesPoint (old new : List ℕ) (scope : List Held) (layout : BufferLayout) (column row : PointIndex) (r offset : ℕ) : Type 0 where
   pub insns : List Insn
   pub emits : Emits old new insns
   pub short : length insns ≤ index_words column + index_words row + 12
   pub fits : Fits offset
   pub small : offset < 2 ^ 32
   pub does : (world : World) (memory : List ℕ) (values : Values) (f : ℕ → ℕ) (x y : ℕ) → length memory ≡ world.size → AreHolders scope
-      → Knows world.hart scope values f → IsIndex values f column x → IsIndex values f row y → address place world.hart x y < 2 ^ 32
-      → Reached world memory insns f r offset (address place world.hart x y)
+      → Knows world.hart scope values f → IsIndex values f column x → IsIndex values f row y → address layout world.hart x y < 2 ^ 32
+      → Reached world memory insns f r offset (address layout world.hart x y)

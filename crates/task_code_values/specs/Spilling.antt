@@ -49,83 +49,84 @@ abbrev pub second_value : ℕ
 second_value = 21
 
 -- a word of the frame holds v; all but the scratch registers and the one where addresses are made stays
-pub record Kept (own : Setting) (funcs : Planes) (insns : List Insn) (word : ℕ) (f : ℕ → ℕ) (memory : List ℕ) (v : ℕ) : Type 0 where
+pub record Kept (setting : Setting) (funcs : Planes) (insns : List Insn) (word : ℕ) (f : ℕ → ℕ) (memory : List ℕ) (v : ℕ) : Type 0 where
   pub after : ℕ → ℕ
   pub left : List ℕ
-  pub line : Line own.world insns f memory after left
+  pub line : Line setting.world insns f memory after left
   pub keeps : (q : ℕ) → IsBelow 32 q → after q ≡ f q
-  pub holds : HoldsFuncs own left funcs
-  pub before : (byte : ℕ) → IsBefore own.world own.places word byte → byte_at own.world.text left byte ≡ byte_at own.world.text memory byte
+  pub holds : HoldsFuncs setting left funcs
+  pub before : (byte : ℕ) → IsBefore setting.world setting.places word byte → byte_at setting.world.text left byte ≡ byte_at setting.world.text memory byte
   pub are_bytes : AreBytes memory → AreBytes left
-  pub there : word_at own.world.text left (frame_word own.world own.places word) ≡ v
+  pub there : word_at setting.world.text left (frame_word setting.world setting.places word) ≡ v
 
 -- Appended code keeps what a register holds in a word of the hart's frame,
 pub record Spills (old new : List ℕ) (places : Places) (scope : List Held) (s word : ℕ) : Type 0 where
   pub insns : List Insn
   pub emits : Emits old new insns
   pub short : length insns ≤ 7
-  pub does : (own : Setting) → IsSetting own → own.places ≡ places → (values : Values) → AreHolders scope → (f : ℕ → ℕ) (memory : List ℕ) (funcs : Planes)
-      → HoldsFuncs own memory funcs → Knows own.world.hart scope values f → f s < 2 ^ 32 → Kept own funcs insns word f memory (f s)
+  pub does : (setting : Setting) → IsSetting setting → setting.places ≡ places → (values : Values) → AreHolders scope → (f : ℕ → ℕ) (memory : List ℕ) (funcs : Planes)
+      → HoldsFuncs setting memory funcs → Knows setting.world.hart scope values f → f s < 2 ^ 32 → Kept setting funcs insns word f memory (f s)
 
 -- and loads it again.
 pub record Unspills (old new : List ℕ) (places : Places) (scope : List Held) (word r : ℕ) : Type 0 where
   pub insns : List Insn
   pub emits : Emits old new insns
   pub short : length insns ≤ 7
-  pub does : (own : Setting) → IsSetting own → own.places ≡ places → (values : Values) → AreHolders scope → (f : ℕ
+  pub does : (setting : Setting) → IsSetting setting → setting.places ≡ places → (values : Values) → AreHolders scope
+      → (f : ℕ
       → ℕ) (memory : List ℕ) (funcs : Planes) (v : ℕ)
-      → HoldsFuncs own memory funcs → Knows own.world.hart scope values f → word_at own.world.text memory (frame_word own.world own.places word) ≡ v
+      → HoldsFuncs setting memory funcs → Knows setting.world.hart scope values f → word_at setting.world.text memory (frame_word setting.world setting.places word) ≡ v
       → v < 2 ^ 32
-      → (after : ℕ → ℕ) × (Line own.world insns f memory after memory × ((after r ≡ v) × ((q : ℕ) → IsBelow 32 q → (q ≡ r → ⊥) → after q ≡ f q)))
+      → (after : ℕ → ℕ) × (Line setting.world insns f memory after memory × ((after r ≡ v) × ((q : ℕ) → IsBelow 32 q → (q ≡ r → ⊥) → after q ≡ f q)))
 
 -- two values stand in two registers
-pub record PairedIn (own : Setting) (funcs : Planes) (insns : List Insn) (word : ℕ) (f : ℕ → ℕ) (memory : List ℕ) (r s v u : ℕ) : Type 0 where
+pub record PairedIn (setting : Setting) (funcs : Planes) (insns : List Insn) (word : ℕ) (f : ℕ → ℕ) (memory : List ℕ) (r s v u : ℕ) : Type 0 where
   pub after : ℕ → ℕ
   pub left : List ℕ
-  pub line : Line own.world insns f memory after left
+  pub line : Line setting.world insns f memory after left
   pub first_is : after r ≡ v
   pub second_is : after s ≡ u
   pub small : u < 2 ^ 32
   pub keeps : (q : ℕ) → IsBelow first_value q → after q ≡ f q
-  pub holds : HoldsFuncs own left funcs
-  pub before : (byte : ℕ) → IsBefore own.world own.places word byte → byte_at own.world.text left byte ≡ byte_at own.world.text memory byte
+  pub holds : HoldsFuncs setting left funcs
+  pub before : (byte : ℕ) → IsBefore setting.world setting.places word byte → byte_at setting.world.text left byte ≡ byte_at setting.world.text memory byte
   pub are_bytes : AreBytes memory → AreBytes left
 
 -- they are two indexes of a point
-pub record FindsRow (own : Setting) (funcs : Planes) (insns : List Insn) (word : ℕ) (values : Values) (f : ℕ → ℕ) (memory : List ℕ) (point :
+pub record FindsRow (setting : Setting) (funcs : Planes) (insns : List Insn) (word : ℕ) (values : Values) (f : ℕ → ℕ) (memory : List ℕ) (point :
     PointIndexes) (v u : ℕ) : Type 0 where
   pub after : ℕ → ℕ
   pub left : List ℕ
-  pub line : Line own.world insns f memory after left
+  pub line : Line setting.world insns f memory after left
   pub column_is : IsIndex values after point.column v
   pub row_is : IsIndex values after point.row u
   pub small : u < 2 ^ 32
   pub keeps : (q : ℕ) → IsBelow first_value q → after q ≡ f q
-  pub holds : HoldsFuncs own left funcs
-  pub before : (byte : ℕ) → IsBefore own.world own.places word byte → byte_at own.world.text left byte ≡ byte_at own.world.text memory byte
+  pub holds : HoldsFuncs setting left funcs
+  pub before : (byte : ℕ) → IsBefore setting.world setting.places word byte → byte_at setting.world.text left byte ≡ byte_at setting.world.text memory byte
   pub are_bytes : AreBytes memory → AreBytes left
 
 -- the first two of the stack
 abbrev pub Paired : Setting → Planes → List Insn → ℕ → (ℕ → ℕ) → List ℕ → ℕ → ℕ → Type 0
-Paired own funcs insns word f memory v u = PairedIn own funcs insns word f memory first_value second_value v u
+Paired setting funcs insns word f memory v u = PairedIn setting funcs insns word f memory first_value second_value v u
 
 -- Appended code leaves what a register held and an expression's value there.
 pub record Pairs (old new : List ℕ) (places : Places) (scope : List Held) (word s : ℕ) (e : Expr) : Type 0 where
   pub insns : List Insn
   pub emits : Emits old new insns
   pub short : length insns ≤ size e + 15
-  pub does : (own : Setting) → IsSetting own → own.places ≡ places → (values : Values) → AreHolders scope → (f : ℕ → ℕ) (memory : List ℕ) (funcs : Planes)
-      → HoldsFuncs own memory funcs → Knows own.world.hart scope values f → list_all own.loaded (loads (reads_of own.inputs funcs) values e) ≡ true
+  pub does : (setting : Setting) → IsSetting setting → setting.places ≡ places → (values : Values) → AreHolders scope → (f : ℕ → ℕ) (memory : List ℕ) (funcs : Planes)
+      → HoldsFuncs setting memory funcs → Knows setting.world.hart scope values f → list_all setting.loaded (loads (reads_of setting.inputs funcs) values e) ≡ true
       → f s < 2 ^ 32
-      → Paired own funcs insns word f memory (f s) (value (reads_of own.inputs funcs) values e)
+      → Paired setting funcs insns word f memory (f s) (value (reads_of setting.inputs funcs) values e)
 
 -- ---- beside a first value
 
--- an operand stands in the stack's first register, or in one of the scope
+-- an operand is in the stack's first register, or in one of the scope
 abbrev pub IsFirst : List Held → ℕ → Type 0
 IsFirst scope s = IsSource s × ((s ≡ first_value) ⊎ IsKept scope s)
 
--- where a third value stands
+-- where a third value is
 abbrev pub third_value : ℕ
 third_value = 22
 
@@ -136,10 +137,11 @@ pub record MakesBoth (old new : List ℕ) (places : Places) (scope : List Held) 
   pub short : length insns ≤ size e + kept (size_of e)
   pub first_source : IsSource both.first
   pub second_source : IsSource both.second
-  pub does : (own : Setting) → IsSetting own → own.places ≡ places → (values : Values) → AreHolders scope → (f : ℕ → ℕ) (memory : List ℕ) (funcs : Planes)
-      → HoldsFuncs own memory funcs → Knows own.world.hart scope values f → list_all own.loaded (loads (reads_of own.inputs funcs) values e) ≡ true
+  pub does : (setting : Setting) → IsSetting setting → setting.places ≡ places → (values : Values) → AreHolders scope → (f : ℕ → ℕ) (memory : List ℕ) (funcs : Planes)
+      → HoldsFuncs setting memory funcs → Knows setting.world.hart scope values f → list_all setting.loaded (loads (reads_of setting.inputs funcs) values e) ≡ true
       → f s < 2 ^ 32
-      → PairedIn own funcs insns word f memory both.first both.second (f s) (value (reads_of own.inputs funcs) values e)
+      → PairedIn setting funcs insns word f memory both.first both.second (f s)
+      (value (reads_of setting.inputs funcs) values e)
 
 -- Appended code finds an expression's value as a row, beside a register that holds a column.
 pub record MakesRow (old new : List ℕ) (places : Places) (scope : List Held) (word s : ℕ) (point : PointIndexes) (e : Expr) : Type 0 where
@@ -150,10 +152,10 @@ pub record MakesRow (old new : List ℕ) (places : Places) (scope : List Held) (
   pub row_stands : StandsIn scope (first_value + 1) point.row
   pub column_held : HaveIndex scope point.column
   pub row_held : are_held scope e ≡ true → HaveIndex scope point.row
-  pub does : (own : Setting) → IsSetting own → own.places ≡ places → (values : Values) → AreHolders scope → (f : ℕ → ℕ) (memory : List ℕ) (funcs : Planes)
-      → HoldsFuncs own memory funcs → Knows own.world.hart scope values f → list_all own.loaded (loads (reads_of own.inputs funcs) values e) ≡ true
+  pub does : (setting : Setting) → IsSetting setting → setting.places ≡ places → (values : Values) → AreHolders scope → (f : ℕ → ℕ) (memory : List ℕ) (funcs : Planes)
+      → HoldsFuncs setting memory funcs → Knows setting.world.hart scope values f → list_all setting.loaded (loads (reads_of setting.inputs funcs) values e) ≡ true
       → f s < 2 ^ 32
-      → FindsRow own funcs insns word values f memory point (f s) (value (reads_of own.inputs funcs) values e)
+      → FindsRow setting funcs insns word values f memory point (f s) (value (reads_of setting.inputs funcs) values e)
 
 -- ---- what has room
 

@@ -27,15 +27,15 @@ use Rattle.task_code_values.specs.Variables.{are_held}
 
 -- Straight code leaves a word in register s. It keeps the registers below r, what the Funcs hold, and of memory all but the words of the
 -- hart's frame from a word on.
-pub record LeavesDeep (own : Setting) (funcs : Planes) (insns : List Insn) (first : ℕ) (f : ℕ → ℕ) (memory : List ℕ) (r s v : ℕ) : Type 0 where
+pub record LeavesDeep (setting : Setting) (funcs : Planes) (insns : List Insn) (first : ℕ) (f : ℕ → ℕ) (memory : List ℕ) (r s v : ℕ) : Type 0 where
   pub after : ℕ → ℕ
   pub left : List ℕ
-  pub line : Line own.world insns f memory after left
+  pub line : Line setting.world insns f memory after left
   pub value : after s ≡ v
   pub small : v < 2 ^ 32
   pub keeps : (q : ℕ) → IsBelow r q → after q ≡ f q
-  pub holds : HoldsFuncs own left funcs
-  pub before : (byte : ℕ) → IsBefore own.world own.places first byte → byte_at own.world.text left byte ≡ byte_at own.world.text memory byte
+  pub holds : HoldsFuncs setting left funcs
+  pub before : (byte : ℕ) → IsBefore setting.world setting.places first byte → byte_at setting.world.text left byte ≡ byte_at setting.world.text memory byte
   pub are_bytes : AreBytes memory → AreBytes left
 
 -- Appended code leaves an expression's value in a register, which is the stack's first or one of the scope, with the frame free from a word on.
@@ -45,9 +45,9 @@ pub record MakesValue (old new : List ℕ) (places : Places) (scope : List Held)
   pub short : length insns ≤ size e
   pub source : IsSource s
   pub which : (s ≡ first_value) ⊎ IsKept scope s
-  pub does : (own : Setting) → IsSetting own → own.places ≡ places → (values : Values) → AreHolders scope → (f : ℕ → ℕ) (memory : List ℕ) (funcs : Planes)
-      → HoldsFuncs own memory funcs → Knows own.world.hart scope values f → list_all own.loaded (loads (reads_of own.inputs funcs) values e) ≡ true
-      → LeavesDeep own funcs insns first f memory first_value s (value (reads_of own.inputs funcs) values e)
+  pub does : (setting : Setting) → IsSetting setting → setting.places ≡ places → (values : Values) → AreHolders scope → (f : ℕ → ℕ) (memory : List ℕ) (funcs : Planes)
+      → HoldsFuncs setting memory funcs → Knows setting.world.hart scope values f → list_all setting.loaded (loads (reads_of setting.inputs funcs) values e) ≡ true
+      → LeavesDeep setting funcs insns first f memory first_value s (value (reads_of setting.inputs funcs) values e)
 
 -- ---- stores
 
@@ -88,8 +88,8 @@ pub record MakesStore (old new : List ℕ) (places : Places) (scope : List Held)
   pub insns : List Insn
   pub emits : Emits old new insns
   pub short : length insns ≤ store_words store
-  pub does : (own : Setting) → IsSetting own → own.places ≡ places → (values : Values) → SoundIn own (statements.Store store) values
-      → RunsIn own (statements.Store store) values → AreHolders scope → (f : ℕ → ℕ) (memory : List ℕ) (funcs : Planes) → HoldsFuncs own memory funcs
-      → Knows own.world.hart scope values f
-      → Did own insns (length insns) f memory (IsKept scope) (run own.points own.inputs (statements.Store store) values funcs)
-      (stored_points own (statements.Store store) values funcs)
+  pub does : (setting : Setting) → IsSetting setting → setting.places ≡ places → (values : Values) → SoundIn setting (statements.Store store) values
+      → RunsIn setting (statements.Store store) values → AreHolders scope → (f : ℕ → ℕ) (memory : List ℕ) (funcs : Planes) → HoldsFuncs setting memory funcs
+      → Knows setting.world.hart scope values f
+      → Did setting insns (length insns) f memory (IsKept scope) (run setting.points setting.inputs (statements.Store store) values funcs)
+      (stored_points setting (statements.Store store) values funcs)

@@ -52,7 +52,7 @@ fn triple_height(taken: u32, first: u32, second: u32, third: u32) -> u32
     larger(first, larger(second, third))
 }
 
-/// How high the stack grows where an expression is made above so many registers. No part is asked for which they are
+/// How high the stack grows where an expression is made above this many registers. No part is asked for which they are
 /// all.
 #[tactic(auto, unfolding(loop_ir::specs::Needs::need_of))]
 fn height(e: &Expr, taken: u32) -> u32
@@ -132,7 +132,7 @@ pub fn depth(e: &Expr) -> u32
     }
 }
 
-/// The same where so many are known: it asks only where none is.
+/// The same where this many are known: it asks only where none is.
 pub(crate) fn known_depth(e: &Expr, known: u32) -> u32
     requires { known ≤ spec.depth e.now }
     ensures { (result ≤ spec.depth e.now) × (result ≡ 0 → needs.need e.now ≤ 12) }

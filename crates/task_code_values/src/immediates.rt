@@ -63,11 +63,16 @@ pub fn immediate_of(operation: Operation, e: &Expr) -> Option<Immediate>
 /// # Errors
 ///
 /// Memory ran out.
-pub fn emit_immediate(code: &mut Vec<u32>, own: Immediate, a: u8, r: u8) -> Result<(), AllocError>
+pub fn emit_immediate(
+    code: &mut Vec<u32>,
+    immediate: Immediate,
+    a: u8,
+    r: u8,
+) -> Result<(), AllocError>
     requires { IsTarget r × IsSource a }
-    ensures { OnOk result (MakesOf code.old.items code.new.items 3 r a (immediate_value own)) }
+    ensures { OnOk result (MakesOf code.old.items code.new.items 3 r a (immediate_value immediate)) }
 {
-    match own {
+    match immediate {
         Immediate::Plus(number) => {
             emit_plus(code, r, a, number)?;
             Ok(())

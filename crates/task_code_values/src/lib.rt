@@ -8,7 +8,7 @@
 //!   holds it already.
 //! - [`points`]: appends loads of points, whose indexes are sums or stand in registers.
 //! - [`scatters`]: appends what makes the address of a point for a store (`specs/Scattering.antt`).
-//! - [`sites`]: what stands around the appended code.
+//! - [`sites`]: what is around the appended code.
 //! - [`frames`]: appends what keeps a register in a word of the hart's frame, and loads it again.
 //! - [`parking`]: appends what keeps one in a lane (`specs/Parking.antt`).
 //! - [`expressions`]: appends what leaves an expression's value in a register (`specs/Operands.antt`).

@@ -128,15 +128,15 @@ pub fn emit_sum_operand(
     alloc: Global,
     code: &mut Vec<u32>,
     scope: &[Held],
-    own: &Linear,
+    new_sum: &Linear,
     r: u8,
 ) -> Result<u8, CodeFault>
     requires { IsPlace r }
-    ensures ok { IfOk result (λ s. MakesHeld code.old.items code.new.items (2 + 4 * length own.now.terms)
-        scope.now r s (λ hart values. linear_value values own.now)) }
-    ensures err { IfErr result (IsFault ⊥ (spec.have_registers scope.now own.now.terms ≡ true → ⊥)) }
+    ensures ok { IfOk result (λ s. MakesHeld code.old.items code.new.items (2 + 4 * length new_sum.now.terms)
+        scope.now r s (λ hart values. linear_value values new_sum.now)) }
+    ensures err { IfErr result (IsFault ⊥ (spec.have_registers scope.now new_sum.now.terms ≡ true → ⊥)) }
 {
-    let sum = own.copy(alloc)?;
+    let sum = new_sum.copy(alloc)?;
     let form = AffineForm { sum, per_hart: 0 };
     match find(scope, &form, true) {
         Some(found) => {

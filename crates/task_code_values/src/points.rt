@@ -37,7 +37,6 @@ pub enum PointIndex {
     Register(u8),
 }
 
-/// Written out, so that a check sees a call wherever one is dropped, and not the drops of its parts.
 impl Drop for PointIndex {
     fn drop(self) {
         match self {
@@ -54,7 +53,6 @@ pub struct PointIndexes {
     pub row: PointIndex,
 }
 
-/// Written out, so that a check sees a call wherever one is dropped, and not the drops of its parts.
 impl Drop for PointIndexes {
     fn drop(self) {
         let PointIndexes { column, row } = self;
@@ -66,7 +64,7 @@ impl Drop for PointIndexes {
 /// 2 to this is the number of bytes of a word.
 const WORD_SHIFT: u8 = 2;
 
-/// Appends what leaves so many pixels' bytes.
+/// Appends what leaves this many pixels' bytes.
 pub(crate) fn emit_scaled(
     code: &mut Vec<u32>,
     pixels: Pixels,
@@ -109,7 +107,7 @@ fn emit_point(
     Ok(())
 }
 
-/// Appends a load of what lies so many bytes after such a point as a register says.
+/// Appends a load of what lies this many bytes after such a point as a register says.
 fn emit_behind(
     alloc: Global,
     code: &mut Vec<u32>,
@@ -131,18 +129,18 @@ fn emit_behind(
     Ok(())
 }
 
-/// Appends what leaves the bytes of so many whole rows.
-fn emit_rows(code: &mut Vec<u32>, place: &BufferLayout, r: u8, s: u8) -> Result<(), AllocError>
+/// Appends what leaves the bytes of this many whole rows.
+fn emit_rows(code: &mut Vec<u32>, layout: &BufferLayout, r: u8, s: u8) -> Result<(), AllocError>
     requires { IsPlace r × IsSource s }
     ensures { OnOk result (Makes code.old.items code.new.items 3 r
-        (λ f. (f s * ((pixel_bytes place.now.pixels * place.now.width) % 2 ^ 32)) % 2 ^ 32)) }
+        (λ f. (f s * ((pixel_bytes layout.now.pixels * layout.now.width) % 2 ^ 32)) % 2 ^ 32)) }
 {
-    let row = words::multiply(bytes_of(place.pixels), place.width);
+    let row = words::multiply(bytes_of(layout.pixels), layout.width);
     emit_times(code, r, s, row)?;
     Ok(())
 }
 
-/// Appends a load of the point at a sum and an index, which stands above r where it is a register.
+/// Appends a load of the point at a sum and an index, which is above r where it is a register.
 fn emit_at_column(
     alloc: Global,
     code: &mut Vec<u32>,
@@ -191,7 +189,7 @@ fn emit_at_registers(
     emit_behind(alloc, code, buffer, &zero, &zero, r)
 }
 
-/// Appends a load of the point at a register and an index, which stands above r where it is a register too.
+/// Appends a load of the point at a register and an index, which is above r where it is a register too.
 fn emit_from_column(
     alloc: Global,
     code: &mut Vec<u32>,
@@ -217,7 +215,7 @@ fn emit_from_column(
     }
 }
 
-/// Appends a load of a source's point at two indexes. Where both are registers the second stands above r.
+/// Appends a load of a source's point at two indexes. Where both are registers the second is above r.
 ///
 /// # Errors
 ///

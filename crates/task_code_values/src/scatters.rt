@@ -43,14 +43,14 @@ fn sum_part(alloc: Global, index: &PointIndex) -> Result<Linear, AllocError>
 /// Appends what leaves the bytes of as many pixels as a register holds where an index is one, else 0.
 fn emit_columns(
     code: &mut Vec<u32>,
-    place: &BufferLayout,
+    layout: &BufferLayout,
     column: &PointIndex,
     r: u8,
 ) -> Result<(), AllocError>
     requires place { IsStack r }
     requires source { HasSource column.now }
     ensures { OnOk result (Makes code.old.items code.new.items (spec.column_words column.now) r
-        (λ f. (spec.register_part column.now f * pixel_bytes place.now.pixels) % 2 ^ 32)) }
+        (λ f. (spec.register_part column.now f * pixel_bytes layout.now.pixels) % 2 ^ 32)) }
 {
     match column {
         PointIndex::Sum(_) => {
@@ -58,7 +58,7 @@ fn emit_columns(
             Ok(())
         }
         PointIndex::Register(s) => {
-            emit_scaled(code, place.pixels, r, *s)?;
+            emit_scaled(code, layout.pixels, r, *s)?;
             Ok(())
         }
     }
@@ -67,18 +67,18 @@ fn emit_columns(
 /// Appends what adds the bytes of as many rows as a register holds where an index is one.
 fn emit_rows_added(
     code: &mut Vec<u32>,
-    place: &BufferLayout,
+    layout: &BufferLayout,
     row: &PointIndex,
     r: u8,
 ) -> Result<(), AllocError>
     requires place { IsStack r }
     requires source { HasSource row.now }
-    ensures { OnOk result (Makes code.old.items code.new.items 4 r (spec.with_rows place.now row.now r)) }
+    ensures { OnOk result (Makes code.old.items code.new.items 4 r (spec.with_rows layout.now row.now r)) }
 {
     match row {
         PointIndex::Sum(_) => Ok(()),
         PointIndex::Register(t) => {
-            let bytes = words::multiply(bytes_of(place.pixels), place.width);
+            let bytes = words::multiply(bytes_of(layout.pixels), layout.width);
             emit_times(code, SECOND_SCRATCH, *t, bytes)?;
             alu(code, AluOp::Add, r, r, SECOND_SCRATCH)?;
             Ok(())
@@ -86,7 +86,7 @@ fn emit_rows_added(
     }
 }
 
-/// Appends what makes the address of what lies so many bytes after the point of two sums as r says: it is r and the
+/// Appends what makes the address of what lies this many bytes after the point of two sums as r says: it is r and the
 /// offset that is returned.
 fn reach_behind(
     alloc: Global,
@@ -109,7 +109,7 @@ fn reach_behind(
 }
 
 /// Appends what makes the address of the point at two indexes: it is r and the offset that is returned. A row that
-/// stands in a register stands in another one than r.
+/// is in a register is in another one than r.
 ///
 /// # Errors
 ///

@@ -22,9 +22,9 @@ use task_code_registers::registers::{ADDRESS, FIRST_VALUE};
 use task_code_scalar::CodeFault;
 use task_code_scalar::instructions::alu_small;
 
-/// Where a second value stands.
+/// Where a second value is.
 pub const SECOND_VALUE: u8 = 21;
-/// Where a third value stands.
+/// Where a third value is.
 pub const THIRD_VALUE: u8 = 22;
 
 /// The registers of two operands.
@@ -35,7 +35,7 @@ pub struct OperandRegisters {
 }
 
 /// Appends what leaves an expression's value in the stack's first register, where none of the scope holds it, with the
-/// frame free from a word on. For so many of it, its first operand and so on, the stack is known to have no room. It
+/// frame free from a word on. For this many of it, its first operand and so on, the stack is known to have no room. It
 /// returns the register.
 #[cycle(deeply)]
 pub fn emit_deep(
@@ -62,7 +62,7 @@ pub fn emit_deep(
 }
 
 /// Appends what leaves the value of an expression in the stack's first register for which the stack has no room, nor
-/// for so many of its first operand, the first operand of that one and so on.
+/// for this many of its first operand, the first operand of that one and so on.
 #[cycle(deeply)]
 fn emit_spilling(
     alloc: Global,
@@ -144,7 +144,7 @@ fn emit_beside(
     })
 }
 
-/// Appends what finds a row beside a column that stands in a register, which waits in the frame where the row is no
+/// Appends what finds a row beside a column that is in a register, which waits in the frame where the row is no
 /// sum.
 #[cycle(deeply)]
 fn emit_row(

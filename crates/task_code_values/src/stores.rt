@@ -84,7 +84,7 @@ fn needed_sum(alloc: Global, e: &Expr) -> Result<Linear, CodeFault>
     ensures err { IfErr result (IsFault ⊥ ((need_of e.now).is_leaf ≡ true → ⊥)) }
 {
     match sum_of(alloc, e)? {
-        Some(own) => Ok(own),
+        Some(sum) => Ok(sum),
         None => Err(CodeFault::TooDeep),
     }
 }

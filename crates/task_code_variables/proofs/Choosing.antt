@@ -186,20 +186,22 @@ collected places scope around counter count kind body group c0 c1 is x =
 
 -- ---- statements that are one store
 
-pub no-sequence : (own first second : Stmt) → own ≡ s.Sequence first second → is_one_store own ≡ true → ⊥
-no-sequence own first second e is = absurd (true≢false (sym is ∙ ap is_one_store e ∙ one-store-sequence first second))
+pub no-sequence : (statement first second : Stmt) → statement ≡ s.Sequence first second
+    → is_one_store statement ≡ true → ⊥
+no-sequence statement first second e is = absurd (true≢false (sym is ∙ ap is_one_store e ∙ one-store-sequence first
+    second))
 
-pub no-for : (own body : Stmt) (counter : Counter) (count : ℕ) (kind : LoopKind) → own ≡ s.For counter count kind body → is_one_store own ≡ true → ⊥
-no-for own body counter count kind e is = absurd (true≢false (sym is ∙ ap is_one_store e ∙ one-store-for counter count kind body))
+pub no-for : (statement body : Stmt) (counter : Counter) (count : ℕ) (kind : LoopKind) → statement ≡ s.For counter count kind body → is_one_store statement ≡ true → ⊥
+no-for statement body counter count kind e is = absurd (true≢false (sym is ∙ ap is_one_store e ∙ one-store-for counter count kind body))
 
-pub body-one : (own body x : Stmt) (counter : Counter) (whole : Whole) (extent : ℕ) → own ≡ s.Bind counter whole extent body → x ≡ body
-    → is_one_store own ≡ true → is_one_store x ≡ true
-body-one own body x counter whole extent e ex is = ap is_one_store ex ∙ sym (one-store-bind counter whole extent body) ∙ sym (ap is_one_store e) ∙ is
+pub body-one : (statement body x : Stmt) (counter : Counter) (whole : Whole) (extent : ℕ) → statement ≡ s.Bind counter whole extent body → x ≡ body
+    → is_one_store statement ≡ true → is_one_store x ≡ true
+body-one statement body x counter whole extent e ex is = ap is_one_store ex ∙ sym (one-store-bind counter whole extent body) ∙ sym (ap is_one_store e) ∙ is
 
 -- a body is a smaller tree
-pub smaller : (own body x : Stmt) (counter : Counter) (whole : Whole) (extent : ℕ) → own ≡ s.Bind counter whole extent body → x ≡ body
-    → size-Stmt x < size-Stmt own
-smaller own body x counter whole extent e ex = subst (λ y. size-Stmt x < size-Stmt y) (sym e)
+pub smaller : (statement body x : Stmt) (counter : Counter) (whole : Whole) (extent : ℕ) → statement ≡ s.Bind counter whole extent body → x ≡ body
+    → size-Stmt x < size-Stmt statement
+smaller statement body x counter whole extent e ex = subst (λ y. size-Stmt x < size-Stmt y) (sym e)
     (subst (λ y. size-Stmt y < size-Stmt (s.Bind counter whole extent body)) (sym ex) (let h = sized-Bind counter whole extent body in omega (arith, h)))
 
 pub lanes-some : (group : LaneGroup) (n : ℕ) → n ≡ 4 * registers group → 1 ≤ n
@@ -207,6 +209,6 @@ lanes-some groups.One n e = omega (arith, e)
 lanes-some groups.Two n e = omega (arith, e)
 lanes-some groups.Four n e = omega (arith, e)
 
-pub collected-one : (count : ℕ) (kind : LoopKind) (body : Stmt) (found : Option LaneGroup) (group : LaneGroup) → found ≡ group_collected count kind body
-    → found ≡ Some group → is_one_store body ≡ true
-collected-one count kind body found group e is = (is-collected count kind body group (sym e ∙ is)).one
+pub collected-one : (count : ℕ) (kind : LoopKind) (body : Stmt) (lane_group : Option LaneGroup) (group : LaneGroup) → lane_group ≡ group_collected count kind body
+    → lane_group ≡ Some group → is_one_store body ≡ true
+collected-one count kind body lane_group group e is = (is-collected count kind body group (sym e ∙ is)).one

@@ -45,26 +45,29 @@ none-stands (own ∷ outer) counter numbers is = by-test (same_counter counter o
     by-test true h go = absurd cc
     by-test false h go = go h
 
-some-stands : (around : List Counter) (counter own : Counter) (numbers : Values) → standing around counter ≡ Some own
-    → value_in around numbers counter ≡ numbers own
-some-stands [] counter own numbers is = absurd cc
-some-stands (first ∷ outer) counter own numbers is = by-test (same_counter counter first) is (λ h. some-stands outer counter own numbers h)
+some-stands : (around : List Counter) (counter loop_counter : Counter) (numbers : Values)
+    → standing around counter ≡ Some loop_counter
+    → value_in around numbers counter ≡ numbers loop_counter
+some-stands [] counter loop_counter numbers is = absurd cc
+some-stands (first ∷ outer) counter loop_counter numbers is = by-test (same_counter counter first) is (λ h. some-stands outer counter loop_counter numbers h)
   where
-    by-test : (t : Bool) → (if t then Some (numbered (length outer)) else standing outer counter) ≡ Some own
-        → (standing outer counter ≡ Some own → value_in outer numbers counter ≡ numbers own)
-        → (if t then numbers (numbered (length outer)) else value_in outer numbers counter) ≡ numbers own
-    by-test true h go = let e : numbered (length outer) ≡ own = cc in ap numbers e
+    by-test : (t : Bool) → (if t then Some (numbered (length outer)) else standing outer counter) ≡ Some loop_counter
+        → (standing outer counter ≡ Some loop_counter → value_in outer numbers counter ≡ numbers loop_counter)
+        → (if t then numbers (numbered (length outer)) else value_in outer numbers counter) ≡ numbers loop_counter
+    by-test true h go = let e : numbered (length outer) ≡ loop_counter = cc in ap numbers e
     by-test false h go = go h
 
-pub stands-held : (around : List Counter) (scope : List Held) (counter own : Counter) → standing around counter ≡ Some own
-    → ((depth : ℕ) → depth < length around → has_variable scope (numbered depth) ≡ true) → has_variable scope own ≡ true
-stands-held [] scope counter own is have = absurd cc
-stands-held (first ∷ outer) scope counter own is have =
-    by-test (same_counter counter first) is (λ h. stands-held outer scope counter own h (λ depth less. have depth (omega (arith, less))))
+pub stands-held : (around : List Counter) (scope : List Held) (counter loop_counter : Counter) → standing around counter ≡ Some loop_counter
+    → ((depth : ℕ) → depth < length around → has_variable scope (numbered depth) ≡ true)
+    → has_variable scope loop_counter ≡ true
+stands-held [] scope counter loop_counter is have = absurd cc
+stands-held (first ∷ outer) scope counter loop_counter is have =
+    by-test (same_counter counter first) is (λ h. stands-held outer scope counter loop_counter h (λ depth less. have depth (omega (arith, less))))
   where
-    by-test : (t : Bool) → (if t then Some (numbered (length outer)) else standing outer counter) ≡ Some own
-        → (standing outer counter ≡ Some own → has_variable scope own ≡ true) → has_variable scope own ≡ true
-    by-test true h go = let e : numbered (length outer) ≡ own = cc in sym (ap (has_variable scope) e) ∙ have (length outer) (omega arith)
+    by-test : (t : Bool) → (if t then Some (numbered (length outer)) else standing outer counter) ≡ Some loop_counter
+        → (standing outer counter ≡ Some loop_counter → has_variable scope loop_counter ≡ true)
+        → has_variable scope loop_counter ≡ true
+    by-test true h go = let e : numbered (length outer) ≡ loop_counter = cc in sym (ap (has_variable scope) e) ∙ have (length outer) (omega arith)
     by-test false h go = go h
 
 zero-source : IsSource zero_register
@@ -121,17 +124,17 @@ kept-variable scope counter r hart numbers f holds knows = elim (kept-or-free sc
 pub variable-low : (scope : List Held) (counter : Counter) (r : ℕ) → HoldsVariable scope counter r → r < 32
 variable-low scope counter r holds = let m = may-hold r holds.may in let high = m.high in omega (arith, high)
 
-pub variable-standing : (scope : List Held) (around : List Counter) (counter own : Counter) (r : ℕ) → standing around counter ≡ Some own
-    → HoldsVariable scope own r → HoldsStanding scope around counter r
-variable-standing scope around counter own r is holds =
+pub variable-standing : (scope : List Held) (around : List Counter) (counter loop_counter : Counter) (r : ℕ) → standing around counter ≡ Some loop_counter
+    → HoldsVariable scope loop_counter r → HoldsStanding scope around counter r
+variable-standing scope around counter loop_counter r is holds =
     let m = may-hold r holds.may in
     let high = m.high in
     record {
       source = (omega (arith, high), (m.first, m.second));
       apart = m.third;
-      kept = λ q hart numbers f left knows. variable-kept scope own r q hart numbers f holds left knows;
+      kept = λ q hart numbers f left knows. variable-kept scope loop_counter r q hart numbers f holds left knows;
       value = λ hart values numbers f stand knows.
-          holds.value hart numbers f knows ∙ sym (ap (λ n. n % 2 ^ 32) (stand counter ∙ some-stands around counter own numbers is));
+          holds.value hart numbers f knows ∙ sym (ap (λ n. n % 2 ^ 32) (stand counter ∙ some-stands around counter loop_counter numbers is));
     }
 
 -- ---- at most so much

@@ -44,23 +44,23 @@ of_some other (Some own) = own
 sum-is : (a s : ℕ) → a ≡ 0 → s < 2 ^ 32 → lanes.add 32 a s ≡ s
 sum-is a s e l = omega (arith, e, l)
 
-module _ (own : Setting) (good : IsSetting own) (group : LaneGroup) (body : Stmt) (at : ℕ → Values) where
+module _ (setting : Setting) (good : IsSetting setting) (group : LaneGroup) (body : Stmt) (at : ℕ → Values) where
   abbrev w : World
-  w = own.world
+  w = setting.world
 
   abbrev effects : Planes → ℕ → Option Effect
-  effects funcs k = effect (reads_of own.inputs funcs) body (at k)
+  effects funcs k = effect (reads_of setting.inputs funcs) body (at k)
 
-  -- ---- what lanes hold after so many iterations
+  -- ---- what lanes hold after this many iterations
 
   -- an iteration's pixel and address are in the lanes with its number
   pub record Holds (funcs : Planes) (k : ℕ) (f : ℕ → ℕ) : Type 0 where
     pub stored : Effect
     pub is : effects funcs k ≡ Some stored
-    pub written : own.written stored.func stored.x stored.y ≡ true
+    pub written : setting.written stored.func stored.x stored.y ≡ true
     pub small : stored.pixel < 2 ^ 32
     pub pixel_is : f (lane (slot group 0) k) ≡ stored.pixel
-    pub address_is : f (lane (slot group 1) k) ≡ address_in own stored
+    pub address_is : f (lane (slot group 1) k) ≡ address_in setting stored
 
   -- those of the first iterations, as many as are configured; the others store nothing
   pub record Gathered (funcs : Planes) (n : ℕ) (f : ℕ → ℕ) : Type 0 where
@@ -101,7 +101,7 @@ module _ (own : Setting) (good : IsSetting own) (group : LaneGroup) (body : Stmt
   }
 
   -- one more iteration
-  module _ (funcs : Planes) (iterations : ℕ) (up : (k : ℕ) → k + 1 < iterations → (loop_lanes (reads_of own.inputs funcs) body).steps_up (at k) (at (k + 1))
+  module _ (funcs : Planes) (iterations : ℕ) (up : (k : ℕ) → k + 1 < iterations → (loop_lanes (reads_of setting.inputs funcs) body).steps_up (at k) (at (k + 1))
       ≡ true) (i : ℕ) (less : i < iterations) (f : ℕ → ℕ) (a : Gathered funcs i f) where
     last-or : (j : ℕ) → j < suc i → (j < i) ⊎ (j ≡ i)
     last-or j b = elim (cases_lt j i) [ inl l ↦ inl l | inr m ↦ inr (omega (arith, b, m)) ]
@@ -122,13 +122,13 @@ module _ (own : Setting) (good : IsSetting own) (group : LaneGroup) (body : Stmt
     all-stored e is = elim (cases_lt a.count i) [
       | inl l ↦
           let d : a.count + (i - a.count) ≡ i = omega (arith, l) in
-          let s = all-before (reads_of own.inputs funcs) body at iterations up (i - a.count) a.count (omega (arith, d, less))
+          let s = all-before (reads_of setting.inputs funcs) body at iterations up (i - a.count) a.count (omega (arith, d, less))
           (subst (λ k. Stored (effects funcs k)) (sym d) (record { stored = e; is = is })) in
           absurd (none-some (sym (a.none a.count (omega arith) l) ∙ s.is))
       | inr m ↦ (let q = a.few in omega (arith, m, q))
     ]
 
-    one-more : (after : ℕ → ℕ) (e : Effect) → effects funcs i ≡ Some e → CollectsOne own group i e f after → Gathered funcs (suc i) after
+    one-more : (after : ℕ → ℕ) (e : Effect) → effects funcs i ≡ Some e → CollectsOne setting group i e f after → Gathered funcs (suc i) after
     one-more after e is b =
         let c = all-stored e is in
         record {
@@ -150,19 +150,20 @@ module _ (own : Setting) (good : IsSetting own) (group : LaneGroup) (body : Stmt
           none = λ j low high. absurd (omega (arith, low, high));
         }
 
-    pub grows : (after : ℕ → ℕ) (o : Option Effect) → effects funcs i ≡ o → CollectsIf own group i o f after → Gathered funcs (suc i) after
+    pub grows : (after : ℕ → ℕ) (o : Option Effect) → effects funcs i ≡ o → CollectsIf setting group i o f after → Gathered funcs (suc i) after
     grows after None e same = none-more after e same
     grows after (Some own_effect) e b = one-more after own_effect e b
 
   -- ---- what is stored then
 
   module _ (funcs : Planes) (n : ℕ) (outside : Values) (f : ℕ → ℕ) (a : Gathered funcs n f) (few : a.count ≤ 16) (zeroed : f 0 ≡ 0)
-      (in_runs : StoreRuns own outside (effects funcs) n) (memory : List ℕ) (holds : HoldsFuncs own memory funcs) where
+      (in_runs : StoreRuns setting outside (effects funcs) n) (memory : List ℕ)
+      (holds : HoldsFuncs setting memory funcs) where
     abbrev m : ℕ
     m = a.count
 
-    of : OfFunc (reads_of own.inputs funcs) body
-    of = of-func (reads_of own.inputs funcs) body
+    of : OfFunc (reads_of setting.inputs funcs) body
+    of = of-func (reads_of setting.inputs funcs) body
 
     abbrev func : ℕ
     func = of.func
@@ -186,17 +187,17 @@ module _ (own : Setting) (good : IsSetting own) (group : LaneGroup) (body : Stmt
     held : (k : ℕ) → k < m → Holds funcs k f
     held k b = a.each k b
 
-    can : (k : ℕ) → k < m → own.written func (x k) (y k) ≡ true
+    can : (k : ℕ) → k < m → setting.written func (x k) (y k) ≡ true
     can k b =
         let h = held k b in
-        subst (λ (e : Effect). own.written func e.x e.y ≡ true) (sym (made-is k h.stored h.is)) (subst (λ z. own.written z h.stored.x h.stored.y ≡ true)
+        subst (λ (e : Effect). setting.written func e.x e.y ≡ true) (sym (made-is k h.stored h.is)) (subst (λ z. setting.written z h.stored.x h.stored.y ≡ true)
         (of.is (at k) h.stored h.is) h.written)
 
     small : (k : ℕ) → k < m → pixel k < 2 ^ 32
     small k b = let h = held k b in subst (λ (e : Effect). e.pixel < 2 ^ 32) (sym (made-is k h.stored h.is)) h.small
 
     abbrev spots : ℕ → ℕ
-    spots k = address_of w own.places (func_point func (x k) (y k))
+    spots k = address_of w setting.places (func_point func (x k) (y k))
 
     pixel-there : (k : ℕ) → k < m → f (lane (slot group 0) k) ≡ pixel k
     pixel-there k b = let h = held k b in h.pixel_is ∙ sym (ap (λ (e : Effect). e.pixel) (made-is k h.stored h.is))
@@ -204,11 +205,11 @@ module _ (own : Setting) (good : IsSetting own) (group : LaneGroup) (body : Stmt
     spot-there : (k : ℕ) → k < m → f (lane (slot group 1) k) ≡ spots k
     spot-there k b =
         let h = held k b in
-        h.address_is ∙ ap (λ z. address_of w own.places (func_point z h.stored.x h.stored.y)) (of.is (at k) h.stored h.is)
-        ∙ ap (λ (e : Effect). address_of w own.places (func_point func e.x e.y)) (sym (made-is k h.stored h.is))
+        h.address_is ∙ ap (λ z. address_of w setting.places (func_point z h.stored.x h.stored.y)) (of.is (at k) h.stored h.is)
+        ∙ ap (λ (e : Effect). address_of w setting.places (func_point func e.x e.y)) (sym (made-is k h.stored h.is))
 
     low : (k : ℕ) → k < m → spots k < 2 ^ 32
-    low k b = (may own good func m few x y pixel can small k b).low
+    low k b = (may setting good func m few x y pixel can small k b).low
 
     reached : (k : ℕ) → k < m → lanes.add 32 (f 0) (f (lane (slot group 1) k)) ≡ spots k
     reached k b = ap (lanes.add 32 (f 0)) (spot-there k b) ∙ sum-is (f 0) (spots k) zeroed (low k b)
@@ -244,7 +245,7 @@ module _ (own : Setting) (good : IsSetting own) (group : LaneGroup) (body : Stmt
       | inr q ↦ absurd (none-some (sym (a.none h.lane q h.below) ∙ h.is))
     ]
 
-    are-run : 1 ≤ m → own.in_runs func ≡ true → AreRun own m func x y
+    are-run : 1 ≤ m → setting.in_runs func ≡ true → AreRun setting m func x y
     are-run some is = elim (in_runs func is) [
       | inl none ↦ absurd (none (x 0) (y 0) (hit 0 some))
       | inr run ↦ record { values = outside; each = λ k b. run.each (x k) (y k) (hit k b); all = λ i j t. among i j (run.all i j t) }
@@ -252,7 +253,7 @@ module _ (own : Setting) (good : IsSetting own) (group : LaneGroup) (body : Stmt
 
     writable : AllWritable w Word m spots
     writable = elim (cases_lt 0 m) [
-      | inl some ↦ all-writable own good func m few x y pixel can small (are-run some)
+      | inl some ↦ all-writable setting good func m few x y pixel can small (are-run some)
       | inr none ↦
           let nothing : (k : ℕ) → k < m → ⊥ = λ k b. omega (arith, b, none) in
           let e : m ≡ 0 = omega (arith, none) in
@@ -270,28 +271,28 @@ module _ (own : Setting) (good : IsSetting own) (group : LaneGroup) (body : Stmt
     abbrev last_code : List Insn
     last_code = Vector (v.StoreElements Bits32 (slot group 0) 0 (addressings.Indexed (slot group 1)) true) ∷ []
 
-    touches : (i j byte : ℕ) (g : ℕ) → HitBy (effects funcs) n g i j → IsOf w own.places g i j byte → is_in byte (touched (accesses_to Word m spots)) ≡ true
+    touches : (i j byte : ℕ) (g : ℕ) → HitBy (effects funcs) n g i j → IsOf w setting.places g i j byte → is_in byte (touched (accesses_to Word m spots)) ≡ true
     touches i j byte g h is = elim (cases_lt h.lane m) [
       | inl b ↦
           let e = made-is h.lane h.stored h.is in
           let ef : func ≡ g = sym (of.is (at h.lane) h.stored h.is) ∙ h.func_is in
           let ex = ap (λ (e : Effect). e.x) e ∙ h.x_is in
           let ey = ap (λ (e : Effect). e.y) e ∙ h.y_is in
-          row-touched own good func m few x y pixel can small h.lane byte b
-          (subst (λ z. IsOf w own.places z (x h.lane) (y h.lane) byte) (sym ef) (subst (λ z. IsOf w own.places g z (y h.lane) byte) (sym ex)
-          (subst (λ z. IsOf w own.places g i z byte) (sym ey) is)))
+          row-touched setting good func m few x y pixel can small h.lane byte b
+          (subst (λ z. IsOf w setting.places z (x h.lane) (y h.lane) byte) (sym ef) (subst (λ z. IsOf w setting.places g z (y h.lane) byte) (sym ex)
+          (subst (λ z. IsOf w setting.places g i z byte) (sym ey) is)))
       | inr q ↦ absurd (none-some (sym (a.none h.lane q h.below) ∙ h.is))
     ]
 
-    after-all : laid own.points pixels_at m funcs ≡ laid own.points (effects funcs) n funcs
+    after-all : laid setting.points pixels_at m funcs ≡ laid setting.points (effects funcs) n funcs
     after-all =
         let q = a.few in
         let e : n ≡ (n - m) + m = omega (arith, q) in
-        laid-same own.points pixels_at (effects funcs) m same-pixels funcs
-        ∙ sym (laid-cut own.points (effects funcs) (n - m) m (λ j low high. a.none j low (omega (arith, high, e))) funcs)
-        ∙ ap (λ k. laid own.points (effects funcs) k funcs) (sym e)
+        laid-same setting.points pixels_at (effects funcs) m same-pixels funcs
+        ∙ sym (laid-cut setting.points (effects funcs) (n - m) m (λ j low high. a.none j low (omega (arith, high, e))) funcs)
+        ∙ ap (λ k. laid setting.points (effects funcs) k funcs) (sym e)
 
-    pub stored-does : (keeps_it : ℕ → Type 0) → Does own last_code 1 f memory keeps_it (laid own.points (effects funcs) n funcs) (effect_hits (effects funcs) n)
+    pub stored-does : (keeps_it : ℕ → Type 0) → Does setting last_code 1 f memory keeps_it (laid setting.points (effects funcs) n funcs) (effect_hits (effects funcs) n)
     stored-does keeps_it =
         let lies0 = slot-at group 0 (omega arith) in
         let lies1 = slot-at group 1 (omega arith) in
@@ -303,13 +304,13 @@ module _ (own : Setting) (good : IsSetting own) (group : LaneGroup) (body : Stmt
         pixel-there in
         let line = stores w f memory holds.size (registers group) a.has.configured (addressings.Indexed (slot group 1)) (slot group 0) 0 spots lies0.is_group
         (omega arith) lies1.is_group where-is can_write in
-        let row = row-holds own good func m few x y pixel can small m (omega arith) memory funcs holds in
+        let row = row-holds setting good func m few x y pixel can small m (omega arith) memory funcs holds in
         record {
           after = f;
           left = stored_lanes memory Word m spots pixel;
           path = λ from s. subst (λ z. Path w from (from + 4) 1 f memory f z) left-is (line from s);
           keeps = λ q kept. refl;
-          holds = subst (λ p. HoldsFuncs own (stored_lanes memory Word m spots pixel) p) after-all row.holds;
+          holds = subst (λ p. HoldsFuncs setting (stored_lanes memory Word m spots pixel) p) after-all row.holds;
           elsewhere = row.elsewhere;
           are_bytes = row.are_bytes;
           writes = λ g i j byte from h is s.

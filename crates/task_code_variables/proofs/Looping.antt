@@ -43,7 +43,7 @@ use Rattle.task_code_lanes.proofs.Runs.{loop-runs}
 use Rattle.task_code_lanes.proofs.Storing.{hits-at-once}
 use Rattle.task_code_registers.specs.declared.scopes.Held.{Held}
 use Rattle.task_code_registers.specs.Emitting.{HoldsVariable}
-use Rattle.task_code_registers.specs.Holding.{IsSteady, mentions, moving}
+use Rattle.task_code_registers.specs.Holding.{IsLoopInvariant, mentions, varying}
 use Rattle.task_code_registers.specs.Registers.{may_hold}
 use Rattle.task_code_registers.specs.Scopes.{AreHolders, IsKept, Knows, are_registers}
 use Rattle.task_code_registers.proofs.Advancing.{scopes-stay}
@@ -74,19 +74,19 @@ zero-least n = omega arith
 
 -- ---- lanes stay while the next iteration's numbers are made
 
-pub lanes-steady : (counter : Counter) (inner : List Held) (q : ℕ) → are_registers inner ≡ true → 32 ≤ q → IsSteady counter inner q
-lanes-steady counter [] q all high = ((λ e. omega (arith, e, high)), (λ e. omega (arith, e, high)))
-lanes-steady counter (own ∷ others) q all high =
+pub lanes-loop_invariant : (counter : Counter) (inner : List Held) (q : ℕ) → are_registers inner ≡ true → 32 ≤ q → IsLoopInvariant counter inner q
+lanes-loop_invariant counter [] q all high = ((λ e. omega (arith, e, high)), (λ e. omega (arith, e, high)))
+lanes-loop_invariant counter (own ∷ others) q all high =
     let k = and_parts (may_hold own.register) (are_registers others) all in
     let m = may-hold own.register k.0 in
     let low = m.high in
-    ((λ h e. omega (arith, e, high, low)), lanes-steady counter others q k.1 high)
+    ((λ h e. omega (arith, e, high, low)), lanes-loop_invariant counter others q k.1 high)
 
 module _ (places : Places) (scope : List Held) (around : List Counter) (group : LaneGroup) (counter : Counter) (body : Stmt) (begun : BegunLoop) (r : ℕ)
     (reserved : ℕ) (c0 c1 c2 c3 c4 c5 : List ℕ)
     (none : mentions (numbered (length around)) scope ≡ false)
     (begins : IsBegun c0 c1 16 (numbered (length around)) (4 * registers group) scope reserved begun)
-    (moves : moving begun.counter begun.inner.items ≤ 1) (all : are_registers begun.inner.items ≡ true)
+    (moves : varying begun.counter begun.inner.items ≤ 1) (all : are_registers begun.inner.items ≡ true)
     (held : HoldsVariable begun.inner.items (numbered (length around)) r)
     (sets : Emits c1 c2 (Vector (v.Vsetivli 0 0 (vtype_of group)) ∷ []))
     (x : Collects c2 c3 places begun.inner.items (counter ∷ around) group r body)
@@ -173,7 +173,7 @@ module _ (places : Places) (scope : List Held) (around : List Counter) (group : 
         knows : Knows hart inner (with number i numbers) g
         gathered : Gathered own good group body at funcs (suc i) g
 
-      stays : (q : ℕ) → IsKept scope q → IsKept inner q × IsSteady begun.counter inner q
+      stays : (q : ℕ) → IsKept scope q → IsKept inner q × IsLoopInvariant begun.counter inner q
       stays q h = scopes-stay begun.counter scope inner begins.enters.extends (ap (λ c. mentions c scope) begins.counter_is ∙ none) inner-holders q h
 
       iteration : (i : ℕ) (g : ℕ → ℕ) (m : List ℕ) (p : Planes) → i < count → HoldsFuncs own m p → Before p i g
@@ -220,7 +220,7 @@ module _ (places : Places) (scope : List Held) (around : List Counter) (group : 
               same = a.same;
               knows = subst (λ c. Knows hart inner (with c (suc i) numbers) t.after) ec t.mark;
               gathered = gathered-stay own good group body at funcs (suc i) g t.after
-                  (λ q high. t.keeps q (lanes-steady begun.counter inner q all high)) a.gathered;
+                  (λ q high. t.keeps q (lanes-loop_invariant begun.counter inner q all high)) a.gathered;
             };
             again = λ more. t.again (let e = begins.count_is in omega (arith, more, e));
             leaves = λ last. t.leaves (let e = begins.count_is in omega (arith, last, e));

@@ -77,7 +77,7 @@ module _ (w : World) (m : List ℕ) (l : length m ≡ w.size) (group : LaneGroup
     f1-others : (q : ℕ) → q ≢ 14 → f1 q ≡ f q
     f1-others q a = i1.others q a
 
-    -- so many lanes are configured
+    -- this many lanes are configured
     abbrev f2 : ℕ → ℕ
     f2 = configure f1 (suc i) (vtype_of group)
 

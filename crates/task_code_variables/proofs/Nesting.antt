@@ -27,7 +27,7 @@ use Rattle.task_code_scalar.proofs.Tracing.{hit, hit-sequence, hit-for, hit-bind
 use Rattle.task_code_registers.specs.declared.scopes.AffineForm.{AffineForm}
 use Rattle.task_code_registers.specs.declared.scopes.Held.{Held}
 use Rattle.task_code_registers.specs.Doing.{Did}
-use Rattle.task_code_registers.specs.Holding.{mentions, moving}
+use Rattle.task_code_registers.specs.Holding.{mentions, varying}
 use Rattle.task_code_registers.specs.Scopes.{IsKept, Knows, form_value}
 use Rattle.task_code_registers.specs.Strides.{has_counter}
 use Rattle.task_code_registers.proofs.Going.{still, went-hits}
@@ -108,23 +108,23 @@ sequence-appends places scope around first second c0 c1 c2 x y = record {
       (sym (hit-sequence own.points own.inputs func i j first second values funcs) ∙ h)));
 }
 
-pub sequence-arm : (places : Places) (scope : List Held) (around : List Counter) (own first second x y : Stmt) (c0 c1 c2 : List ℕ)
-    → own ≡ s.Sequence first second → x ≡ first → y ≡ second
-    → AppendsStatement c0 c1 places scope around x → AppendsStatement c1 c2 places scope around y → AppendsStatement c0 c2 places scope around own
-sequence-arm places scope around own first second x y c0 c1 c2 is ex ey one two =
+pub sequence-arm : (places : Places) (scope : List Held) (around : List Counter) (statement first second x y : Stmt) (c0 c1 c2 : List ℕ)
+    → statement ≡ s.Sequence first second → x ≡ first → y ≡ second
+    → AppendsStatement c0 c1 places scope around x → AppendsStatement c1 c2 places scope around y → AppendsStatement c0 c2 places scope around statement
+sequence-arm places scope around statement first second x y c0 c1 c2 is ex ey one two =
     subst (λ t. AppendsStatement c0 c2 places scope around t) (sym (is ∙ ap (λ t. s.Sequence t second) (sym ex) ∙ ap (s.Sequence x) (sym ey)))
     (sequence-appends places scope around x y c0 c1 c2 one two)
 
 -- ---- loops
 
 -- nothing goes along that isn't mentioned
-pub none-moving : (counter : Counter) (scope : List Held) → mentions counter scope ≡ false → moving counter scope ≡ 0
-none-moving counter [] none = refl
-none-moving counter (own ∷ others) none =
-    by-test (has_counter counter own.form.sum.terms) none (λ h. none-moving counter others h)
+pub none-varying : (counter : Counter) (scope : List Held) → mentions counter scope ≡ false → varying counter scope ≡ 0
+none-varying counter [] none = refl
+none-varying counter (own ∷ others) none =
+    by-test (has_counter counter own.form.sum.terms) none (λ h. none-varying counter others h)
   where
-    by-test : (t : Bool) → (if t then true else mentions counter others) ≡ false → (mentions counter others ≡ false → moving counter others ≡ 0)
-        → (if t then suc (moving counter others) else moving counter others) ≡ 0
+    by-test : (t : Bool) → (if t then true else mentions counter others) ≡ false → (mentions counter others ≡ false → varying counter others ≡ 0)
+        → (if t then suc (varying counter others) else varying counter others) ≡ 0
     by-test true h go = absurd (true≢false h)
     by-test false h go = go h
 
@@ -188,17 +188,17 @@ module _ (places : Places) (scope inner : List Held) (around : List Counter) (co
         (stores-all own counter body values) f memory funcs holds knows);
   }
 
-pub loop-arm : (places : Places) (scope : List Held) (around inside : List Counter) (counter own : Counter) (count : ℕ) (kind : LoopKind) (body : Stmt)
+pub loop-arm : (places : Places) (scope : List Held) (around inside : List Counter) (counter loop_counter : Counter) (count : ℕ) (kind : LoopKind) (body : Stmt)
     (begun : BegunLoop) (view : List Held) (reserved start : ℕ) (c0 c1 c2 c3 : List ℕ) → is_vectorized kind ≡ false → 1 ≤ count
-    → own ≡ numbered (length around) → mentions own scope ≡ false
-    → IsBegun c0 c1 16 own count scope reserved begun → moving begun.counter begun.inner.items ≤ 1
+    → loop_counter ≡ numbered (length around) → mentions loop_counter scope ≡ false
+    → IsBegun c0 c1 16 loop_counter count scope reserved begun → varying begun.counter begun.inner.items ≤ 1
     → view ≡ begun.inner.items → start ≡ length c1 → inside ≡ counter ∷ around → AppendsStatement c1 c2 places view inside body
     → EndsLoop c2 c3 begun (length c2 - start) → AppendsStatement c0 c3 places scope around (s.For counter count kind body)
-loop-arm places scope around inside counter own count kind body begun view reserved start c0 c1 c2 c3 plain some eo none begins moves ev es ei x ends =
+loop-arm places scope around inside counter loop_counter count kind body begun view reserved start c0 c1 c2 c3 plain some eo none begins moves ev es ei x ends =
     let x1 = subst (λ i. AppendsStatement c1 c2 places i inside body) ev x in
     let y = subst (λ i. AppendsStatement c1 c2 places begun.inner.items i body) ei x1 in
     let z = subst (λ n. EndsLoop c2 c3 begun (length c2 - n)) es ends in
-    let made = loops-are-made c0 c1 c2 c3 16 own count reserved scope begun y.insns none begins y.emits z in
+    let made = loops-are-made c0 c1 c2 c3 16 loop_counter count reserved scope begun y.insns none begins y.emits z in
     loop-appends places scope begun.inner.items around counter count kind body (16 + end_words begun) c0 c1 c2 c3 plain some (omega (arith, moves)) y
     (subst (λ k. MakesLoop c0 c3 (16 + end_words begun) scope begun.inner.items k count y.insns) eo made)
 
@@ -284,18 +284,19 @@ module _ (places : Places) (scope inner : List Held) (around : List Counter) (co
             (did-is (ap (λ n. if nat_lt n extent then g.before + x.turns (within numbers) else g.past) (fv ∙ ev)) refl (λ func i j h. h) second));
       }
 
-pub for-arm : (places : Places) (scope : List Held) (around : List Counter) (own : Stmt) (counter : Counter) (count : ℕ) (kind : LoopKind) (body x : Stmt)
-    (c0 c1 : List ℕ) → own ≡ s.For counter count kind body → x ≡ body → AppendsStatement c0 c1 places scope around (s.For counter count kind x)
-    → AppendsStatement c0 c1 places scope around own
-for-arm places scope around own counter count kind body x c0 c1 is ex made =
+pub for-arm : (places : Places) (scope : List Held) (around : List Counter) (statement : Stmt) (counter : Counter) (count : ℕ) (kind : LoopKind) (body x : Stmt)
+    (c0 c1 : List ℕ) → statement ≡ s.For counter count kind body → x ≡ body → AppendsStatement c0 c1 places scope around (s.For counter count kind x)
+    → AppendsStatement c0 c1 places scope around statement
+for-arm places scope around statement counter count kind body x c0 c1 is ex made =
     subst (λ y. AppendsStatement c0 c1 places scope around y) (sym (is ∙ ap (s.For counter count kind) (sym ex))) made
 
-pub bind-arm : (places : Places) (scope : List Held) (around : List Counter) (own : Stmt) (counter : Counter) (whole : Whole) (extent : ℕ) (body x : Stmt)
-    (c0 c1 : List ℕ) → own ≡ s.Bind counter whole extent body → x ≡ body → AppendsStatement c0 c1 places scope around (s.Bind counter whole extent x)
-    → AppendsStatement c0 c1 places scope around own
-bind-arm places scope around own counter whole extent body x c0 c1 is ex made =
+pub bind-arm : (places : Places) (scope : List Held) (around : List Counter) (statement : Stmt) (counter : Counter) (whole : Whole) (extent : ℕ) (body x : Stmt)
+    (c0 c1 : List ℕ) → statement ≡ s.Bind counter whole extent body → x ≡ body → AppendsStatement c0 c1 places scope around (s.Bind counter whole extent x)
+    → AppendsStatement c0 c1 places scope around statement
+bind-arm places scope around statement counter whole extent body x c0 c1 is ex made =
     subst (λ y. AppendsStatement c0 c1 places scope around y) (sym (is ∙ ap (s.Bind counter whole extent) (sym ex))) made
 
-pub store-arm : (places : Places) (scope : List Held) (around : List Counter) (own x : Stmt) (c0 c1 : List ℕ) → own ≡ x
-    → AppendsStatement c0 c1 places scope around x → AppendsStatement c0 c1 places scope around own
-store-arm places scope around own x c0 c1 is made = subst (λ y. AppendsStatement c0 c1 places scope around y) (sym is) made
+pub store-arm : (places : Places) (scope : List Held) (around : List Counter) (statement x : Stmt) (c0 c1 : List ℕ)
+    → statement ≡ x
+    → AppendsStatement c0 c1 places scope around x → AppendsStatement c0 c1 places scope around statement
+store-arm places scope around statement x c0 c1 is made = subst (λ y. AppendsStatement c0 c1 places scope around y) (sym is) made

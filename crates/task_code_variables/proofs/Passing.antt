@@ -32,9 +32,9 @@ up-to a b c t u = let l : a ≤ b = grind (arith, nat_tests) in let m : b < c = 
     grind (arith, nat_tests, n)
 
 -- what is stored, if anything is
-pub record Stored (own : Option Effect) : Type 0 where
+pub record Stored (own_effect : Option Effect) : Type 0 where
   pub stored : Effect
-  pub is : own ≡ Some stored
+  pub is : own_effect ≡ Some stored
 
 module _ (reads : Reads) where
   -- ---- one Func
@@ -42,19 +42,23 @@ module _ (reads : Reads) where
   -- all that is stored is of this Func
   pub record OfFunc (statement : Stmt) : Type 0 where
     pub func : ℕ
-    pub is : (values : Values) (own : Effect) → effect reads statement values ≡ Some own → own.func ≡ func
+    pub is : (values : Values) (own_effect : Effect) → effect reads statement values ≡ Some own_effect
+        → own_effect.func ≡ func
 
   none-stored : (statement : Stmt) → ((values : Values) → effect reads statement values ≡ None) → OfFunc statement
-  none-stored statement none = record { func = 0; is = λ values own e. absurd (none-some (sym (none values) ∙ e)) }
+  none-stored statement none = record {
+    func = 0;
+    is = λ values own_effect e. absurd (none-some (sym (none values) ∙ e));
+  }
 
-  by-pass : (t : Bool) (inner : Option Effect) (own : Effect) (func : ℕ) → ((e : Effect) → inner ≡ Some e → e.func ≡ func) → cond t inner None ≡ Some own
-      → own.func ≡ func
-  by-pass true inner own func is e = is own e
-  by-pass false inner own func is e = absurd (none-some e)
+  by-pass : (t : Bool) (inner : Option Effect) (own_effect : Effect) (func : ℕ) → ((e : Effect) → inner ≡ Some e → e.func ≡ func) → cond t inner None ≡ Some own_effect
+      → own_effect.func ≡ func
+  by-pass true inner own_effect func is e = is own_effect e
+  by-pass false inner own_effect func is e = absurd (none-some e)
 
   func-by-layer : (X : Type 0) (part : X → Stmt) → ((p : X) → OfFunc (part p)) → (l : Stmt-F X) → OfFunc (roll-Stmt (map-Stmt X Stmt part l))
   func-by-layer X part of (layer.Store store) = subst OfFunc (sym (rolls-Store store))
-      (record { func = store.func; is = λ values own e. sym (ap (λ o. (of_some own o).func) (sym (effect_store reads store values) ∙ e)) })
+      (record { func = store.func; is = λ values own_effect e. sym (ap (λ o. (of_some own_effect o).func) (sym (effect_store reads store values) ∙ e)) })
   func-by-layer X part of (layer.Sequence a b) = subst OfFunc (sym (rolls-Sequence (part a) (part b))) (none-stored (s.Sequence (part a) (part b))
       (effect_sequence reads (part a) (part b)))
   func-by-layer X part of (layer.For counter count kind a) = subst OfFunc (sym (rolls-For counter count kind (part a)))
@@ -62,8 +66,8 @@ module _ (reads : Reads) where
   func-by-layer X part of (layer.Bind counter whole extent a) = subst OfFunc (sym (rolls-Bind counter whole extent (part a)))
       (record {
         func = (of a).func;
-        is = λ values own e.
-            by-pass (nat_lt (whole_value whole values) extent) (effect reads (part a) (with counter (whole_value whole values) values)) own (of a).func
+        is = λ values own_effect e.
+            by-pass (nat_lt (whole_value whole values) extent) (effect reads (part a) (with counter (whole_value whole values) values)) own_effect (of a).func
             (λ i k. (of a).is (with counter (whole_value whole values) values) i k)
             (sym (effect_bind reads counter whole extent (part a) values) ∙ e);
       })

@@ -47,12 +47,12 @@ sum-renamed around values numbers stand (first ∷ others) =
     standing-value around numbers first.counter first.stride (sum_of values others) (renamed around others) (sum-renamed around values numbers stand others)
     ∙ ap (λ n. n * first.stride + sum_of values others) (sym (stand first.counter))
 
-linear-renamed : (around : List Counter) (values numbers : Values) → StandFor around values numbers → (own : Linear)
-    → linear_value numbers (renamed_sum around own) ≡ linear_value values own
+linear-renamed : (around : List Counter) (values numbers : Values) → StandFor around values numbers → (new_sum : Linear)
+    → linear_value numbers (renamed_sum around new_sum) ≡ linear_value values new_sum
 unfolding linear_value
-linear-renamed around values numbers stand own = ap (λ n. (own.number + n) % 2 ^ 32) (sum-renamed around values numbers stand own.terms)
+linear-renamed around values numbers stand new_sum = ap (λ n. (new_sum.number + n) % 2 ^ 32) (sum-renamed around values numbers stand new_sum.terms)
 
-few-at : (found : Option Counter) (stride k : ℕ) (others : List Term) → length others ≤ k → length (renamed_at found stride others) ≤ suc k
+few-at : (loop_counter : Option Counter) (stride k : ℕ) (others : List Term) → length others ≤ k → length (renamed_at loop_counter stride others) ≤ suc k
 few-at None stride k others less = omega (arith, less)
 few-at (Some counter) stride k others less = omega (arith, less)
 
@@ -99,8 +99,8 @@ both-true a b ea eb = ap (λ t. t && b) ea ∙ eb
 abbrev point : Source → ℕ → ℕ → Point
 point source x y = record { source = source; x = x; y = y }
 
-words_is : (own : Expr) (n : Size) → size_of own ≡ n → size own ≡ n.words
-words_is own n is = ap (λ (k : Size). k.words) is
+words_is : (expression : Expr) (n : Size) → size_of expression ≡ n → size expression ≡ n.words
+words_is expression n is = ap (λ (k : Size). k.words) is
 
 kept-same : (a b : Expr) → (size_of a).is_leaf ≡ (size_of b).is_leaf → kept (size_of a) ≡ kept (size_of b)
 kept-same a b same = ap (λ t. if t then 0 else 15) same
@@ -109,12 +109,12 @@ leaf-same : (a b : Expr) (m n : Size) → size_of a ≡ m → size_of b ≡ n �
 leaf-same a b m n em en same = ap (λ (k : Size). k.is_leaf) em ∙ same ∙ sym (ap (λ (k : Size). k.is_leaf) en)
 
 module _ (around : List Counter) where
-  renamed-as : (own x made : Expr) → own ≡ x → IsRenamed around x made → IsRenamed around own made
-  renamed-as own x made is same = subst (λ y. IsRenamed around y made) (sym is) same
+  renamed-as : (expression x made : Expr) → expression ≡ x → IsRenamed around x made → IsRenamed around expression made
+  renamed-as expression x made is same = subst (λ y. IsRenamed around y made) (sym is) same
 
-  pub renamed-number : (own : Expr) (n : ℕ) → own ≡ e.Number n → IsRenamed around own (e.Number n)
+  pub renamed-number : (expression : Expr) (n : ℕ) → expression ≡ e.Number n → IsRenamed around expression (e.Number n)
   unfolding are_held
-  renamed-number own n is = renamed-as own (e.Number n) (e.Number n) is (record {
+  renamed-number expression n is = renamed-as expression (e.Number n) (e.Number n) is (record {
     value_is = λ values numbers stand reads. value_number reads numbers n ∙ sym (value_number reads values n);
     loads_are = λ values numbers stand reads. loads_number reads numbers n ∙ sym (loads_number reads values n);
     need_is = refl;
@@ -123,9 +123,9 @@ module _ (around : List Counter) where
     held = λ scope holds. at_number Bool (are_held_at scope) n;
   })
 
-  pub renamed-linear : (own : Expr) (sum made : Linear) → own ≡ e.Linear sum → made ≡ renamed_sum around sum → IsRenamed around own (e.Linear made)
+  pub renamed-linear : (expression : Expr) (sum made : Linear) → expression ≡ e.Linear sum → made ≡ renamed_sum around sum → IsRenamed around expression (e.Linear made)
   unfolding are_held
-  renamed-linear own sum made is em = renamed-as own (e.Linear sum) (e.Linear made) is
+  renamed-linear expression sum made is em = renamed-as expression (e.Linear sum) (e.Linear made) is
       (subst (λ m. IsRenamed around (e.Linear sum) (e.Linear m)) (sym em) (record {
         value_is = λ values numbers stand reads. value_linear reads numbers (renamed_sum around sum) ∙ linear-renamed around values numbers stand sum
             ∙ sym (value_linear reads values sum);
@@ -140,10 +140,10 @@ module _ (around : List Counter) where
         held = λ scope holds. at_linear Bool (are_held_at scope) (renamed_sum around sum) ∙ terms-held around scope holds sum.terms;
       }))
 
-  pub renamed-binary : (own : Expr) (o : Operation) (a b x y p q : Expr) → own ≡ e.Binary o a b → x ≡ a → y ≡ b → IsRenamed around x p
-      → IsRenamed around y q → IsRenamed around own (e.Binary o p q)
+  pub renamed-binary : (expression : Expr) (o : Operation) (a b x y p q : Expr) → expression ≡ e.Binary o a b → x ≡ a → y ≡ b → IsRenamed around x p
+      → IsRenamed around y q → IsRenamed around expression (e.Binary o p q)
   unfolding are_held
-  renamed-binary own o a b x y p q is ex ey one two = renamed-as own (e.Binary o x y) (e.Binary o p q)
+  renamed-binary expression o a b x y p q is ex ey one two = renamed-as expression (e.Binary o x y) (e.Binary o p q)
       (is ∙ ap (λ z. e.Binary o z b) (sym ex) ∙ ap (e.Binary o x) (sym ey)) (record {
         value_is = λ values numbers stand reads. value_binary reads numbers o p q
             ∙ ap (λ z. word.applied o z (value reads numbers q)) (one.value_is values numbers stand reads)
@@ -163,9 +163,9 @@ module _ (around : List Counter) where
             ∙ both-true (are_held scope p) (are_held scope q) (one.held scope holds) (two.held scope holds);
       })
 
-  pub renamed-divide : (own a x p : Expr) (c : ℕ) → own ≡ e.Divide a c → x ≡ a → IsRenamed around x p → IsRenamed around own (e.Divide p c)
+  pub renamed-divide : (expression a x p : Expr) (c : ℕ) → expression ≡ e.Divide a c → x ≡ a → IsRenamed around x p → IsRenamed around expression (e.Divide p c)
   unfolding are_held
-  renamed-divide own a x p c is ex one = renamed-as own (e.Divide x c) (e.Divide p c) (is ∙ ap (λ z. e.Divide z c) (sym ex)) (record {
+  renamed-divide expression a x p c is ex one = renamed-as expression (e.Divide x c) (e.Divide p c) (is ∙ ap (λ z. e.Divide z c) (sym ex)) (record {
     value_is = λ values numbers stand reads. value_divide reads numbers p c ∙ ap (λ z. word.divide z c) (one.value_is values numbers stand reads)
         ∙ sym (value_divide reads values x c);
     loads_are = λ values numbers stand reads. loads_divide reads numbers p c ∙ one.loads_are values numbers stand reads ∙ sym (loads_divide reads values x c);
@@ -178,9 +178,9 @@ module _ (around : List Counter) where
     held = λ scope holds. at_divide Bool (are_held_at scope) p c ∙ one.held scope holds;
   })
 
-  pub renamed-remainder : (own a x p : Expr) (c : ℕ) → own ≡ e.Remainder a c → x ≡ a → IsRenamed around x p → IsRenamed around own (e.Remainder p c)
+  pub renamed-remainder : (expression a x p : Expr) (c : ℕ) → expression ≡ e.Remainder a c → x ≡ a → IsRenamed around x p → IsRenamed around expression (e.Remainder p c)
   unfolding are_held
-  renamed-remainder own a x p c is ex one = renamed-as own (e.Remainder x c) (e.Remainder p c) (is ∙ ap (λ z. e.Remainder z c) (sym ex)) (record {
+  renamed-remainder expression a x p c is ex one = renamed-as expression (e.Remainder x c) (e.Remainder p c) (is ∙ ap (λ z. e.Remainder z c) (sym ex)) (record {
     value_is = λ values numbers stand reads. value_remainder reads numbers p c ∙ ap (λ z. word.remainder z c) (one.value_is values numbers stand reads)
         ∙ sym (value_remainder reads values x c);
     loads_are = λ values numbers stand reads. loads_remainder reads numbers p c ∙ one.loads_are values numbers stand reads
@@ -194,10 +194,11 @@ module _ (around : List Counter) where
     held = λ scope holds. at_remainder Bool (are_held_at scope) p c ∙ one.held scope holds;
   })
 
-  pub renamed-select : (own c a b x y z p q r : Expr) → own ≡ e.Select c a b → x ≡ c → y ≡ a → z ≡ b → IsRenamed around x p → IsRenamed around y q
-      → IsRenamed around z r → IsRenamed around own (e.Select p q r)
+  pub renamed-select : (expression c a b x y z p q r : Expr) → expression ≡ e.Select c a b → x ≡ c → y ≡ a → z ≡ b → IsRenamed around x p → IsRenamed around y q
+      → IsRenamed around z r → IsRenamed around expression (e.Select p q r)
   unfolding are_held
-  renamed-select own c a b x y z p q r is ex ey ez one two three = renamed-as own (e.Select x y z) (e.Select p q r)
+  renamed-select expression c a b x y z p q r is ex ey ez one two three = renamed-as expression (e.Select x y z)
+      (e.Select p q r)
       (is ∙ ap (λ t. e.Select t a b) (sym ex) ∙ ap (λ t. e.Select x t b) (sym ey) ∙ ap (e.Select x y) (sym ez)) (record {
         value_is = λ values numbers stand reads. value_select reads numbers p q r
             ∙ ap (λ t. if t == 0 then value reads numbers r else value reads numbers q) (one.value_is values numbers stand reads)
@@ -224,10 +225,11 @@ module _ (around : List Counter) where
             (both-true (are_held scope q) (are_held scope r) (two.held scope holds) (three.held scope holds));
       })
 
-  pub renamed-load : (own : Expr) (source : Source) (a b x y p q : Expr) → own ≡ e.Load source a b → x ≡ a → y ≡ b → IsRenamed around x p
-      → IsRenamed around y q → IsRenamed around own (e.Load source p q)
+  pub renamed-load : (expression : Expr) (source : Source) (a b x y p q : Expr) → expression ≡ e.Load source a b → x ≡ a → y ≡ b → IsRenamed around x p
+      → IsRenamed around y q → IsRenamed around expression (e.Load source p q)
   unfolding are_held
-  renamed-load own source a b x y p q is ex ey one two = renamed-as own (e.Load source x y) (e.Load source p q)
+  renamed-load expression source a b x y p q is ex ey one two = renamed-as expression (e.Load source x y)
+      (e.Load source p q)
       (is ∙ ap (λ z. e.Load source z b) (sym ex) ∙ ap (e.Load source x) (sym ey)) (record {
         value_is = λ values numbers stand reads. value_load reads numbers source p q
             ∙ ap (λ z. reads source z (value reads numbers q)) (one.value_is values numbers stand reads)

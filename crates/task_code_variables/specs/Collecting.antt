@@ -83,24 +83,25 @@ pub record PutsIntoLane (old new : List ℕ) (group : LaneGroup) (r s : ℕ) : T
 
 -- where a pixel lies
 abbrev pub address_in : Setting → Effect → ℕ
-address_in own stored = address_of own.world own.places (func_point stored.func stored.x stored.y)
+address_in setting stored = address_of setting.world setting.places (func_point stored.func stored.x stored.y)
 
 -- an iteration's pixel may be stored, and is in the lanes with its number
-pub record CollectsOne (own : Setting) (group : LaneGroup) (i : ℕ) (stored : Effect) (f after : ℕ → ℕ) : Type 0 where
-  pub written : own.written stored.func stored.x stored.y ≡ true
+pub record CollectsOne (setting : Setting) (group : LaneGroup) (i : ℕ) (stored : Effect) (f after : ℕ
+    → ℕ) : Type 0 where
+  pub written : setting.written stored.func stored.x stored.y ≡ true
   pub small : stored.pixel < 2 ^ 32
-  pub marks : Marks group i stored.pixel (address_in own stored) f after
+  pub marks : Marks group i stored.pixel (address_in setting stored) f after
 
 -- what becomes of lanes: those of an iteration that guards forbid stay
 abbrev pub CollectsIf : Setting → LaneGroup → ℕ → Option Effect → (ℕ → ℕ) → (ℕ → ℕ) → Type 0
-CollectsIf own group i None f after = SameLanes f after
-CollectsIf own group i (Some stored) f after = CollectsOne own group i stored f after
+CollectsIf setting group i None f after = SameLanes f after
+CollectsIf setting group i (Some stored) f after = CollectsOne setting group i stored f after
 
 -- code that does so, and writes nothing
-pub record Collected (own : Setting) (insns : List Insn) (n : ℕ) (f : ℕ → ℕ) (memory : List ℕ) (scope : List Held) (funcs : Planes) (group : LaneGroup) (i : ℕ)
+pub record Collected (setting : Setting) (insns : List Insn) (n : ℕ) (f : ℕ → ℕ) (memory : List ℕ) (scope : List Held) (funcs : Planes) (group : LaneGroup) (i : ℕ)
     (stored : Option Effect) : Type 0 where
-  pub did : Did own insns n f memory (IsKept scope) funcs no_points
-  pub collects : CollectsIf own group i stored f did.after
+  pub did : Did setting insns n f memory (IsKept scope) funcs no_points
+  pub collects : CollectsIf setting group i stored f did.after
 
 -- Appended code collects the pixel of an iteration's statement, where register r holds the iteration's number, registers hold the scope's forms, and
 -- numbered variables stand for those of the loops around. It has at most six words more than the statement asks for.
@@ -109,7 +110,7 @@ pub record Collects (old new : List ℕ) (places : Places) (scope : List Held) (
   pub emits : Emits old new insns
   pub short : length insns ≤ whole_size statement + 6
   pub turns : Values → ℕ
-  pub does : (own : Setting) → IsSetting own → own.places ≡ places → (values numbers : Values) → StandFor around values numbers → AreHolders scope
-      → SoundIn own statement values → IsKept scope r → (i : ℕ) → i < 4 * registers group
-      → (f : ℕ → ℕ) (memory : List ℕ) (funcs : Planes) → HoldsFuncs own memory funcs → Knows own.world.hart scope numbers f → f r ≡ i
-      → Collected own insns (turns numbers) f memory scope funcs group i (effect (reads_of own.inputs funcs) statement values)
+  pub does : (setting : Setting) → IsSetting setting → setting.places ≡ places → (values numbers : Values) → StandFor around values numbers → AreHolders scope
+      → SoundIn setting statement values → IsKept scope r → (i : ℕ) → i < 4 * registers group
+      → (f : ℕ → ℕ) (memory : List ℕ) (funcs : Planes) → HoldsFuncs setting memory funcs → Knows setting.world.hart scope numbers f → f r ≡ i
+      → Collected setting insns (turns numbers) f memory scope funcs group i (effect (reads_of setting.inputs funcs) statement values)

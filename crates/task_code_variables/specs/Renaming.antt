@@ -18,7 +18,7 @@ use Rattle.task_code_values.specs.Variables.{are_held}
 
 -- ---- variables
 
--- of a loop with so many loops around it
+-- of a loop with this many loops around it
 abbrev pub numbered : ℕ → Counter
 numbered depth = record { func = 0; id = ids.Outer depth }
 
@@ -47,11 +47,11 @@ renamed around [] = []
 renamed around (first ∷ others) = renamed_at (standing around first.counter) first.stride (renamed around others)
 
 abbrev pub renamed_sum : List Counter → Linear → Linear
-renamed_sum around own = record { number = own.number; terms = renamed around own.terms }
+renamed_sum around sum = record { number = sum.number; terms = renamed around sum.terms }
 
 -- ---- what registers hold
 
--- a register has each variable of so many loops, and none has one of a loop inside; registers hold all of the scope's forms
+-- a register has each variable of this many loops, and none has one of a loop inside; registers hold all of the scope's forms
 pub record HoldsAround (around : List Counter) (scope : List Held) : Type 0 where
   pub have : (depth : ℕ) → depth < length around → has_variable scope (numbered depth) ≡ true
   pub lack : (depth : ℕ) → length around ≤ depth → mentions (numbered depth) scope ≡ false
@@ -60,17 +60,17 @@ pub record HoldsAround (around : List Counter) (scope : List Held) : Type 0 wher
 -- ---- expressions
 
 -- One comes to what another one does, loads the same points, needs as many registers and no more words, and its variables have registers.
-pub record IsRenamed (around : List Counter) (own made : Expr) : Type 0 where
-  pub value_is : (values numbers : Values) → StandFor around values numbers → (reads : Reads) → value reads numbers made ≡ value reads values own
-  pub loads_are : (values numbers : Values) → StandFor around values numbers → (reads : Reads) → loads reads numbers made ≡ loads reads values own
-  pub need_is : need_of made ≡ need_of own
-  pub leaf_is : (size_of made).is_leaf ≡ (size_of own).is_leaf
-  pub short : size made ≤ size own
-  pub held : (scope : List Held) → HoldsAround around scope → are_held scope made ≡ true
+pub record IsRenamed (around : List Counter) (expression new_expression : Expr) : Type 0 where
+  pub value_is : (values numbers : Values) → StandFor around values numbers → (reads : Reads) → value reads numbers new_expression ≡ value reads values expression
+  pub loads_are : (values numbers : Values) → StandFor around values numbers → (reads : Reads) → loads reads numbers new_expression ≡ loads reads values expression
+  pub need_is : need_of new_expression ≡ need_of expression
+  pub leaf_is : (size_of new_expression).is_leaf ≡ (size_of expression).is_leaf
+  pub short : size new_expression ≤ size expression
+  pub held : (scope : List Held) → HoldsAround around scope → are_held scope new_expression ≡ true
 
 -- so it is with all parts of a store
-pub record IsRenamedStore (around : List Counter) (own made : Store) : Type 0 where
-  pub func_is : made.func ≡ own.func
-  pub column : IsRenamed around own.x made.x
-  pub row : IsRenamed around own.y made.y
-  pub pixel : IsRenamed around own.value made.value
+pub record IsRenamedStore (around : List Counter) (store new_store : Store) : Type 0 where
+  pub func_is : new_store.func ≡ store.func
+  pub column : IsRenamed around store.x new_store.x
+  pub row : IsRenamed around store.y new_store.y
+  pub pixel : IsRenamed around store.value new_store.value

@@ -31,10 +31,10 @@ pub record AppendsStatement (old new : List ℕ) (places : Places) (scope : List
   pub emits : Emits old new insns
   pub short : length insns ≤ whole_size statement
   pub turns : Values → ℕ
-  pub does : (own : Setting) → IsSetting own → own.places ≡ places → (values numbers : Values) → StandFor around values numbers → AreHolders scope
-      → MayRun own statement values
-      → (f : ℕ → ℕ) (memory : List ℕ) (funcs : Planes) → HoldsFuncs own memory funcs → Knows own.world.hart scope numbers f
-      → Did own insns (turns numbers) f memory (IsKept scope) (run own.points own.inputs statement values funcs) (stored_points own statement values funcs)
+  pub does : (setting : Setting) → IsSetting setting → setting.places ≡ places → (values numbers : Values) → StandFor around values numbers → AreHolders scope
+      → MayRun setting statement values
+      → (f : ℕ → ℕ) (memory : List ℕ) (funcs : Planes) → HoldsFuncs setting memory funcs → Knows setting.world.hart scope numbers f
+      → Did setting insns (turns numbers) f memory (IsKept scope) (run setting.points setting.inputs statement values funcs) (stored_points setting statement values funcs)
 
 -- so it is of a loop that isn't vectorized, of whichever kind it is
 abbrev pub AppendsLoop : List ℕ → List ℕ → Places → List Held → List Counter → Counter → ℕ → Stmt → Type 0
@@ -49,7 +49,7 @@ pub record FitsStatement (places : Places) (scope : List Held) (statement : Stmt
   pub room : HasRoom places.frames (greatest_need statement) 0
   pub few : depth statement ≤ left_count scope
 
--- for each fault what stands then
+-- for each fault what is then
 abbrev pub IsStatementFault : Places → List Held → Stmt → CodeFault → Type 0
 IsStatementFault places scope statement = IsFault (2 ^ 18 ≤ whole_size statement) (FitsStatement places scope statement → ⊥)
 

@@ -170,20 +170,21 @@ pub(crate) fn emit_collected(
     code: &mut Vec<u32>,
     site: &Site<'_>,
     around: &[Counter],
-    own: &VectorLoop<'_>,
+    vector_loop: &VectorLoop<'_>,
 ) -> Result<(), CodeFault>
     requires holds { HoldsAround around.now site.now.scope.now }
-    requires one { spec.is_one_store own.now.body.now ≡ true }
+    requires one { spec.is_one_store vector_loop.now.body.now ≡ true }
     ensures ok { OnOk result (AppendsStatement code.old.items code.new.items site.now.places.now site.now.scope.now
-        around.now (stmts.For own.now.counter (4 * registers own.now.group) vectorized own.now.body.now)) }
+        around.now (stmts.For vector_loop.now.counter (4 * registers vector_loop.now.group) vectorized
+        vector_loop.now.body.now)) }
     ensures err { IfErr result (IsStatementFault site.now.places.now site.now.scope.now
-        (stmts.For own.now.counter (4 * registers own.now.group) vectorized own.now.body.now)) }
+        (stmts.For vector_loop.now.counter (4 * registers vector_loop.now.group) vectorized vector_loop.now.body.now)) }
 {
     let VectorLoop {
         counter,
         group,
         body,
-    } = *own;
+    } = *vector_loop;
     let number = numbered(around.len());
     let numbers = Bound {
         counter: number,

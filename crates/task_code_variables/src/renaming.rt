@@ -1,5 +1,5 @@
 //! Stores by loop variables that are numbered by how many loops stand around theirs. So no two loops of a nest have the
-//! same one. What no loop around has stands at 0, and is left out.
+//! same one. What no loop around has is at 0, and is left out.
 
 ghost use Rattle.std.specs.Prelude.{◌≡◌, ◌++◌, IfOk, OnOk};
 ghost use Rattle.task_code_variables.specs.Renaming as spec;
@@ -11,7 +11,7 @@ use schedule_lines::stages::LoopId;
 use sqlite_items::{Boxed, Items};
 use std::alloc::{AllocError, Global};
 
-/// The variable of a loop with so many loops around it.
+/// The variable of a loop with this many loops around it.
 pub(crate) fn numbered(depth: usize) -> Counter
     ensures { result ≡ spec.numbered depth }
 {
@@ -38,33 +38,37 @@ pub(crate) fn standing(around: &[Counter], counter: Counter) -> Option<Counter>
 }
 
 /// Appends terms of the variables that stand for theirs.
-fn add_renamed(made: &mut Items<Term>, around: &[Counter], terms: &[Term]) -> Result<(), AllocError>
-    ensures { OnOk result (made.new ≡ made.old ++ spec.renamed around.now terms.now) }
+fn add_renamed(
+    new_terms: &mut Items<Term>,
+    around: &[Counter],
+    terms: &[Term],
+) -> Result<(), AllocError>
+    ensures { OnOk result (new_terms.new ≡ new_terms.old ++ spec.renamed around.now terms.now) }
 {
     match terms {
         [] => Ok(()),
         [first, others @ ..] => {
             match standing(around, first.counter) {
                 None => {}
-                Some(counter) => made.push(Term {
+                Some(counter) => new_terms.push(Term {
                     counter,
                     stride: first.stride,
                 })?,
             }
-            add_renamed(made, around, others)?;
+            add_renamed(new_terms, around, others)?;
             Ok(())
         }
     }
 }
 
 /// A sum by the variables that stand for its own.
-fn renamed_sum(alloc: Global, around: &[Counter], own: &Linear) -> Result<Linear, AllocError>
-    ensures { IfOk result (λ made. made ≡ spec.renamed_sum around.now own.now) }
+fn renamed_sum(alloc: Global, around: &[Counter], new_sum: &Linear) -> Result<Linear, AllocError>
+    ensures { IfOk result (λ made. made ≡ spec.renamed_sum around.now new_sum.now) }
 {
     let mut terms = Items::new(alloc);
-    add_renamed(&mut terms, around, own.terms.as_slice())?;
+    add_renamed(&mut terms, around, new_sum.terms.as_slice())?;
     Ok(Linear {
-        number: own.number,
+        number: new_sum.number,
         terms,
     })
 }

@@ -83,20 +83,20 @@ fn emit_iterations(
     code: &mut Code,
     site: &Site<'_>,
     around: &[Counter],
-    own: Bound,
+    bound: Bound,
     body: &Stmt,
 ) -> Result<(), CodeFault>
     requires { HoldsAround around.now site.now.scope.now }
     ensures ok { OnOk result (AppendsLoop code.old.words.items code.new.words.items site.now.places.now
-        site.now.scope.now around.now own.counter own.count body.now) }
-    ensures err { IfErr result (IsLoopFault site.now.places.now site.now.scope.now own.counter own.count body.now) }
+        site.now.scope.now around.now bound.counter bound.count body.now) }
+    ensures err { IfErr result (IsLoopFault site.now.places.now site.now.scope.now bound.counter bound.count body.now) }
 {
-    if own.count == 0 {
+    if bound.count == 0 {
         return Ok(());
     }
     let numbers = Bound {
         counter: numbered(around.len()),
-        count: own.count,
+        count: bound.count,
     };
     let begun = begin_loop(
         alloc,
@@ -111,7 +111,7 @@ fn emit_iterations(
         places: site.places,
         scope: begun.inner.as_slice(),
     };
-    let inner = with_counter(alloc, around, own.counter)?;
+    let inner = with_counter(alloc, around, bound.counter)?;
     emit_statement(alloc, code, &within, inner.as_slice(), body)?;
     end_loop(&mut code.words, &begun, start)?;
     Ok(())
@@ -124,17 +124,17 @@ fn emit_tested(
     scope: &[Held],
     counter: Counter,
     extent: u32,
-    made: &Code,
+    new_code: &Code,
 ) -> Result<(), CodeFault>
     ensures ok { OnOk result (GuardsWords code.old.words.items code.new.words.items scope.now
-        (beginning.variable counter) extent made.now.words.items) }
-    ensures err { IfErr result (IsFault (2 ^ 18 ≤ length made.now.words.items + 1)
+        (beginning.variable counter) extent new_code.now.words.items) }
+    ensures err { IfErr result (IsFault (2 ^ 18 ≤ length new_code.now.words.items + 1)
         (HasNoRegister scope.now (beginning.variable counter))) }
 {
     let form = variable(alloc, counter)?;
-    let words = made.words.as_slice();
+    let words = new_code.words.as_slice();
     emit_guarded(&mut code.words, scope, &form, extent, words)?;
-    let found = made.stages.list.as_slice();
+    let found = new_code.stages.list.as_slice();
     let behind = code.words.len();
     add_last(&mut code.stages.list, found, words.len(), behind)?;
     Ok(())
@@ -156,20 +156,20 @@ fn emit_loop(
     code: &mut Code,
     site: &Site<'_>,
     around: &[Counter],
-    own: LoopHead,
+    loop_head: LoopHead,
     body: &Stmt,
 ) -> Result<(), CodeFault>
     requires { HoldsAround around.now site.now.scope.now }
     ensures ok { OnOk result (AppendsStatement code.old.words.items code.new.words.items site.now.places.now
-        site.now.scope.now around.now (stmts.For own.counter own.count own.kind body.now)) }
+        site.now.scope.now around.now (stmts.For loop_head.counter loop_head.count loop_head.kind body.now)) }
     ensures err { IfErr result (IsStatementFault site.now.places.now site.now.scope.now
-        (stmts.For own.counter own.count own.kind body.now)) }
+        (stmts.For loop_head.counter loop_head.count loop_head.kind body.now)) }
 {
     let LoopHead {
         counter,
         count,
         kind,
-    } = own;
+    } = loop_head;
     match group_collected(count, kind, body) {
         None => {
             let numbers = Bound { counter, count };

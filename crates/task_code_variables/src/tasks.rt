@@ -20,13 +20,13 @@ use task_code_values::sites::Site;
 
 /// The task's own loop, if it has one.
 fn loops_around(alloc: Global, counter: Option<Counter>) -> Result<Vec<Counter>, AllocError>
-    ensures { IfOk result (λ made. made.items ≡ spec.loops_around counter) }
+    ensures { IfOk result (λ counters. counters.items ≡ spec.loops_around counter) }
 {
     match counter {
         None => Ok(Vec::new(alloc)),
         Some(own) => {
-            let made = with_counter(alloc, &[], own)?;
-            Ok(made)
+            let counters = with_counter(alloc, &[], own)?;
+            Ok(counters)
         }
     }
 }
@@ -47,7 +47,7 @@ fn held_first(alloc: Global, counter: Option<Counter>) -> Result<Vec<Held>, Allo
 /// The words of one task of a phase.
 fn task_words(alloc: Global, phase: &Phase, places: &Places, ticket: u32) -> Result<Code, CodeFault>
     requires { ticket + 4 < 2 ^ 32 }
-    ensures ok { IfOk result (λ made. AppendsShortTask [] made.words.items phase.now places.now ticket) }
+    ensures ok { IfOk result (λ code. AppendsShortTask [] code.words.items phase.now places.now ticket) }
     ensures fault { IfErr result (IsStatementFault places.now (spec.held_first phase.now.counter) phase.now.body) }
 {
     let around = loops_around(alloc, phase.counter)?;
@@ -56,13 +56,13 @@ fn task_words(alloc: Global, phase: &Phase, places: &Places, ticket: u32) -> Res
         places,
         scope: scope.as_slice(),
     };
-    let mut made = Code {
+    let mut code = Code {
         words: Vec::new(alloc),
         stages: no_stages(alloc, &phase.body),
     };
-    emit_statement(alloc, &mut made, &site, around.as_slice(), &phase.body)?;
-    emit_restored(&mut made.words, ticket, phase.tasks)?;
-    Ok(made)
+    emit_statement(alloc, &mut code, &site, around.as_slice(), &phase.body)?;
+    emit_restored(&mut code.words, ticket, phase.tasks)?;
+    Ok(code)
 }
 
 /// Appends the code of one task of a phase.

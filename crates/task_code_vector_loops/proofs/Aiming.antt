@@ -53,17 +53,17 @@ use Rattle.task_code_vector_loops.specs.Runs.{all_lanes}
 
 -- straight code after which lanes lie where points do, and that keeps the first group
 pub record Aims (w : World) (m : List ℕ) (is : List Insn) (scope : List Held) (f : ℕ → ℕ) (group : LaneGroup) (b : ℕ) (addressing : Addressing) (n : ℕ)
-    (place : BufferLayout) (x y : ℕ → ℕ) : Type 0 where
+    (layout : BufferLayout) (x y : ℕ → ℕ) : Type 0 where
   pub after : ℕ → ℕ
   pub line : Line w is f m after m
   pub has : HasLanes group n after
   pub keeps : (q : ℕ) → IsKept scope q → after q ≡ f q
   pub stays : (i : ℕ) → i < n → after (lane (slot group 0) i) ≡ f (lane (slot group 0) i)
-  pub reaches : (k : ℕ) → k < n → address place w.hart (x k) (y k) < 2 ^ 32
-      → (after b + offset_at after addressing k) % 2 ^ 32 ≡ address place w.hart (x k) (y k)
+  pub reaches : (k : ℕ) → k < n → address layout w.hart (x k) (y k) < 2 ^ 32
+      → (after b + offset_at after addressing k) % 2 ^ 32 ≡ address layout w.hart (x k) (y k)
 
 -- appended code makes lanes' addresses those of a store's points, from what registers hold in the first iteration
-pub record MakesAims (old new : List ℕ) (places : Places) (scope : List Held) (lanes_of : VectorLanes) (count : Values → ℕ) (store : Store) (place : BufferLayout)
+pub record MakesAims (old new : List ℕ) (places : Places) (scope : List Held) (lanes_of : VectorLanes) (count : Values → ℕ) (store : Store) (layout : BufferLayout)
     (b : ℕ) (addressing : Addressing) : Type 0 where
   pub insns : List Insn
   pub emits : Emits old new insns
@@ -73,29 +73,29 @@ pub record MakesAims (old new : List ℕ) (places : Places) (scope : List Held) 
       → Knows w.hart scope (with lanes_of.counter 0 values) f → HasLanes lanes_of.group (count values) f → 1 ≤ count values
       → count values ≤ all_lanes lanes_of → LoadsEach places lanes_of store.x w m reads values (count values)
       → LoadsEach places lanes_of store.y w m reads values (count values)
-      → Aims w m insns scope f lanes_of.group b addressing (count values) place (λ k. value reads (with lanes_of.counter k values) store.x)
+      → Aims w m insns scope f lanes_of.group b addressing (count values) layout (λ k. value reads (with lanes_of.counter k values) store.x)
       (λ k. value reads (with lanes_of.counter k values) store.y)
 
 -- ---- points at two sums
 
-module _ (places : Places) (scope : List Held) (lanes_of : VectorLanes) (count : Values → ℕ) (store : Store) (x y : Linear) (form : AffineForm) (place : BufferLayout)
-    (ex : IsSum store.x x) (ey : IsSum store.y y) (point : IsPoint place x y form) (stride : ℕ) (es : stride ≡ strides lanes_of.counter form.sum.terms % 2 ^ 32) where
+module _ (places : Places) (scope : List Held) (lanes_of : VectorLanes) (count : Values → ℕ) (store : Store) (x y : Linear) (form : AffineForm) (layout : BufferLayout)
+    (ex : IsSum store.x x) (ey : IsSum store.y y) (point : IsPoint layout x y form) (stride : ℕ) (es : stride ≡ strides lanes_of.counter form.sum.terms % 2 ^ 32) where
   -- where an iteration's point lies
   spot-is : (hart k : ℕ) (values : Values) (reads : Reads)
-      → address place hart (value reads (with lanes_of.counter k values) store.x) (value reads (with lanes_of.counter k values) store.y) < 2 ^ 32
+      → address layout hart (value reads (with lanes_of.counter k values) store.x) (value reads (with lanes_of.counter k values) store.y) < 2 ^ 32
       → (form_value hart (with lanes_of.counter 0 values) form + k * stride) % 2 ^ 32
-      ≡ address place hart (value reads (with lanes_of.counter k values) store.x) (value reads (with lanes_of.counter k values) store.y)
+      ≡ address layout hart (value reads (with lanes_of.counter k values) store.x) (value reads (with lanes_of.counter k values) store.y)
   spot-is hart k values reads low =
       let at = with lanes_of.counter k values in
-      let a = address place hart (value reads at store.x) (value reads at store.y) in
+      let a = address layout hart (value reads at store.x) (value reads at store.y) in
       let g : a % 2 ^ 32 ≡ a = omega (arith, low) in
       form-goes lanes_of.counter k stride hart values form es ∙ point.value hart at
-      ∙ ap (λ i. address place hart i (linear_value at y) % 2 ^ 32) (sym (ex.value_is reads at))
-      ∙ ap (λ j. address place hart (value reads at store.x) j % 2 ^ 32) (sym (ey.value_is reads at)) ∙ g
+      ∙ ap (λ i. address layout hart i (linear_value at y) % 2 ^ 32) (sym (ex.value_is reads at))
+      ∙ ap (λ j. address layout hart (value reads at store.x) j % 2 ^ 32) (sym (ey.value_is reads at)) ∙ g
 
   -- one after the other
   pub dense-aims : (b : ℕ) (c1 c2 : List ℕ) → stride ≡ 4 → MakesPointer c1 c2 scope lanes_of.counter b form
-      → MakesAims c1 c2 places scope lanes_of count store place b addressings.UnitStride
+      → MakesAims c1 c2 places scope lanes_of count store layout b addressings.UnitStride
   dense-aims b c1 c2 four t = record {
     insns = t.insns;
     emits = t.emits;
@@ -119,7 +119,7 @@ module _ (places : Places) (scope : List Held) (lanes_of : VectorLanes) (count :
 
   -- at a stride
   pub strided-aims : (b : ℕ) (c1 c2 c3 : List ℕ) → Makes c1 c2 2 first_value (λ f. stride) → MakesPointer c2 c3 scope lanes_of.counter b form
-      → MakesAims c1 c3 places scope lanes_of count store place b (addressings.Strided first_value)
+      → MakesAims c1 c3 places scope lanes_of count store layout b (addressings.Strided first_value)
   strided-aims b c1 c2 c3 s t = record {
     insns = s.insns ++ t.insns;
     emits = emits_then s.emits t.emits;
@@ -158,10 +158,10 @@ two-slots groups.Two = omega arith
 two-slots groups.Four = omega arith
 
 pub scattered-aims : (places : Places) (scope : List Held) (lanes_of : VectorLanes) (count : Values → ℕ) (store : Store) (zero : Linear) (form : AffineForm)
-    (place : BufferLayout) (b u : ℕ) (c1 c2 c3 : List ℕ) → 1 < slots lanes_of.group → ((values : Values) → linear_value values zero ≡ 0) → IsPoint place zero zero form
-    → u ≡ slot lanes_of.group 1 → MakesFar c1 c2 places scope lanes_of count place store.x store.y → MakesPointer c2 c3 scope lanes_of.counter b form
-    → MakesAims c1 c3 places scope lanes_of count store place b (addressings.Indexed u)
-scattered-aims places scope lanes_of count store zero form place b u c1 c2 c3 in-stack none point eu d t = record {
+    (layout : BufferLayout) (b u : ℕ) (c1 c2 c3 : List ℕ) → 1 < slots lanes_of.group → ((values : Values) → linear_value values zero ≡ 0) → IsPoint layout zero zero form
+    → u ≡ slot lanes_of.group 1 → MakesFar c1 c2 places scope lanes_of count layout store.x store.y → MakesPointer c2 c3 scope lanes_of.counter b form
+    → MakesAims c1 c3 places scope lanes_of count store layout b (addressings.Indexed u)
+scattered-aims places scope lanes_of count store zero form layout b u c1 c2 c3 in-stack none point eu d t = record {
   insns = d.insns ++ t.insns;
   emits = emits_then d.emits t.emits;
   low = t.source.0;
@@ -173,9 +173,9 @@ scattered-aims places scope lanes_of count store zero form place b u c1 c2 c3 in
       let ka = knows-still w.hart scope first f a.after a.keeps knows in
       let c = t.does w m w.hart values a.after l holders ka in
       let zv = linear_value first zero in
-      let far : c.after b ≡ address place w.hart 0 0 % 2 ^ 32 =
-      c.value ∙ point.value w.hart first ∙ ap (λ i. address place w.hart i zv % 2 ^ 32) (none first)
-      ∙ ap (λ j. address place w.hart 0 j % 2 ^ 32) (none first) in
+      let far : c.after b ≡ address layout w.hart 0 0 % 2 ^ 32 =
+      c.value ∙ point.value w.hart first ∙ ap (λ i. address layout w.hart i zv % 2 ^ 32) (none first)
+      ∙ ap (λ j. address layout w.hart 0 j % 2 ^ 32) (none first) in
       let lanes-stay : (i : ℕ) → c.after (lane u i) ≡ a.after (lane (slot group 1) i) =
       (λ i. ap (λ r. c.after (lane r i)) eu
       ∙ c.others (lane (slot group 1) i) (λ e. omega (arith, e)) (λ e. omega (arith, e)) (λ e. omega (arith, e))) in
@@ -194,17 +194,17 @@ scattered-aims places scope lanes_of count store zero form place b u c1 c2 c3 in
         reaches = λ k lt low.
             let at = with lanes_of.counter k values in
             ap (λ i. (i + c.after (lane u k)) % 2 ^ 32) far
-            ∙ ap (λ i. (address place w.hart 0 0 % 2 ^ 32 + i) % 2 ^ 32) (lanes-stay k ∙ a.value k lt)
-            ∙ number-reaches place w.hart (value reads at store.x) (value reads at store.y) low;
+            ∙ ap (λ i. (address layout w.hart 0 0 % 2 ^ 32 + i) % 2 ^ 32) (lanes-stay k ∙ a.value k lt)
+            ∙ number-reaches layout w.hart (value reads at store.x) (value reads at store.y) low;
       };
 }
 
 -- ---- how far they lie
 
 -- with all lanes at once
-pub far-at-once : (places : Places) (scope : List Held) (lanes_of : VectorLanes) (count : Values → ℕ) (place : BufferLayout) (x y : Expr) (c1 c2 : List ℕ)
-    → MakesDistances c1 c2 places scope lanes_of 1 place x y → MakesFar c1 c2 places scope lanes_of count place x y
-far-at-once places scope lanes_of count place x y c1 c2 d = record {
+pub far-at-once : (places : Places) (scope : List Held) (lanes_of : VectorLanes) (count : Values → ℕ) (layout : BufferLayout) (x y : Expr) (c1 c2 : List ℕ)
+    → MakesDistances c1 c2 places scope lanes_of 1 layout x y → MakesFar c1 c2 places scope lanes_of count layout x y
+far-at-once places scope lanes_of count layout x y c1 c2 d = record {
   insns = d.insns;
   emits = d.emits;
   does = λ w m values reads f l are holders knows has some few mx my.
@@ -226,9 +226,9 @@ both-all P [] ys all more = more
 both-all P (x ∷ xs) ys all more = (all.0, both-all P xs ys all.1 more)
 
 -- and in parts
-pub far-in-parts : (places : Places) (scope : List Held) (lanes_of : VectorLanes) (count : Values → ℕ) (place : BufferLayout) (x y made : Expr) (c1 c2 : List ℕ)
-    → IsDistance place x y made → MakesRun c1 c2 places scope lanes_of count 1 made → MakesFar c1 c2 places scope lanes_of count place x y
-far-in-parts places scope lanes_of count place x y made c1 c2 is d = record {
+pub far-in-parts : (places : Places) (scope : List Held) (lanes_of : VectorLanes) (count : Values → ℕ) (layout : BufferLayout) (x y expression : Expr) (c1 c2 : List ℕ)
+    → IsDistance layout x y expression → MakesRun c1 c2 places scope lanes_of count 1 expression → MakesFar c1 c2 places scope lanes_of count layout x y
+far-in-parts places scope lanes_of count layout x y expression c1 c2 is d = record {
   insns = d.insns;
   emits = d.emits;
   does = λ w m values reads f l are holders knows has some few mx my.
@@ -267,20 +267,20 @@ product-is e first second number ef es = record {
     append-nil [] = refl
     append-nil (first ∷ others) = ap (λ l. first ∷ l) (append-nil others)
 
-pub distance-is : (place : BufferLayout) (x y column row before first second made : Expr) (bytes : ℕ) → column ≡ x → row ≡ y → IsProduct row place.width before
-    → first ≡ column → second ≡ before → bytes ≡ pixel_bytes place.pixels → IsProduct (expressions.Binary op.Add first second) bytes made
-    → IsDistance place x y made
+pub distance-is : (layout : BufferLayout) (x y column row before first second expression : Expr) (bytes : ℕ) → column ≡ x → row ≡ y → IsProduct row layout.width before
+    → first ≡ column → second ≡ before → bytes ≡ pixel_bytes layout.pixels → IsProduct (expressions.Binary op.Add first second) bytes expression
+    → IsDistance layout x y expression
 unfolding word.add word.multiply
-distance-is place x y column row before first second made bytes ex ey rows ef es eb is = record {
+distance-is layout x y column row before first second expression bytes ex ey rows ef es eb is = record {
   value_is = λ reads values.
       let a : value reads values first ≡ value reads values x = ap (value reads values) (ef ∙ ex) in
-      let b : value reads values second ≡ (value reads values y * place.width) % 2 ^ 32 =
-      ap (value reads values) es ∙ rows.value_is reads values ∙ ap (λ (e : Expr). (value reads values e * place.width) % 2 ^ 32) ey in
+      let b : value reads values second ≡ (value reads values y * layout.width) % 2 ^ 32 =
+      ap (value reads values) es ∙ rows.value_is reads values ∙ ap (λ (e : Expr). (value reads values e * layout.width) % 2 ^ 32) ey in
       is.value_is reads values
       ∙ ap (λ n. (n * bytes) % 2 ^ 32) (value_binary reads values op.Add first second)
       ∙ ap (λ n. ((n + value reads values second) % 2 ^ 32 * bytes) % 2 ^ 32) a
       ∙ ap (λ n. ((value reads values x + n) % 2 ^ 32 * bytes) % 2 ^ 32) b
-      ∙ ap (λ n. ((value reads values x + (value reads values y * place.width) % 2 ^ 32) % 2 ^ 32 * n) % 2 ^ 32) eb;
+      ∙ ap (λ n. ((value reads values x + (value reads values y * layout.width) % 2 ^ 32) % 2 ^ 32 * n) % 2 ^ 32) eb;
   loads_are = λ reads values.
       is.loads_are reads values ∙ loads_binary reads values op.Add first second
       ∙ ap (λ l. l ++ loads reads values second) (ap (loads reads values) (ef ∙ ex))

@@ -41,71 +41,74 @@ all-of groups.One = refl
 all-of groups.Two = refl
 all-of groups.Four = refl
 
-pub all-configured : (scope : List Held) (own : VectorLanes) (c0 c1 : List ℕ) → are_registers scope ≡ true
-    → Emits c0 c1 (Vector (v.Vsetivli 0 (group_lanes own.group) (vtype_of own.group)) ∷ []) → Configures c0 c1 scope own (λ values. all_lanes own)
-all-configured scope own c0 c1 all z = record {
-  insns = Vector (v.Vsetivli 0 (group_lanes own.group) (vtype_of own.group)) ∷ [];
+pub all-configured : (scope : List Held) (vector_lanes : VectorLanes) (c0 c1 : List ℕ) → are_registers scope ≡ true
+    → Emits c0 c1 (Vector (v.Vsetivli 0 (group_lanes vector_lanes.group) (vtype_of vector_lanes.group)) ∷ []) → Configures c0 c1 scope vector_lanes (λ values. all_lanes vector_lanes)
+all-configured scope vector_lanes c0 c1 all z = record {
+  insns = Vector (v.Vsetivli 0 (group_lanes vector_lanes.group) (vtype_of vector_lanes.group)) ∷ [];
   emits = z;
   does = λ w m values f l holders knows.
-      let n = min (group_lanes own.group) (most_elements (vtype_of own.group)) in
-      let e = all-of own.group in
+      let n = min (group_lanes vector_lanes.group) (most_elements (vtype_of vector_lanes.group)) in
+      let e = all-of vector_lanes.group in
       record {
-        after = configure f n (vtype_of own.group);
-        line = configure-at w f m l (group_lanes own.group) (vtype_of own.group) (supported own.group);
-        has = subst (λ k. HasLanes own.group k (configure f n (vtype_of own.group))) e (has-lanes own.group f n (omega (arith, e)));
-        keeps = λ q kept. configured-others f n (vtype_of own.group) q (kept-low scope q all kept);
-        lanes_stay = λ q high. lanes-configured f n (vtype_of own.group) q high;
+        after = configure f n (vtype_of vector_lanes.group);
+        line = configure-at w f m l (group_lanes vector_lanes.group) (vtype_of vector_lanes.group)
+            (supported vector_lanes.group);
+        has = subst (λ k. HasLanes vector_lanes.group k (configure f n (vtype_of vector_lanes.group))) e (has-lanes vector_lanes.group f n (omega (arith, e)));
+        keeps = λ q kept. configured-others f n (vtype_of vector_lanes.group) q (kept-low scope q all kept);
+        lanes_stay = λ q high. lanes-configured f n (vtype_of vector_lanes.group) q high;
       };
 }
 
-pub left-configured : (scope : List Held) (own : VectorLanes) (left : Left) (b : ℕ) (c0 c1 c2 : List ℕ) → are_registers scope ≡ true
-    → MakesLeft c0 c1 scope own.counter b left → Emits c1 c2 (Vector (v.Vsetvli 0 b (vtype_of own.group)) ∷ [])
-    → Configures c0 c2 scope own (left_lanes own (left ∷ []))
-left-configured scope own left b c0 c1 c2 all p z = record {
-  insns = p.insns ++ (Vector (v.Vsetvli 0 b (vtype_of own.group)) ∷ []);
+pub left-configured : (scope : List Held) (vector_lanes : VectorLanes) (left : Left) (b : ℕ) (c0 c1 c2 : List ℕ) → are_registers scope ≡ true
+    → MakesLeft c0 c1 scope vector_lanes.counter b left → Emits c1 c2
+    (Vector (v.Vsetvli 0 b (vtype_of vector_lanes.group)) ∷ [])
+    → Configures c0 c2 scope vector_lanes (left_lanes vector_lanes (left ∷ []))
+left-configured scope vector_lanes left b c0 c1 c2 all p z = record {
+  insns = p.insns ++ (Vector (v.Vsetvli 0 b (vtype_of vector_lanes.group)) ∷ []);
   emits = emits_then p.emits z;
   does = λ w m values f l holders knows.
       let a = p.does w m values f l holders knows in
-      let n = min (a.after b) (most_elements (vtype_of own.group)) in
-      let is = most own.group in
-      let e : n ≡ left_lanes own (left ∷ []) values = ap (λ k. min (a.after b) k) is ∙ ap (λ k. min k (all_lanes own)) a.value in
+      let n = min (a.after b) (most_elements (vtype_of vector_lanes.group)) in
+      let is = most vector_lanes.group in
+      let e : n ≡ left_lanes vector_lanes (left ∷ []) values = ap (λ k. min (a.after b) k) is ∙ ap (λ k. min k (all_lanes vector_lanes)) a.value in
       record {
-        after = configure a.after n (vtype_of own.group);
-        line = line-then w p.insns (Vector (v.Vsetvli 0 b (vtype_of own.group)) ∷ []) f a.after (configure a.after n (vtype_of own.group)) m m m a.line
-            (configure-by w a.after m l b (vtype_of own.group) p.some p.source.0 (supported own.group));
-        has = subst (λ k. HasLanes own.group k (configure a.after n (vtype_of own.group))) e (has-lanes own.group a.after n (omega (arith, is)));
+        after = configure a.after n (vtype_of vector_lanes.group);
+        line = line-then w p.insns (Vector (v.Vsetvli 0 b (vtype_of vector_lanes.group)) ∷ []) f a.after (configure a.after n (vtype_of vector_lanes.group)) m m m a.line
+            (configure-by w a.after m l b (vtype_of vector_lanes.group) p.some p.source.0
+            (supported vector_lanes.group));
+        has = subst (λ k. HasLanes vector_lanes.group k (configure a.after n (vtype_of vector_lanes.group))) e (has-lanes vector_lanes.group a.after n (omega (arith, is)));
         keeps = λ q kept.
             let u = kept-apart scope q holders kept in
-            configured-others a.after n (vtype_of own.group) q (kept-low scope q all kept) ∙ a.others q (address-free scope holders q kept) u.0 u.1;
+            configured-others a.after n (vtype_of vector_lanes.group) q (kept-low scope q all kept) ∙ a.others q (address-free scope holders q kept) u.0 u.1;
         lanes_stay = λ q high.
-            lanes-configured a.after n (vtype_of own.group) q high
+            lanes-configured a.after n (vtype_of vector_lanes.group) q high
             ∙ a.others q (λ e. omega (arith, e, high)) (λ e. omega (arith, e, high)) (λ e. omega (arith, e, high));
       };
 }
 
-pub least-configured : (scope : List Held) (own : VectorLanes) (first : Left) (others : List Left) (c0 c1 c2 : List ℕ) → are_registers scope ≡ true
-    → MakesLeast c0 c1 scope own.counter first others → Emits c1 c2 (Vector (v.Vsetvli 0 first_value (vtype_of own.group)) ∷ [])
-    → Configures c0 c2 scope own (left_lanes own (first ∷ others))
-least-configured scope own first others c0 c1 c2 all p z = record {
-  insns = p.insns ++ (Vector (v.Vsetvli 0 first_value (vtype_of own.group)) ∷ []);
+pub least-configured : (scope : List Held) (vector_lanes : VectorLanes) (first : Left) (others : List Left) (c0 c1 c2 : List ℕ) → are_registers scope ≡ true
+    → MakesLeast c0 c1 scope vector_lanes.counter first others → Emits c1 c2 (Vector (v.Vsetvli 0 first_value (vtype_of vector_lanes.group)) ∷ [])
+    → Configures c0 c2 scope vector_lanes (left_lanes vector_lanes (first ∷ others))
+least-configured scope vector_lanes first others c0 c1 c2 all p z = record {
+  insns = p.insns ++ (Vector (v.Vsetvli 0 first_value (vtype_of vector_lanes.group)) ∷ []);
   emits = emits_then p.emits z;
   does = λ w m values f l holders knows.
       let a = p.does w m values f l holders knows in
-      let n = min (a.after first_value) (most_elements (vtype_of own.group)) in
-      let is = most own.group in
-      let e : n ≡ left_lanes own (first ∷ others) values =
-      ap (λ k. min (a.after first_value) k) is ∙ ap (λ k. min k (all_lanes own)) a.value in
+      let n = min (a.after first_value) (most_elements (vtype_of vector_lanes.group)) in
+      let is = most vector_lanes.group in
+      let e : n ≡ left_lanes vector_lanes (first ∷ others) values =
+      ap (λ k. min (a.after first_value) k) is ∙ ap (λ k. min k (all_lanes vector_lanes)) a.value in
       record {
-        after = configure a.after n (vtype_of own.group);
-        line = line-then w p.insns (Vector (v.Vsetvli 0 first_value (vtype_of own.group)) ∷ []) f a.after (configure a.after n (vtype_of own.group)) m m m
-            a.line (configure-by w a.after m l first_value (vtype_of own.group) (omega arith) (omega arith) (supported own.group));
-        has = subst (λ k. HasLanes own.group k (configure a.after n (vtype_of own.group))) e (has-lanes own.group a.after n (omega (arith, is)));
+        after = configure a.after n (vtype_of vector_lanes.group);
+        line = line-then w p.insns (Vector (v.Vsetvli 0 first_value (vtype_of vector_lanes.group)) ∷ []) f a.after (configure a.after n (vtype_of vector_lanes.group)) m m m
+            a.line (configure-by w a.after m l first_value (vtype_of vector_lanes.group) (omega arith) (omega arith) (supported vector_lanes.group));
+        has = subst (λ k. HasLanes vector_lanes.group k (configure a.after n (vtype_of vector_lanes.group))) e (has-lanes vector_lanes.group a.after n (omega (arith, is)));
         keeps = λ q kept.
             let u = kept-apart scope q holders kept in
-            configured-others a.after n (vtype_of own.group) q (kept-low scope q all kept)
+            configured-others a.after n (vtype_of vector_lanes.group) q (kept-low scope q all kept)
             ∙ a.others q (value-free scope holders q kept) (address-free scope holders q kept) u.0 u.1;
         lanes_stay = λ q high.
-            lanes-configured a.after n (vtype_of own.group) q high
+            lanes-configured a.after n (vtype_of vector_lanes.group) q high
             ∙ a.others q (λ e. omega (arith, e, high)) (λ e. omega (arith, e, high)) (λ e. omega (arith, e, high)) (λ e. omega (arith, e, high));
       };
 }

@@ -21,10 +21,10 @@ use Rattle.task_code_lanes.proofs.Storing.{hits-at-once}
 use Rattle.task_code_vector_loops.specs.AtOnce.{MayRun}
 use Rattle.task_code_vector_loops.specs.Runs.{all_lanes, run_of}
 
-module _ (own : Setting) (lanes : VectorLanes) (body : Stmt) (values : Values) (may : MayRun own (run_of lanes body) values) (funcs : Planes)
+module _ (setting : Setting) (lanes : VectorLanes) (body : Stmt) (values : Values) (may : MayRun setting (run_of lanes body) values) (funcs : Planes)
     (are_words : AreWords funcs) (none : (reads : Reads) (i : ℕ) → i < all_lanes lanes → effect reads body (with lanes.counter i values) ≡ None) where
   abbrev reads_now : Reads
-  reads_now = reads_of own.inputs funcs
+  reads_now = reads_of setting.inputs funcs
 
   abbrev at : ℕ → Values
   at i = with lanes.counter i values
@@ -44,20 +44,21 @@ module _ (own : Setting) (lanes : VectorLanes) (body : Stmt) (values : Values) (
       let g = and_parts (are_apart r at all) (all_step_up r at all) d.1 in
       record { one = d.0; apart = g.0 }
 
-  pub none-run : funcs ≡ run own.points own.inputs (run_of lanes body) values funcs
+  pub none-run : funcs ≡ run setting.points setting.inputs (run_of lanes body) values funcs
   unfolding iterated
   none-run =
       let all = all_lanes lanes in
       let effects : ℕ → Option Effect = (λ k. effect reads_now body (at k)) in
-      sym (laid-cut own.points effects all 0 (λ j low high. none reads_now j (omega (arith, high))) funcs)
-      ∙ (let e : all + 0 ≡ all = omega arith in ap (λ k. laid own.points effects k funcs) e)
-      ∙ sym (run_for own.points own.inputs lanes.counter all Vectorized body values funcs
-      ∙ in_order own.points own.inputs body at funcs all apart-parts.one apart-parts.apart)
+      sym (laid-cut setting.points effects all 0 (λ j low high. none reads_now j (omega (arith, high))) funcs)
+      ∙ (let e : all + 0 ≡ all = omega arith in ap (λ k. laid setting.points effects k funcs) e)
+      ∙ sym (run_for setting.points setting.inputs lanes.counter all Vectorized body values funcs
+      ∙ in_order setting.points setting.inputs body at funcs all apart-parts.one apart-parts.apart)
 
-  pub none-hit : (func x y : ℕ) → stored_points own (run_of lanes body) values funcs func x y ≡ true → ⊥
+  pub none-hit : (func x y : ℕ) → stored_points setting (run_of lanes body) values funcs func x y ≡ true → ⊥
   none-hit func x y h =
-      let hit = hits-at-once own.points own.inputs body at funcs apart-parts.one (all_lanes lanes) apart-parts.apart func x y
-      (sym (hit-for own.points own.inputs func x y lanes.counter (all_lanes lanes) Vectorized body values funcs) ∙ h) in
+      let hit = hits-at-once setting.points setting.inputs body at funcs apart-parts.one (all_lanes lanes) apart-parts.apart func x y
+      (sym (hit-for setting.points setting.inputs func x y lanes.counter (all_lanes lanes) Vectorized body values funcs)
+      ∙ h) in
       absent hit.stored (sym (none reads_now hit.lane hit.below) ∙ hit.is)
     where
       absent : (e : Effect) → None ≡ Some e → ⊥

@@ -25,7 +25,7 @@ use Rattle.task_code_registers.specs.Emitting.{Makes}
 use Rattle.task_code_registers.specs.Registers.{address_register, first_value, zero_register}
 use Rattle.task_code_registers.specs.Scopes.{AreHolders, IsKept, Knows}
 use Rattle.task_code_registers.proofs.Knowing.{MayHold, kept-apart, kept-low, knows-still, knows-zero, may-hold}
-use Rattle.task_code_registers.proofs.Striding.{form-steady}
+use Rattle.task_code_registers.proofs.Striding.{form-loop_invariant}
 use Rattle.task_code_loops.specs.Beginning.{variable}
 use Rattle.task_code_loops.proofs.Knowledge.{knows-with, knows-without, stands-at, variable-value}
 use Rattle.task_code_lanes.specs.declared.groups.LaneGroup.{LaneGroup}
@@ -63,7 +63,7 @@ lesser a b = by (cases_lt b a)
     by (inl less) = inr (min-eq_right (omega (arith, less)), omega (arith, less))
     by (inr most) = inl (min-eq_left most, most)
 
--- where iterations are left after so many, they begin there
+-- where iterations are left after this many, they begin there
 later : (from most all left : ℕ) → from < left → 1 ≤ most → from + most ≤ all → AreNumbers from most (min left all) from (min (left - from) most)
 later from most all left less some inside =
     let a = lesser left all in
@@ -118,66 +118,71 @@ numbers-are from most all left small inside few one some = by-test (nat_lt from 
 
 -- ---- code that configures them
 
-module _ (own : LaneParts) (ready : IsReady own) (from : ℕ) (inside : from + part_lanes own ≤ all_lanes own.lanes) where
+module _ (lane_parts : LaneParts) (ready : IsReady lane_parts) (from : ℕ)
+    (inside : from + part_lanes lane_parts ≤ all_lanes lane_parts.lanes) where
   abbrev scope : List Held
-  scope = own.scope.now
+  scope = lane_parts.scope.now
 
   abbrev q : ℕ
-  q = own.register
+  q = lane_parts.register
 
   may : MayHold q
   may = may-hold q ready.free.0
 
   -- where all iterations are left
-  pub whole-part : (c0 c1 c2 : List ℕ) → own.left.now ≡ [] → Makes c0 c1 2 q (λ f. from)
-      → Emits c1 c2 (Vector (v.Vsetivli 0 (group_lanes own.group) (vtype_of own.group)) ∷ []) → ConfiguresPart c0 c2 own from
+  pub whole-part : (c0 c1 c2 : List ℕ) → lane_parts.left.now ≡ [] → Makes c0 c1 2 q (λ f. from)
+      → Emits c1 c2 (Vector (v.Vsetivli 0 (group_lanes lane_parts.group) (vtype_of lane_parts.group)) ∷ []) → ConfiguresPart c0 c2 lane_parts from
   whole-part c0 c1 c2 none x z = record {
-    insns = x.insns ++ (Vector (v.Vsetivli 0 (group_lanes own.group) (vtype_of own.group)) ∷ []);
+    insns = x.insns ++ (Vector (v.Vsetivli 0 (group_lanes lane_parts.group) (vtype_of lane_parts.group)) ∷ []);
     emits = emits_then x.emits z;
     does = λ w m values f l holders knows one.
         let high = may.high in
-        let last = Vector (v.Vsetivli 0 (group_lanes own.group) (vtype_of own.group)) ∷ [] in
-        let a = x.does w m f l (knows-zero w.hart scope (with own.lanes.counter 0 values) f knows) in
-        let n = min (group_lanes own.group) (most_elements (vtype_of own.group)) in
-        let e = all-of own.group in
-        let behind = configure a.after n (vtype_of own.group) in
-        let count : count_of own values ≡ all_lanes own.lanes = ap (λ k. left_lanes own.lanes k values) none in
+        let last = Vector (v.Vsetivli 0 (group_lanes lane_parts.group) (vtype_of lane_parts.group)) ∷ [] in
+        let a = x.does w m f l (knows-zero w.hart scope (with lane_parts.lanes.counter 0 values) f knows) in
+        let n = min (group_lanes lane_parts.group) (most_elements (vtype_of lane_parts.group)) in
+        let e = all-of lane_parts.group in
+        let behind = configure a.after n (vtype_of lane_parts.group) in
+        let count : count_of lane_parts values ≡ all_lanes lane_parts.lanes = ap
+        (λ k. left_lanes lane_parts.lanes k values) none in
         record {
           after = behind;
           line = line-then w x.insns last f a.after behind m m m a.line
-              (configure-at w a.after m l (group_lanes own.group) (vtype_of own.group) (supported own.group));
+              (configure-at w a.after m l (group_lanes lane_parts.group) (vtype_of lane_parts.group)
+              (supported lane_parts.group));
           first = from;
-          number = part_lanes own;
-          at = configured-others a.after n (vtype_of own.group) q (omega (arith, high)) ∙ a.value;
-          has = subst (λ k. HasLanes own.group k behind) e (has-lanes own.group a.after n (omega (arith, e)));
-          some = some-lanes own.group;
+          number = part_lanes lane_parts;
+          at = configured-others a.after n (vtype_of lane_parts.group) q (omega (arith, high)) ∙ a.value;
+          has = subst (λ k. HasLanes lane_parts.group k behind) e
+              (has-lanes lane_parts.group a.after n (omega (arith, e)));
+          some = some-lanes lane_parts.group;
           few = omega arith;
           within = omega (arith, count, inside);
           all = λ i low below inside-part. (refl, inside-part);
           keeps = λ r kept.
               let u = kept-apart scope r holders kept in
-              configured-others a.after n (vtype_of own.group) r (kept-low scope r ready.registers kept) ∙ a.others r (ready.free.1 r kept) u.0 u.1;
+              configured-others a.after n (vtype_of lane_parts.group) r (kept-low scope r ready.registers kept) ∙ a.others r (ready.free.1 r kept) u.0 u.1;
           lanes_stay = λ r up.
-              lanes-configured a.after n (vtype_of own.group) r up
+              lanes-configured a.after n (vtype_of lane_parts.group) r up
               ∙ a.others r (λ e. omega (arith, e, up, high)) (λ e. omega (arith, e, up)) (λ e. omega (arith, e, up));
         };
   }
 
   -- and where some are
-  pub rest-part : (first : Left) (others : List Left) (c0 c1 c2 c3 c4 c5 c6 : List ℕ) → own.left.now ≡ first ∷ others → Makes c0 c1 2 q (λ f. from)
-      → MakesLeast c1 c2 scope own.lanes.counter first others → Emits c2 c3 (Alu alus.Sltu address_register q first_value ∷ [])
+  pub rest-part : (first : Left) (others : List Left) (c0 c1 c2 c3 c4 c5 c6 : List ℕ) → lane_parts.left.now ≡ first ∷ others → Makes c0 c1 2 q (λ f. from)
+      → MakesLeast c1 c2 scope lane_parts.lanes.counter first others → Emits c2 c3 (Alu alus.Sltu address_register q first_value ∷ [])
       → Makes c3 c4 3 q (λ f. (f address_register * from) % 2 ^ 32) → Emits c4 c5 (Alu alus.Sub first_value first_value q ∷ [])
-      → Emits c5 c6 (Vector (v.Vsetvli 0 first_value (vtype_of own.group)) ∷ []) → ConfiguresPart c0 c6 own from
+      → Emits c5 c6 (Vector (v.Vsetvli 0 first_value (vtype_of lane_parts.group)) ∷ [])
+      → ConfiguresPart c0 c6 lane_parts from
   rest-part first others c0 c1 c2 c3 c4 c5 c6 is x y e1 z e2 e3 =
       let i1 = Alu alus.Sltu address_register q first_value ∷ [] in
       let i2 = Alu alus.Sub first_value first_value q ∷ [] in
-      let i3 = Vector (v.Vsetvli 0 first_value (vtype_of own.group)) ∷ [] in
+      let i3 = Vector (v.Vsetvli 0 first_value (vtype_of lane_parts.group)) ∷ [] in
       record {
         insns = x.insns ++ (y.insns ++ (i1 ++ (z.insns ++ (i2 ++ i3))));
         emits = emits_then x.emits (emits_then y.emits (emits_then e1 (emits_then z.emits (emits_then e2 e3))));
         does = λ w m values f l holders knows one.
             let high = may.high in
-            let counter = own.lanes.counter in
+            let counter = lane_parts.lanes.counter in
             let at0 = with counter 0 values in
             let left = least_left counter first others values in
             let start = (computed alus.Sltu from left * from) % 2 ^ 32 in
@@ -200,15 +205,17 @@ module _ (own : LaneParts) (ready : IsReady own) (from : ℕ) (inside : from + p
             let d3 = alu-sets w m l alus.Sub d2.after first_value first_value q left start (omega arith) (omega arith) (omega arith) (omega (arith, high))
             v2 q2 in
             let asked = computed alus.Sub left start in
-            let n = min (d3.after first_value) (most_elements (vtype_of own.group)) in
-            let many : n ≡ min asked (part_lanes own) =
-            ap (λ k. min k (most_elements (vtype_of own.group))) d3.value ∙ ap (λ k. min asked k) (most own.group) in
-            let low = lesser asked (part_lanes own) in
-            let behind = configure d3.after n (vtype_of own.group) in
-            let count : count_of own values ≡ min left (all_lanes own.lanes) = ap (λ k. left_lanes own.lanes k values) is in
-            let are = subst (λ k. AreNumbers from (part_lanes own) k start (min asked (part_lanes own))) (sym count)
-            (numbers-are from (part_lanes own) (all_lanes own.lanes) left (least-small counter first others values) inside (few-lanes own.lanes.group)
-            (subst (λ k. 1 ≤ k) count one) (some-lanes own.group)) in
+            let n = min (d3.after first_value) (most_elements (vtype_of lane_parts.group)) in
+            let many : n ≡ min asked (part_lanes lane_parts) =
+            ap (λ k. min k (most_elements (vtype_of lane_parts.group))) d3.value ∙ ap (λ k. min asked k)
+            (most lane_parts.group) in
+            let low = lesser asked (part_lanes lane_parts) in
+            let behind = configure d3.after n (vtype_of lane_parts.group) in
+            let count : count_of lane_parts values ≡ min left (all_lanes lane_parts.lanes) = ap (λ k. left_lanes lane_parts.lanes k values) is in
+            let are = subst (λ k. AreNumbers from (part_lanes lane_parts) k start (min asked (part_lanes lane_parts)))
+            (sym count)
+            (numbers-are from (part_lanes lane_parts) (all_lanes lane_parts.lanes) left (least-small counter first others values) inside (few-lanes lane_parts.lanes.group)
+            (subst (λ k. 1 ≤ k) count one) (some-lanes lane_parts.group)) in
             record {
               after = behind;
               line = line-then w x.insns (y.insns ++ (i1 ++ (z.insns ++ (i2 ++ i3)))) f a.after behind m m m a.line
@@ -216,22 +223,22 @@ module _ (own : LaneParts) (ready : IsReady own) (from : ℕ) (inside : from + p
                   (line-then w i1 (z.insns ++ (i2 ++ i3)) b.after d1.after behind m m m d1.line
                   (line-then w z.insns (i2 ++ i3) d1.after d2.after behind m m m d2.line
                   (line-then w i2 i3 d2.after d3.after behind m m m d3.line
-                  (configure-by w d3.after m l first_value (vtype_of own.group) (omega arith) (omega arith) (supported own.group))))));
+                  (configure-by w d3.after m l first_value (vtype_of lane_parts.group) (omega arith) (omega arith) (supported lane_parts.group))))));
               first = start;
-              number = min asked (part_lanes own);
-              at = configured-others d3.after n (vtype_of own.group) q (omega (arith, high)) ∙ d3.others q (λ e. omega (arith, e, high)) ∙ q2;
-              has = subst (λ k. HasLanes own.group k behind) many (has-lanes own.group d3.after n (omega (arith, many, low)));
+              number = min asked (part_lanes lane_parts);
+              at = configured-others d3.after n (vtype_of lane_parts.group) q (omega (arith, high)) ∙ d3.others q (λ e. omega (arith, e, high)) ∙ q2;
+              has = subst (λ k. HasLanes lane_parts.group k behind) many (has-lanes lane_parts.group d3.after n (omega (arith, many, low)));
               some = are.some;
               few = omega (arith, low);
               within = are.within;
               all = are.all;
               keeps = λ r kept.
                   let u = kept-apart scope r holders kept in
-                  configured-others d3.after n (vtype_of own.group) r (kept-low scope r ready.registers kept) ∙ d3.others r (value-free scope holders r kept)
+                  configured-others d3.after n (vtype_of lane_parts.group) r (kept-low scope r ready.registers kept) ∙ d3.others r (value-free scope holders r kept)
                   ∙ d2.others r (ready.free.1 r kept) u.0 u.1 ∙ d1.others r (address-free scope holders r kept)
                   ∙ b.others r (value-free scope holders r kept) (address-free scope holders r kept) u.0 u.1 ∙ a.others r (ready.free.1 r kept) u.0 u.1;
               lanes_stay = λ r up.
-                  lanes-configured d3.after n (vtype_of own.group) r up ∙ d3.others r (λ e. omega (arith, e, up))
+                  lanes-configured d3.after n (vtype_of lane_parts.group) r up ∙ d3.others r (λ e. omega (arith, e, up))
                   ∙ d2.others r (λ e. omega (arith, e, up, high)) (λ e. omega (arith, e, up)) (λ e. omega (arith, e, up))
                   ∙ d1.others r (λ e. omega (arith, e, up))
                   ∙ b.others r (λ e. omega (arith, e, up)) (λ e. omega (arith, e, up)) (λ e. omega (arith, e, up)) (λ e. omega (arith, e, up))
@@ -242,9 +249,9 @@ module _ (own : LaneParts) (ready : IsReady own) (from : ℕ) (inside : from + p
   -- ---- values
 
   abbrev there : ℕ → Values → Values
-  there b values = with own.by b values
+  there b values = with lane_parts.by b values
 
-  goes-on : (b i : ℕ) (values : Values) → GoesOn (further_of own) (with own.lanes.counter (b + i) values) (with own.lanes.counter i (there b values))
+  goes-on : (b i : ℕ) (values : Values) → GoesOn (further_of lane_parts) (with lane_parts.lanes.counter (b + i) values) (with lane_parts.lanes.counter i (there b values))
   goes-on b i values = record {
     by = b;
     iteration = i;
@@ -253,43 +260,43 @@ module _ (own : LaneParts) (ready : IsReady own) (from : ℕ) (inside : from + p
     apart = ready.apart;
     values_are = refl;
     moved_are = refl;
-    at = stands-at own.by b values;
+    at = stands-at lane_parts.by b values;
     same = λ counter other. ap (λ t. if t then b else values counter) other;
   }
 
   abbrev small-lanes : VectorLanes
-  small-lanes = record { counter = own.lanes.counter; group = own.group }
+  small-lanes = record { counter = lane_parts.lanes.counter; group = lane_parts.group }
 
-  knows-inner : (hart b : ℕ) (values : Values) (f : ℕ → ℕ) → b < 2 ^ 32 → f q ≡ b → Knows hart scope (with own.lanes.counter 0 values) f
-      → Knows hart own.inner.now (with own.lanes.counter 0 (there b values)) f
+  knows-inner : (hart b : ℕ) (values : Values) (f : ℕ → ℕ) → b < 2 ^ 32 → f q ≡ b → Knows hart scope (with lane_parts.lanes.counter 0 values) f
+      → Knows hart lane_parts.inner.now (with lane_parts.lanes.counter 0 (there b values)) f
   knows-inner hart b values f small is knows =
-      let counter = own.lanes.counter in
+      let counter = lane_parts.lanes.counter in
       let none = ap (λ t. if t then true else false) ready.apart in
-      let form = form-steady counter 0 hart (there b values) (variable own.by) none ∙ variable-value own.by hart b values small in
-      let others = knows-with counter 0 hart scope (there b values) f ready.steady (knows-with own.by b hart scope values f ready.lacks
-      (knows-without counter 0 hart scope values f ready.steady knows)) in
+      let form = form-loop_invariant counter 0 hart (there b values) (variable lane_parts.by) none ∙ variable-value lane_parts.by hart b values small in
+      let others = knows-with counter 0 hart scope (there b values) f ready.loop_invariant (knows-with lane_parts.by b hart scope values f ready.lacks
+      (knows-without counter 0 hart scope values f ready.loop_invariant knows)) in
       subst (λ held. Knows hart held (with counter 0 (there b values)) f) (sym ready.inner_is) (is ∙ sym form, others)
 
-  holders-inner : AreHolders scope → AreHolders own.inner.now
+  holders-inner : AreHolders scope → AreHolders lane_parts.inner.now
   holders-inner holders = subst AreHolders (sym ready.inner_is) (inl ready.free.0, (ready.free.1, holders))
 
-  kept-inner : (r : ℕ) → IsKept scope r → IsKept own.inner.now r
+  kept-inner : (r : ℕ) → IsKept scope r → IsKept lane_parts.inner.now r
   kept-inner r kept = subst (λ held. IsKept held r) (sym ready.inner_is) (inr kept)
 
-  pub part-made : (k : ℕ) (c0 c1 c2 : List ℕ) → k < slots own.group → ConfiguresPart c0 c1 own from
-      → MakesLanes c1 c2 own.places.now own.inner.now small-lanes k own.made.now → MakesPart c0 c2 own k from (from + part_lanes own)
+  pub part-made : (k : ℕ) (c0 c1 c2 : List ℕ) → k < slots lane_parts.group → ConfiguresPart c0 c1 lane_parts from
+      → MakesLanes c1 c2 lane_parts.places.now lane_parts.inner.now small-lanes k lane_parts.made.now → MakesPart c0 c2 lane_parts k from (from + part_lanes lane_parts)
   part-made k c0 c1 c2 in-stack x y = record {
     insns = x.insns ++ y.insns;
     emits = emits_then x.emits y.emits;
     does = λ e further w m values reads f l are holders knows one loaded.
-        let counter = own.lanes.counter in
+        let counter = lane_parts.lanes.counter in
         let a = x.does w m values f l holders knows one in
         let at0 = with counter 0 values in
         let within = a.within in
         let word : a.first < 2 ^ 32 = let c = count-small values in omega (arith, within, c) in
         let b = y.does w m (there a.first values) reads a.number a.after l are (holders-inner holders)
         (knows-inner w.hart a.first values a.after word a.at (knows-still w.hart scope at0 f a.after a.keeps knows)) a.has a.some a.few
-        (λ j less. subst (AllByRecursion (Loads w own.places.now m reads)) (sym (further.loads_are reads _ _ (goes-on a.first j values)))
+        (λ j less. subst (AllByRecursion (Loads w lane_parts.places.now m reads)) (sym (further.loads_are reads _ _ (goes-on a.first j values)))
         (loaded (a.first + j) (omega (arith, within, less)))) in
         record {
           after = b.after;
@@ -309,46 +316,47 @@ module _ (own : LaneParts) (ready : IsReady own) (from : ℕ) (inside : from + p
               subst (λ n. n < 2 ^ 32) (further.value_is reads _ _ (goes-on a.first (i - from) values) ∙ ap (λ n. value reads (with counter n values) e) same)
               (b.small (i - from) (omega (arith, low, end)));
           keeps = λ r kept.
-              b.keeps r (kept-under own.group k own.inner.now r (holders-inner holders) (kept-inner r kept)) ∙ a.keeps r kept;
+              b.keeps r (kept-under lane_parts.group k lane_parts.inner.now r (holders-inner holders) (kept-inner r kept)) ∙ a.keeps r kept;
           below = λ r low high. b.keeps r (inr (inr (low, high))) ∙ a.lanes_stay r (omega (arith, low));
         };
   }
     where
-      count-small : (values : Values) → count_of own values ≤ 16
-      count-small values = by own.left.now
+      count-small : (values : Values) → count_of lane_parts values ≤ 16
+      count-small values = by lane_parts.left.now
         where
-          by : (left : List Left) → left_lanes own.lanes left values ≤ 16
-          by [] = few-lanes own.lanes.group
+          by : (left : List Left) → left_lanes lane_parts.lanes left values ≤ 16
+          by [] = few-lanes lane_parts.lanes.group
           by (first ∷ others) =
-              let a = lesser (least_left own.lanes.counter first others values) (all_lanes own.lanes) in
-              let b = few-lanes own.lanes.group in
+              let a = lesser (least_left lane_parts.lanes.counter first others values) (all_lanes lane_parts.lanes) in
+              let b = few-lanes lane_parts.lanes.group in
               omega (arith, a, b)
 
 -- ---- one part after the other
 
-module _ (own : LaneParts) where
-  pub parts-then : (k from : ℕ) (c0 c1 c2 : List ℕ) → k < slots own.group → MakesPart c0 c1 own k from (from + part_lanes own)
-      → MakesPart c1 c2 own (k + 1) (from + part_lanes own) (all_lanes own.lanes) → MakesPart c0 c2 own k from (all_lanes own.lanes)
+module _ (lane_parts : LaneParts) where
+  pub parts-then : (k from : ℕ) (c0 c1 c2 : List ℕ) → k < slots lane_parts.group → MakesPart c0 c1 lane_parts k from (from + part_lanes lane_parts)
+      → MakesPart c1 c2 lane_parts (k + 1) (from + part_lanes lane_parts) (all_lanes lane_parts.lanes) → MakesPart c0 c2 lane_parts k from (all_lanes lane_parts.lanes)
   parts-then k from c0 c1 c2 in-stack x y = record {
     insns = x.insns ++ y.insns;
     emits = emits_then x.emits y.emits;
     does = λ e further w m values reads f l are holders knows one loaded.
-        let s = slot-lies own.group k in-stack in
+        let s = slot-lies lane_parts.group k in-stack in
         let next = s.next in
         let low-slot = s.low in
         let a = x.does e further w m values reads f l are holders knows one loaded in
-        let ka = knows-still w.hart own.scope.now (with own.lanes.counter 0 values) f a.after a.keeps knows in
+        let ka = knows-still w.hart lane_parts.scope.now (with lane_parts.lanes.counter 0 values) f a.after a.keeps
+        knows in
         let b = y.does e further w m values reads a.after l are holders ka one loaded in
         record {
           after = b.after;
           line = line-then w x.insns y.insns f a.after b.after m m m a.line b.line;
-          value = λ i low below upto. elim (cases_lt i (from + part_lanes own)) [
-            | inl c ↦ b.below (lane (slot own.group k) (i - from)) (omega (arith, low-slot)) (omega (arith, next, c, low)) ∙ a.value i low below c
+          value = λ i low below upto. elim (cases_lt i (from + part_lanes lane_parts)) [
+            | inl c ↦ b.below (lane (slot lane_parts.group k) (i - from)) (omega (arith, low-slot)) (omega (arith, next, c, low)) ∙ a.value i low below c
             | inr d ↦
-                let same : lane (slot own.group k) (i - from) ≡ lane (slot own.group (k + 1)) (i - (from + part_lanes own)) = omega (arith, next, d) in
+                let same : lane (slot lane_parts.group k) (i - from) ≡ lane (slot lane_parts.group (k + 1)) (i - (from + part_lanes lane_parts)) = omega (arith, next, d) in
                 ap b.after same ∙ b.value i d below upto
           ];
-          small = λ i low below upto. elim (cases_lt i (from + part_lanes own)) [
+          small = λ i low below upto. elim (cases_lt i (from + part_lanes lane_parts)) [
             | inl c ↦ a.small i low below c
             | inr d ↦ b.small i d below upto
           ];
@@ -359,24 +367,28 @@ module _ (own : LaneParts) where
 
   -- ---- with lanes for all configured after them
 
-  pub run-of-parts : (s k : ℕ) (e : Expr) (c0 c1 c2 : List ℕ) → IsFurther (further_of own) e own.made.now → slot own.group s ≡ slot own.lanes.group k
-      → slot own.group 0 ≤ slot own.lanes.group 0 → MakesPart c0 c1 own s 0 (all_lanes own.lanes)
-      → Configures c1 c2 own.scope.now own.lanes (left_lanes own.lanes own.left.now)
-      → MakesRun c0 c2 own.places.now own.scope.now own.lanes (left_lanes own.lanes own.left.now) k e
+  pub run-of-parts : (s k : ℕ) (e : Expr) (c0 c1 c2 : List ℕ) → IsFurther (further_of lane_parts) e lane_parts.made.now → slot lane_parts.group s ≡ slot lane_parts.lanes.group k
+      → slot lane_parts.group 0 ≤ slot lane_parts.lanes.group 0 → MakesPart c0 c1 lane_parts s 0
+      (all_lanes lane_parts.lanes)
+      → Configures c1 c2 lane_parts.scope.now lane_parts.lanes (left_lanes lane_parts.lanes lane_parts.left.now)
+      → MakesRun c0 c2 lane_parts.places.now lane_parts.scope.now lane_parts.lanes
+      (left_lanes lane_parts.lanes lane_parts.left.now) k e
   run-of-parts s k e c0 c1 c2 further at above x y = record {
     insns = x.insns ++ y.insns;
     emits = emits_then x.emits y.emits;
     does = λ w m values reads f l are holders knows one few loaded.
         let a = x.does e further w m values reads f l are holders knows one loaded in
-        let ka = knows-still w.hart own.scope.now (with own.lanes.counter 0 values) f a.after a.keeps knows in
+        let ka = knows-still w.hart lane_parts.scope.now (with lane_parts.lanes.counter 0 values) f a.after a.keeps
+        knows in
         let b = y.does w m values a.after l holders ka in
         record {
           after = b.after;
           line = line-then w x.insns y.insns f a.after b.after m m m a.line b.line;
           has = b.has;
           value = λ i less.
-              let same : lane (slot own.lanes.group k) i ≡ lane (slot own.group s) (i - 0) = omega (arith, at) in
-              b.lanes_stay (lane (slot own.lanes.group k) i) (omega arith) ∙ ap a.after same ∙ a.value i (omega arith) less (omega (arith, less, few));
+              let same : lane (slot lane_parts.lanes.group k) i ≡ lane (slot lane_parts.group s) (i - 0) = omega
+              (arith, at) in
+              b.lanes_stay (lane (slot lane_parts.lanes.group k) i) (omega arith) ∙ ap a.after same ∙ a.value i (omega arith) less (omega (arith, less, few));
           small = λ i less. a.small i (omega arith) less (omega (arith, less, few));
           keeps = λ r kept. b.keeps r kept ∙ a.keeps r kept;
           below = λ r low high. b.lanes_stay r (omega (arith, low)) ∙ a.below r (omega (arith, low, above)) (omega (arith, high, at));
@@ -385,22 +397,22 @@ module _ (own : LaneParts) where
 
 -- ---- all lanes at once
 
-pub values-run : (places : Places) (scope : List Held) (own : VectorLanes) (count : Values → ℕ) (e : Expr) (c0 c1 c2 : List ℕ)
-    → Configures c0 c1 scope own count → MakesLanes c1 c2 places scope own 0 e → MakesRun c0 c2 places scope own count 0 e
-values-run places scope own count e c0 c1 c2 x y = record {
+pub values-run : (places : Places) (scope : List Held) (vector_lanes : VectorLanes) (count : Values → ℕ) (e : Expr) (c0 c1 c2 : List ℕ)
+    → Configures c0 c1 scope vector_lanes count → MakesLanes c1 c2 places scope vector_lanes 0 e → MakesRun c0 c2 places scope vector_lanes count 0 e
+values-run places scope vector_lanes count e c0 c1 c2 x y = record {
   insns = x.insns ++ y.insns;
   emits = emits_then x.emits y.emits;
   does = λ w m values reads f l are holders knows one few loaded.
       let a = x.does w m values f l holders knows in
-      let ka = knows-still w.hart scope (with own.counter 0 values) f a.after a.keeps knows in
+      let ka = knows-still w.hart scope (with vector_lanes.counter 0 values) f a.after a.keeps knows in
       let b = y.does w m values reads (count values) a.after l are holders ka a.has one few loaded in
       record {
         after = b.after;
         line = line-then w x.insns y.insns f a.after b.after m m m a.line b.line;
-        has = lanes-under w m l own.group (count values) 0 a.after b.after b.keeps a.has;
+        has = lanes-under w m l vector_lanes.group (count values) 0 a.after b.after b.keeps a.has;
         value = b.value;
         small = b.small;
-        keeps = λ r kept. b.keeps r (kept-under own.group 0 scope r holders kept) ∙ a.keeps r kept;
+        keeps = λ r kept. b.keeps r (kept-under vector_lanes.group 0 scope r holders kept) ∙ a.keeps r kept;
         below = λ r low high. absurd (omega (arith, low, high));
       };
 }

@@ -59,15 +59,16 @@ use Rattle.task_code_vector_loops.proofs.Storing.{row-saved}
 
 -- ---- parts of code, one after the other
 
-does-then : (own : Setting) {is js : List Insn} {f : ℕ → ℕ} {memory : List ℕ} {keeps_it : ℕ → Type 0} {n k : ℕ} {middle funcs : Planes} {hits : Hits}
-    → (a : Does own is n f memory keeps_it middle no_hits) → Does own js k a.after a.left keeps_it funcs hits
-    → Does own (is ++ js) (n + k) f memory keeps_it funcs hits
-does-then own {is} {js} {f} {memory} {keeps_it} {n} {k} {middle} {funcs} {hits} a b =
-    let first : Went own (is ++ js) (λ at. at) (λ at. end at is) n f memory keeps_it middle no_hits =
-    within own (λ at. at) (λ at. end at is) (λ at s. stand-front own.world.text at is js s) (λ at. refl) a in
-    let second : Went own (is ++ js) (λ at. end at is) (λ at. end at (is ++ js)) k a.after a.left keeps_it funcs hits =
-    within own (λ at. end at is) (λ at. end at (is ++ js)) (λ at s. stand-back own.world.text at is js s) (λ at. sym (end-append at is js)) b in
-    went-hits own (λ func x y h. inr h) (went-then own first second)
+does-then : (setting : Setting) {is js : List Insn} {f : ℕ → ℕ} {memory : List ℕ} {keeps_it : ℕ → Type 0} {n k : ℕ} {middle funcs : Planes} {hits : Hits}
+    → (a : Does setting is n f memory keeps_it middle no_hits) → Does setting js k a.after a.left keeps_it funcs hits
+    → Does setting (is ++ js) (n + k) f memory keeps_it funcs hits
+does-then setting {is} {js} {f} {memory} {keeps_it} {n} {k} {middle} {funcs} {hits} a b =
+    let first : Went setting (is ++ js) (λ at. at) (λ at. end at is) n f memory keeps_it middle no_hits =
+    within setting (λ at. at) (λ at. end at is) (λ at s. stand-front setting.world.text at is js s) (λ at. refl) a in
+    let second : Went setting (is ++ js) (λ at. end at is) (λ at. end at (is ++ js)) k a.after a.left keeps_it funcs
+    hits =
+    within setting (λ at. end at is) (λ at. end at (is ++ js)) (λ at s. stand-back setting.world.text at is js s) (λ at. sym (end-append at is js)) b in
+    went-hits setting (λ func x y h. inr h) (went-then setting first second)
 
 -- what was done, as parts know it
 went-of : {own : Setting} {code : List Insn} {n : ℕ} {f : ℕ → ℕ} {memory : List ℕ} {keeps_it : ℕ → Type 0} {funcs : Planes} {stored : ℕ → ℕ → ℕ → Bool}
@@ -85,9 +86,9 @@ went-of a = record {
 
 -- ---- what is asked of iterations
 
-module _ (own : Setting) (good : IsSetting own) (lanes_of : VectorLanes) (body : Stmt) (store : Store) (values named : Values) (n : ℕ)
-    (agrees : StoresAs lanes_of body store values named n) (may : MayRun own (run_of lanes_of body) values) (funcs : Planes) (memory : List ℕ)
-    (holds : HoldsFuncs own memory funcs) where
+module _ (setting : Setting) (good : IsSetting setting) (lanes_of : VectorLanes) (body : Stmt) (store : Store) (values named : Values) (n : ℕ)
+    (agrees : StoresAs lanes_of body store values named n) (may : MayRun setting (run_of lanes_of body) values) (funcs : Planes) (memory : List ℕ)
+    (holds : HoldsFuncs setting memory funcs) where
   abbrev pub all : ℕ
   all = all_lanes lanes_of
 
@@ -99,7 +100,7 @@ module _ (own : Setting) (good : IsSetting own) (lanes_of : VectorLanes) (body :
   at_named k = with lanes_of.counter k named
 
   abbrev pub reads : Reads
-  reads = reads_of own.inputs funcs
+  reads = reads_of setting.inputs funcs
 
   record Apart : Type 0 where
     one : (loop_lanes reads body).is_one_store ≡ true
@@ -126,23 +127,23 @@ module _ (own : Setting) (good : IsSetting own) (lanes_of : VectorLanes) (body :
 
   -- what an iteration may store and load
   pub record MayStore (k : ℕ) : Type 0 where
-    pub writes : own.written store.func (xs k) (ys k) ≡ true
-    pub of_x : list_all own.loaded (loads reads (at_named k) store.x) ≡ true
-    pub of_y : list_all own.loaded (loads reads (at_named k) store.y) ≡ true
-    pub of_value : list_all own.loaded (loads reads (at_named k) store.value) ≡ true
+    pub writes : setting.written store.func (xs k) (ys k) ≡ true
+    pub of_x : list_all setting.loaded (loads reads (at_named k) store.x) ≡ true
+    pub of_y : list_all setting.loaded (loads reads (at_named k) store.y) ≡ true
+    pub of_value : list_all setting.loaded (loads reads (at_named k) store.value) ≡ true
 
   pub may-store : (k : ℕ) → k < n → MayStore k
   may-store k few =
       let less : k < all = let l = agrees.few in omega (arith, few, l) in
-      let whole = each-iteration all (λ iteration. is_sound reads own.written own.loaded body (at iteration))
-      (sym (sound_for reads own.written own.loaded lanes_of.counter all Vectorized body values) ∙ may.sound funcs holds.are_words) k less in
-      let is = agrees.sound reads own.written own.loaded k few whole in
-      let t = and_parts (own.written store.func (xs k) (ys k)) (list_all own.loaded (store_loads reads (at_named k) store))
-      (sym (sound_store reads own.written own.loaded store (at_named k)) ∙ is) in
-      let p = and_parts (list_all own.loaded (loads reads (at_named k) store.x)) _
-      (sym (list_all-append own.loaded (loads reads (at_named k) store.x) (loads reads (at_named k) store.y ++ loads reads (at_named k) store.value)) ∙ t.1) in
-      let q = and_parts (list_all own.loaded (loads reads (at_named k) store.y)) (list_all own.loaded (loads reads (at_named k) store.value))
-      (sym (list_all-append own.loaded (loads reads (at_named k) store.y) (loads reads (at_named k) store.value)) ∙ p.1) in
+      let whole = each-iteration all (λ iteration. is_sound reads setting.written setting.loaded body (at iteration))
+      (sym (sound_for reads setting.written setting.loaded lanes_of.counter all Vectorized body values) ∙ may.sound funcs holds.are_words) k less in
+      let is = agrees.sound reads setting.written setting.loaded k few whole in
+      let t = and_parts (setting.written store.func (xs k) (ys k)) (list_all setting.loaded (store_loads reads (at_named k) store))
+      (sym (sound_store reads setting.written setting.loaded store (at_named k)) ∙ is) in
+      let p = and_parts (list_all setting.loaded (loads reads (at_named k) store.x)) _
+      (sym (list_all-append setting.loaded (loads reads (at_named k) store.x) (loads reads (at_named k) store.y ++ loads reads (at_named k) store.value)) ∙ t.1) in
+      let q = and_parts (list_all setting.loaded (loads reads (at_named k) store.y)) (list_all setting.loaded (loads reads (at_named k) store.value))
+      (sym (list_all-append setting.loaded (loads reads (at_named k) store.y) (loads reads (at_named k) store.value)) ∙ p.1) in
       record { writes = t.0; of_x = p.0; of_y = q.0; of_value = q.1 }
 
   abbrev effects : ℕ → Option Effect
@@ -203,35 +204,36 @@ module _ (own : Setting) (good : IsSetting own) (lanes_of : VectorLanes) (body :
   }
 
   -- a run of the Func is stored, or none
-  pub are-run : own.in_runs store.func ≡ true → AreRun own n store.func xs ys
+  pub are-run : setting.in_runs store.func ≡ true → AreRun setting n store.func xs ys
   are-run =
-      pixels-are-run own values reads store at_named n agrees.some
-      (same-runs own values effects stores_at all n hit-more hit-fewer
-      (loop-runs own lanes_of.counter all body values may.in_runs reads apart-parts.one funcs holds.are_words))
+      pixels-are-run setting values reads store at_named n agrees.some
+      (same-runs setting values effects stores_at all n hit-more hit-fewer
+      (loop-runs setting lanes_of.counter all body values may.in_runs reads apart-parts.one funcs holds.are_words))
 
   -- what is stored at once is what is stored in order
-  pub laid-is : laid own.points pixels n funcs ≡ run own.points own.inputs (run_of lanes_of body) values funcs
+  pub laid-is : laid setting.points pixels n funcs ≡ run setting.points setting.inputs (run_of lanes_of body) values
+      funcs
   laid-is =
       let b = agrees.few in
       let whole : (all - n) + n ≡ all = omega (arith, b) in
-      laid-same own.points pixels effects n (λ k few. sym (effect_store reads store (at_named k)) ∙ sym (agrees.stores reads k few)) funcs
-      ∙ sym (laid-cut own.points effects (all - n) n (λ j low high. agrees.none reads j low (omega (arith, whole, high))) funcs)
-      ∙ ap (λ k. laid own.points effects k funcs) whole
-      ∙ sym (run_for own.points own.inputs lanes_of.counter all Vectorized body values funcs
-      ∙ in_order own.points own.inputs body at funcs all apart-parts.one apart-parts.apart)
+      laid-same setting.points pixels effects n (λ k few. sym (effect_store reads store (at_named k)) ∙ sym (agrees.stores reads k few)) funcs
+      ∙ sym (laid-cut setting.points effects (all - n) n (λ j low high. agrees.none reads j low (omega (arith, whole, high))) funcs)
+      ∙ ap (λ k. laid setting.points effects k funcs) whole
+      ∙ sym (run_for setting.points setting.inputs lanes_of.counter all Vectorized body values funcs
+      ∙ in_order setting.points setting.inputs body at funcs all apart-parts.one apart-parts.apart)
 
-  pub all-hit : (func x y : ℕ) → stored_points own (run_of lanes_of body) values funcs func x y ≡ true → HitBy pixels n func x y
+  pub all-hit : (func x y : ℕ) → stored_points setting (run_of lanes_of body) values funcs func x y ≡ true → HitBy pixels n func x y
   all-hit func x y h =
-      hit-pixel func x y (hit-fewer func x y (hits-at-once own.points own.inputs body at funcs apart-parts.one all apart-parts.apart func x y
-      (sym (hit-for own.points own.inputs func x y lanes_of.counter all Vectorized body values funcs) ∙ h)))
+      hit-pixel func x y (hit-fewer func x y (hits-at-once setting.points setting.inputs body at funcs apart-parts.one all apart-parts.apart func x y
+      (sym (hit-for setting.points setting.inputs func x y lanes_of.counter all Vectorized body values funcs) ∙ h)))
 
 -- ---- values and a store
 
-pub stored-as : (places : Places) (scope : List Held) (lanes_of : VectorLanes) (count : Values → ℕ) (store : Store) (place : BufferLayout) (b u : ℕ)
-    (addressing : Addressing) (c0 c1 c2 c3 : List ℕ) → place ≡ place_of places (sources.Func store.func) → u ≡ slot lanes_of.group 0
-    → MakesRun c0 c1 places scope lanes_of count 0 store.value → MakesAims c1 c2 places scope lanes_of count store place b addressing
+pub stored-as : (places : Places) (scope : List Held) (lanes_of : VectorLanes) (count : Values → ℕ) (store : Store) (layout : BufferLayout) (b u : ℕ)
+    (addressing : Addressing) (c0 c1 c2 c3 : List ℕ) → layout ≡ place_of places (sources.Func store.func) → u ≡ slot lanes_of.group 0
+    → MakesRun c0 c1 places scope lanes_of count 0 store.value → MakesAims c1 c2 places scope lanes_of count store layout b addressing
     → Emits c2 c3 (Vector (v.StoreElements Bits32 u b addressing true) ∷ []) → EmitsRun c0 c3 places scope lanes_of count store
-stored-as places scope lanes_of count store place b u addressing c0 c1 c2 c3 ep eu p t z =
+stored-as places scope lanes_of count store layout b u addressing c0 c1 c2 c3 ep eu p t z =
     let last_code : List Insn = Vector (v.StoreElements Bits32 (slot lanes_of.group 0) b addressing true) ∷ [] in
     record {
       insns = p.insns ++ (t.insns ++ last_code);

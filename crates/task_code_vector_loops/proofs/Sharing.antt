@@ -57,11 +57,11 @@ share-literal r s n c0 c1 c2 low high ls s13 s14 some x y = record {
 
 -- ---- sums
 
-pub left-small : (counter : Counter) (own : Left) (values : Values) → left_by counter own values < 2 ^ 32
-left-small counter own values =
+pub left-small : (counter : Counter) (left_store : Left) (values : Values) → left_by counter left_store values < 2 ^ 32
+left-small counter left_store values =
     let at = with counter 0 values in
-    let small = linear-small at own.sum in
-    let less = div-le_self (linear_value at own.sum) own.stride in
+    let small = linear-small at left_store.sum in
+    let less = div-le_self (linear_value at left_store.sum) left_store.stride in
     omega (arith, small, less)
 
 by-one : (v stride : ℕ) → stride ≡ 1 → v ≡ v / stride
@@ -71,15 +71,15 @@ by-one v stride one = subst (λ k. v ≡ v / k) (sym one) (omega arith)
 pub value-free : (scope : List Held) → AreHolders scope → IsFree scope first_value
 value-free scope holders = working-free scope first_value holders (inr (omega arith, omega arith))
 
-module _ (scope : List Held) (counter : Counter) (own : Left) (sum : Linear) (es : sum ≡ own.sum) where
+module _ (scope : List Held) (counter : Counter) (left_store : Left) (sum : Linear) (es : sum ≡ left_store.sum) where
   abbrev form : AffineForm
   form = record { sum = sum; per_hart = 0 }
 
-  sum-is : (hart : ℕ) (values : Values) → form_value hart (with counter 0 values) form ≡ linear_value (with counter 0 values) own.sum
-  sum-is hart values = form-alone hart (with counter 0 values) form own.sum refl es
+  sum-is : (hart : ℕ) (values : Values) → form_value hart (with counter 0 values) form ≡ linear_value (with counter 0 values) left_store.sum
+  sum-is hart values = form-alone hart (with counter 0 values) form left_store.sum refl es
 
   -- in a register, of a stride of 1
-  pub left-plain : (b : ℕ) (c0 c1 : List ℕ) → own.stride ≡ 1 → MakesPointer c0 c1 scope counter b form → MakesLeft c0 c1 scope counter b own
+  pub left-plain : (b : ℕ) (c0 c1 : List ℕ) → left_store.stride ≡ 1 → MakesPointer c0 c1 scope counter b form → MakesLeft c0 c1 scope counter b left_store
   left-plain b c0 c1 one p = record {
     insns = p.insns;
     emits = p.emits;
@@ -90,14 +90,15 @@ module _ (scope : List Held) (counter : Counter) (own : Left) (sum : Linear) (es
         record {
           after = a.after;
           line = a.line;
-          value = a.value ∙ sum-is w.hart values ∙ by-one (linear_value (with counter 0 values) own.sum) own.stride one;
+          value = a.value ∙ sum-is w.hart values ∙ by-one (linear_value (with counter 0 values) left_store.sum)
+              left_store.stride one;
           others = a.others;
         };
   }
 
   -- of any other
-  pub left-shared : (b : ℕ) (c0 c1 c2 : List ℕ) → MakesPointer c0 c1 scope counter b form → MakesOf c1 c2 3 address_register b (λ v. v / own.stride)
-      → MakesLeft c0 c2 scope counter address_register own
+  pub left-shared : (b : ℕ) (c0 c1 c2 : List ℕ) → MakesPointer c0 c1 scope counter b form → MakesOf c1 c2 3 address_register b (λ v. v / left_store.stride)
+      → MakesLeft c0 c2 scope counter address_register left_store
   left-shared b c0 c1 c2 p z = record {
     insns = p.insns ++ z.insns;
     emits = emits_then p.emits z.emits;
@@ -106,21 +107,21 @@ module _ (scope : List Held) (counter : Counter) (own : Left) (sum : Linear) (es
     does = λ w m values f l holders knows.
         let at = with counter 0 values in
         let a = p.does w m w.hart values f l holders knows in
-        let is : a.after b ≡ linear_value at own.sum = a.value ∙ sum-is w.hart values in
+        let is : a.after b ≡ linear_value at left_store.sum = a.value ∙ sum-is w.hart values in
         let zero : a.after zero_register ≡ 0 =
         a.others zero_register (λ e. omega (arith, e)) (λ e. omega (arith, e)) (λ e. omega (arith, e)) ∙ knows-zero w.hart scope at f knows in
-        let d = z.does w m a.after l zero (subst (λ n. n < 2 ^ 32) (sym is) (linear-small at own.sum)) in
+        let d = z.does w m a.after l zero (subst (λ n. n < 2 ^ 32) (sym is) (linear-small at left_store.sum)) in
         record {
           after = d.after;
           line = line-then w p.insns z.insns f a.after d.after m m m a.line d.line;
-          value = d.value ∙ ap (λ n. n / own.stride) is;
+          value = d.value ∙ ap (λ n. n / left_store.stride) is;
           others = λ q address one two. d.others q address one two ∙ a.others q address one two;
         };
   }
 
   -- where values are made
   module _ (start : AffineForm) (law : IsAt counter 0 form start) (c0 c1 : List ℕ) (x : MakesValue c0 c1 scope start first_value) where
-    pub first-plain : own.stride ≡ 1 → MakesLeast c0 c1 scope counter own []
+    pub first-plain : left_store.stride ≡ 1 → MakesLeast c0 c1 scope counter left_store []
     first-plain one = record {
       insns = x.insns;
       emits = x.emits;
@@ -130,26 +131,26 @@ module _ (scope : List Held) (counter : Counter) (own : Left) (sum : Linear) (es
           record {
             after = a.after;
             line = a.line;
-            value = a.value ∙ law.value w.hart 0 values ∙ sum-is w.hart values ∙ by-one (linear_value at own.sum) own.stride one;
+            value = a.value ∙ law.value w.hart 0 values ∙ sum-is w.hart values ∙ by-one (linear_value at left_store.sum) left_store.stride one;
             others = λ q apart address one two. a.others q apart one two;
           };
     }
 
-    pub first-shared : (c2 : List ℕ) → MakesOf c1 c2 3 first_value first_value (λ v. v / own.stride) → MakesLeast c0 c2 scope counter own []
+    pub first-shared : (c2 : List ℕ) → MakesOf c1 c2 3 first_value first_value (λ v. v / left_store.stride) → MakesLeast c0 c2 scope counter left_store []
     first-shared c2 z = record {
       insns = x.insns ++ z.insns;
       emits = emits_then x.emits z.emits;
       does = λ w m values f l holders knows.
           let at = with counter 0 values in
           let a = x.does w m w.hart at f l holders (value-free scope holders) knows in
-          let is : a.after first_value ≡ linear_value at own.sum = a.value ∙ law.value w.hart 0 values ∙ sum-is w.hart values in
+          let is : a.after first_value ≡ linear_value at left_store.sum = a.value ∙ law.value w.hart 0 values ∙ sum-is w.hart values in
           let zero : a.after zero_register ≡ 0 =
           a.others zero_register (λ e. omega (arith, e)) (λ e. omega (arith, e)) (λ e. omega (arith, e)) ∙ knows-zero w.hart scope at f knows in
-          let d = z.does w m a.after l zero (subst (λ n. n < 2 ^ 32) (sym is) (linear-small at own.sum)) in
+          let d = z.does w m a.after l zero (subst (λ n. n < 2 ^ 32) (sym is) (linear-small at left_store.sum)) in
           record {
             after = d.after;
             line = line-then w x.insns z.insns f a.after d.after m m m a.line d.line;
-            value = d.value ∙ ap (λ n. n / own.stride) is;
+            value = d.value ∙ ap (λ n. n / left_store.stride) is;
             others = λ q apart address one two. d.others q apart one two ∙ a.others q apart one two;
           };
     }

@@ -88,30 +88,30 @@ pub(crate) fn emit_least(
 }
 
 /// Appends what configures a lane for each of as many iterations as the least that one of the sums leaves, but no more
-/// than there are lanes for; for so many where there is no sum.
+/// than there are lanes for; for this many where there is no sum.
 pub fn emit_left_lanes(
     alloc: Global,
     code: &mut Vec<u32>,
     scope: &[Held],
-    own: VectorLanes,
+    lanes: VectorLanes,
     left: &[Left],
 ) -> Result<(), CodeFault>
     requires { are_registers scope.now ≡ true }
-    ensures { OnOk result (Configures code.old.items code.new.items scope.now own (left_lanes own left.now)) }
+    ensures { OnOk result (Configures code.old.items code.new.items scope.now lanes (left_lanes lanes left.now)) }
 {
     match left {
         [] => {
-            put_all(code, own.group)?;
+            put_all(code, lanes.group)?;
             Ok(())
         }
         [only] => {
-            let register = emit_left(alloc, code, scope, own.counter, only)?;
-            configure(code, own.group, register)?;
+            let register = emit_left(alloc, code, scope, lanes.counter, only)?;
+            configure(code, lanes.group, register)?;
             Ok(())
         }
         [first, others @ ..] => {
-            emit_least(alloc, code, scope, own.counter, first, others)?;
-            configure(code, own.group, FIRST_VALUE)?;
+            emit_least(alloc, code, scope, lanes.counter, first, others)?;
+            configure(code, lanes.group, FIRST_VALUE)?;
             Ok(())
         }
     }

@@ -34,6 +34,6 @@ pub(crate) fn distance_of(alloc: Global, point: &BufferPoint<'_>) -> Result<Expr
     let column = copy_of(alloc, point.x)?;
     let first = Boxed::new(alloc, column)?;
     let pixels = Expr::Binary(Operation::Add, first, second);
-    let made = product(alloc, pixels, bytes_of(point.place.pixels))?;
-    Ok(made)
+    let expression = product(alloc, pixels, bytes_of(point.place.pixels))?;
+    Ok(expression)
 }

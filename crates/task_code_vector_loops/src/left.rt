@@ -24,7 +24,6 @@ pub struct Left {
     pub stride: u32,
 }
 
-/// Written out, so that a check sees a call wherever one is dropped, and not the drops of its parts.
 impl Drop for Left {
     fn drop(self) {
         let Left { sum, stride: _ } = self;
@@ -62,15 +61,15 @@ pub fn emit_left(
     code: &mut Vec<u32>,
     scope: &[Held],
     counter: Counter,
-    own: &Left,
+    left_store: &Left,
 ) -> Result<u8, CodeFault>
-    ensures { IfOk result (λ b. MakesLeft code.old.items code.new.items scope.now counter b own.now) }
+    ensures { IfOk result (λ b. MakesLeft code.old.items code.new.items scope.now counter b left_store.now) }
 {
-    let stride = own.stride;
+    let stride = left_store.stride;
     if stride == 0 {
         return Err(CodeFault::TooDeep);
     }
-    let sum = own.sum.copy(alloc)?;
+    let sum = left_store.sum.copy(alloc)?;
     let form = AffineForm { sum, per_hart: 0 };
     let register = emit_pointer(alloc, code, scope, counter, &form)?;
     if stride == 1 {
@@ -90,15 +89,15 @@ pub fn emit_first_left(
     code: &mut Vec<u32>,
     scope: &[Held],
     counter: Counter,
-    own: &Left,
+    left: &Left,
 ) -> Result<(), CodeFault>
-    ensures { OnOk result (MakesLeast code.old.items code.new.items scope.now counter own.now []) }
+    ensures { OnOk result (MakesLeast code.old.items code.new.items scope.now counter left.now []) }
 {
-    let stride = own.stride;
+    let stride = left.stride;
     if stride == 0 {
         return Err(CodeFault::TooDeep);
     }
-    let sum = own.sum.copy(alloc)?;
+    let sum = left.sum.copy(alloc)?;
     let form = AffineForm { sum, per_hart: 0 };
     let start = at_value(alloc, &form, counter, 0)?;
     emit_reached(alloc, code, scope, &start, FIRST_VALUE)?;

@@ -65,25 +65,38 @@ pub struct LanePart {
 fn emit_part_lanes(
     alloc: Global,
     code: &mut Vec<u32>,
-    own: &LaneParts<'_>,
+    lane_parts: &LaneParts<'_>,
     from: u32,
 ) -> Result<(), CodeFault>
-    requires ready { IsReady own.now }
-    requires inside { from + part_lanes own.now ≤ all_lanes own.now.lanes }
-    ensures { OnOk result (ConfiguresPart code.old.items code.new.items own.now from) }
+    requires ready { IsReady lane_parts.now }
+    requires inside { from + part_lanes lane_parts.now ≤ all_lanes lane_parts.now.lanes }
+    ensures { OnOk result (ConfiguresPart code.old.items code.new.items lane_parts.now from) }
 {
-    emit_number(code, own.register, from)?;
-    match own.left {
+    emit_number(code, lane_parts.register, from)?;
+    match lane_parts.left {
         [] => {
-            put_all(code, own.group)?;
+            put_all(code, lane_parts.group)?;
             Ok(())
         }
         [first, others @ ..] => {
-            emit_least(alloc, code, own.scope, own.lanes.counter, first, others)?;
-            alu(code, AluOp::Sltu, ADDRESS, own.register, FIRST_VALUE)?;
-            emit_times(code, own.register, ADDRESS, from)?;
-            alu(code, AluOp::Sub, FIRST_VALUE, FIRST_VALUE, own.register)?;
-            configure(code, own.group, FIRST_VALUE)?;
+            emit_least(
+                alloc,
+                code,
+                lane_parts.scope,
+                lane_parts.lanes.counter,
+                first,
+                others,
+            )?;
+            alu(code, AluOp::Sltu, ADDRESS, lane_parts.register, FIRST_VALUE)?;
+            emit_times(code, lane_parts.register, ADDRESS, from)?;
+            alu(
+                code,
+                AluOp::Sub,
+                FIRST_VALUE,
+                FIRST_VALUE,
+                lane_parts.register,
+            )?;
+            configure(code, lane_parts.group, FIRST_VALUE)?;
             Ok(())
         }
     }
@@ -93,25 +106,25 @@ fn emit_part_lanes(
 fn emit_part(
     alloc: Global,
     code: &mut Vec<u32>,
-    own: &LaneParts<'_>,
+    lane_parts: &LaneParts<'_>,
     part: LanePart,
 ) -> Result<(), CodeFault>
-    requires ready { IsReady own.now }
-    requires stack { part.slot < groups.slots own.now.group }
-    requires inside { part.from + part_lanes own.now ≤ all_lanes own.now.lanes }
-    ensures { OnOk result (MakesPart code.old.items code.new.items own.now part.slot part.from
-        (part.from + part_lanes own.now)) }
+    requires ready { IsReady lane_parts.now }
+    requires stack { part.slot < groups.slots lane_parts.now.group }
+    requires inside { part.from + part_lanes lane_parts.now ≤ all_lanes lane_parts.now.lanes }
+    ensures { OnOk result (MakesPart code.old.items code.new.items lane_parts.now part.slot part.from
+        (part.from + part_lanes lane_parts.now)) }
 {
     let site = LaneSite {
-        places: own.places,
-        scope: own.inner,
+        places: lane_parts.places,
+        scope: lane_parts.inner,
         lanes: VectorLanes {
-            counter: own.lanes.counter,
-            group: own.group,
+            counter: lane_parts.lanes.counter,
+            group: lane_parts.group,
         },
     };
-    emit_part_lanes(alloc, code, own, part.from)?;
-    emit_lanes(alloc, code, &site, own.made, part.slot)?;
+    emit_part_lanes(alloc, code, lane_parts, part.from)?;
+    emit_lanes(alloc, code, &site, lane_parts.made, part.slot)?;
     Ok(())
 }
 
@@ -119,26 +132,26 @@ fn emit_part(
 fn emit_parts(
     alloc: Global,
     code: &mut Vec<u32>,
-    own: &LaneParts<'_>,
+    lane_parts: &LaneParts<'_>,
     part: LanePart,
 ) -> Result<(), CodeFault>
-    requires ready { IsReady own.now }
-    requires stack { part.slot < groups.slots own.now.group }
-    requires inside { part.from + part_lanes own.now ≤ all_lanes own.now.lanes }
-    ensures { OnOk result (MakesPart code.old.items code.new.items own.now part.slot part.from
-        (all_lanes own.now.lanes)) }
+    requires ready { IsReady lane_parts.now }
+    requires stack { part.slot < groups.slots lane_parts.now.group }
+    requires inside { part.from + part_lanes lane_parts.now ≤ all_lanes lane_parts.now.lanes }
+    ensures { OnOk result (MakesPart code.old.items code.new.items lane_parts.now part.slot part.from
+        (all_lanes lane_parts.now.lanes)) }
 {
-    emit_part(alloc, code, own, part)?;
-    let all = own.lanes.group.lanes();
-    let from = part.from + own.group.lanes();
+    emit_part(alloc, code, lane_parts, part)?;
+    let all = lane_parts.lanes.group.lanes();
+    let from = part.from + lane_parts.group.lanes();
     if from == all {
         return Ok(());
     }
     let slot = part.slot + 1;
-    if slot >= own.group.slots() || from + own.group.lanes() > all {
+    if slot >= lane_parts.group.slots() || from + lane_parts.group.lanes() > all {
         return Err(CodeFault::TooDeep);
     }
-    emit_parts(alloc, code, own, LanePart { slot, from })?;
+    emit_parts(alloc, code, lane_parts, LanePart { slot, from })?;
     Ok(())
 }
 

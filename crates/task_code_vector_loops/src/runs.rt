@@ -48,7 +48,6 @@ struct Point {
     row: Linear,
 }
 
-/// Written out, so that a check sees a call wherever one is dropped, and not the drops of its parts.
 impl Drop for Point {
     fn drop(self) {
         let Point { column, row } = self;
@@ -57,7 +56,7 @@ impl Drop for Point {
     }
 }
 
-/// The smaller groups in which values that need so many groups from group k on are made, where there are fewer; none
+/// The smaller groups in which values that need this many groups from group k on are made, where there are fewer; none
 /// where there are enough, or no smaller ones.
 fn part_group(whole: LaneGroup, k: u8, needed: u8) -> Option<LaneGroup> {
     if k.saturating_add(needed) <= whole.slots() {
@@ -204,12 +203,12 @@ pub fn emit_run(
     alloc: Global,
     code: &mut Vec<u32>,
     site: &Site<'_>,
-    own: VectorLanes,
+    vector_lanes: VectorLanes,
     left: &[Left],
     store: &Store,
 ) -> Result<(), CodeFault>
-    ensures { OnOk result (EmitsRun code.old.items code.new.items site.now.places.now site.now.scope.now own
-        (left_lanes own left.now) store.now) }
+    ensures { OnOk result (EmitsRun code.old.items code.new.items site.now.places.now site.now.scope.now vector_lanes
+        (left_lanes vector_lanes left.now) store.now) }
 {
     if !are_registers(site.scope) {
         return Err(CodeFault::TooDeep);
@@ -217,7 +216,7 @@ pub fn emit_run(
     let along = LaneSite {
         places: site.places,
         scope: site.scope,
-        lanes: own,
+        lanes: vector_lanes,
     };
     if let Some(column) = sum_of(alloc, &store.x)? {
         if let Some(row) = sum_of(alloc, &store.y)? {

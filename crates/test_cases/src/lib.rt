@@ -2,7 +2,7 @@
 //!
 //! A file is a text of lines. A case begins at `== KIND NAME`; before the first one stand comments (`#`) and empty
 //! lines. A part of a case begins at `-- NAME`, and its text is all lines up to the next part or case, each with its
-//! line feed. Where `in pieces` stands after the part's name, each line is `COUNT TEXT` and means the text so many
+//! line feed. Where `in pieces` is after the part's name, each line is `COUNT TEXT` and means the text this many
 //! times, without a line feed; in the text `\n`, `\r`, `\t`, `\s`, `\0` and `\\` stand for a line feed, a carriage
 //! return, a tab, a space, a zero byte and a backslash. A text may stand in hexadecimal too, with `in hexadecimal`
 //! after the part's name. The last part of each case is named `answer`, and is what the rules say of the case.
@@ -153,7 +153,7 @@ fn named_form(heading: &str) -> (&str, PartForm) {
 }
 
 impl Part {
-    /// Adds a line as it stands, or what its piece says.
+    /// Adds a line as it is, or what its piece says.
     fn take_line(&mut self, alloc: Global, line: &str) -> Result<(), CaseFault> {
         if self.form == PartForm::Pieces {
             return push_piece(alloc, &mut self.text, line);
@@ -164,7 +164,7 @@ impl Part {
     }
 }
 
-/// Appends a text so many times, both as a line says.
+/// Appends a text this many times, both as a line says.
 fn push_piece(alloc: Global, text: &mut String, line: &str) -> Result<(), CaseFault> {
     let Some((count, piece)) = line.split_once(' ') else {
         return Err(CaseFault::Malformed("a piece without a text"));

@@ -68,7 +68,7 @@ fn push_byte_run(run: Option<(u8, u64)>, out: &mut String) -> Result<(), AllocEr
     }
 }
 
-/// One more; no text has so many that it would not be.
+/// One more; no text has this many that it would not be.
 fn saturating_next(count: u64) -> u64 {
     count.saturating_add(1)
 }

@@ -63,7 +63,7 @@ pub fn push_cuts(alloc: Global, parts: &[Part], out: &mut String) -> Result<(), 
     Ok(out.push_str("each failing write leaves what was written\n")?)
 }
 
-/// A line where a page whose write after so many fails isn't left with what these wrote.
+/// A line where a page whose write after this many fails isn't left with what these wrote.
 fn push_wrong_cut(
     alloc: Global,
     parts: &[Part],

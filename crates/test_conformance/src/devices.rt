@@ -91,7 +91,7 @@ impl Devices<'_> {
     }
 }
 
-/// A page that takes so many bytes a write, whose write after so many fails.
+/// A page that takes this many bytes a write, whose write after this many fails.
 pub fn failing_page(alloc: Global, step: usize, calls: u32) -> Page
     ensures { result.failures ≡ 0 }
 {

@@ -12,7 +12,7 @@ use std::alloc::{AllocError, AllocFailed};
 use std::fmt;
 use test_cases::CaseFault;
 
-/// What stands in place of an answer.
+/// What takes the place of an answer.
 #[derive(Debug, Drop)]
 pub enum CaseFailure {
     /// Memory ran out.

@@ -1,8 +1,8 @@
 //! `test_conformance`: what the libraries and the engines answer to cases that lie in files.
 //!
 //! The program reads the files that its arguments name (`test_cases`), answers each case, and prints those whose answer
-//! is another than the rules' own, which stands after the case, with both; it ends with status 1 where there are any.
-//! None of the answers was copied from this program. What algorithms under schedules come to stands beside it
+//! is another than the rules' own, which is after the case, with both; it ends with status 1 where there are any.
+//! None of the answers was copied from this program. What algorithms under schedules come to is beside it
 //! (`test_trials`).
 //!
 //! The cases of `data/written` were worked out by hand; `generate/make` makes those of `data/generated`; those of
@@ -52,18 +52,18 @@
 //! Images and logs always stand in hexadecimal. Of a run by threads the log has to replay to what the run said.
 //!
 //! The cases of `draw`, of `asm` to `accesses` and of `threads` to `rejoin` go through the engines. But for `threads`
-//! and `rejoin` a last part `devices` says how their files give and take bytes: a line `NAME STEP` for at most so many
-//! bytes a call, `NAME STEP CALLS` where the call after so many fails. A file has the name of its part; what is
+//! and `rejoin` a last part `devices` says how their files give and take bytes: a line `NAME STEP` for at most this
+//! many bytes a call, `NAME STEP CALLS` where the call after this many fails. A file has the name of its part; what is
 //! written is `page`; the log that a run writes has the lines of `new`, its record those of `kept`.
 //!
-//! A refusal stands in place of an answer, or after what was written before, as `hrv` prints it; a backslash ends a
+//! A refusal takes the place of an answer, or after what was written before, as `hrv` prints it; a backslash ends a
 //! text without a last line feed there. A case that isn't one of these is answered `malformed: ` and why.
 //!
 //! - [`algorithms`], [`schedules`], [`weights`], [`assemblies`], [`turns`], [`commands`], [`runs`], [`records`],
 //!   [`threads`], [`compilations`], [`invocations`]: the answers, a module each for one family.
 //! - [`devices`]: files in memory.
 //! - [`harts`]: what a hart holds, as lines.
-//! - [`failures`]: what stands in place of an answer.
+//! - [`failures`]: what takes the place of an answer.
 #![tactic(auto)]
 
 mod algorithms;
@@ -122,7 +122,7 @@ fn main(rt: HostRuntime) -> io::Result<ExitCode> {
     })
 }
 
-/// The answer to a case of a kind, or what stands in its place.
+/// The answer to a case of a kind, or what is in its place.
 fn answer(
     rt: &(impl Threads + Wait + Sync),
     alloc: Global,

@@ -73,7 +73,7 @@ pub fn push_rejoined(
     push_replayed(alloc, &image, &log.bytes, &ran.bytes, out)
 }
 
-/// Runs an image by so many threads.
+/// Runs an image by this many threads.
 fn push_run_by(
     rt: &(impl Threads + Wait + Sync),
     alloc: Global,

@@ -53,7 +53,7 @@ fn push_change(
     Ok(())
 }
 
-/// A machine of one hart after so many turns of a program with a word after it.
+/// A machine of one hart after this many turns of a program with a word after it.
 fn ran(alloc: Global, before: &Object, word: u32, turns: u64) -> Result<Machine, CaseFailure>
     ensures { IfOk result (λ machine. length machine.harts ≡ 1) }
 {
@@ -89,7 +89,7 @@ fn push_place(state: &HartState, out: &mut String) -> Result<(), AllocError> {
     writeln!(out, " pc 0x{pc:08x}")
 }
 
-/// A line for each word of so many bytes of data that isn't as before. A last word that isn't whole is left out.
+/// A line for each word of this many bytes of data that isn't as before. A last word that isn't whole is left out.
 fn push_data_changes(
     old: &Machine,
     new: &Machine,

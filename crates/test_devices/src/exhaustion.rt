@@ -36,7 +36,7 @@ impl Exhaustion {
         self.take_halving(COARSE) && self.take_halving(FINE) && self.is_refused()
     }
 
-    /// Gives back so many blocks, those that were taken last.
+    /// Gives back this many blocks, those that were taken last.
     pub fn give_back(&mut self, count: usize) {
         self.blocks
             .truncate(self.blocks.len().saturating_sub(count));

@@ -39,7 +39,7 @@ mod want_of_memory;
 pub struct Tape<'a> {
     name: &'a str,
     bytes: &'a [u8],
-    /// At most so many bytes a read.
+    /// At most this many bytes a read.
     pub step: usize,
     /// How many reads succeed before one fails; None where all do.
     pub reads_left: Option<u32>,
@@ -93,7 +93,7 @@ impl Source for Tape<'_> {
 pub struct Page {
     /// What was taken so far.
     pub bytes: Vec<u8>,
-    /// At most so many bytes a write.
+    /// At most this many bytes a write.
     pub step: usize,
     /// How many writes succeed before one fails; None where all do.
     pub writes_left: Option<u32>,

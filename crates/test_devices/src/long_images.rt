@@ -8,7 +8,7 @@ use std::test::Fail;
 /// How many bytes stand after those that are read.
 const REST: usize = 1_000_000;
 
-/// More bytes than an image has are refused, and what stands after them isn't read.
+/// More bytes than an image has are refused, and what is after them isn't read.
 #[test]
 fn a_long_image_is_read_as_far_as_it_takes(rt: HostRuntime) -> Result<(), Fail> {
     let alloc = rt.alloc();

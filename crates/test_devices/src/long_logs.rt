@@ -15,7 +15,7 @@ const IMAGE: [u8; 36] = [
 /// How many bytes stand after the first piece.
 const REST: usize = 1_000_000;
 
-/// The first run of a log is bad, and what stands after it isn't read.
+/// The first run of a log is bad, and what is after it isn't read.
 #[test]
 fn a_log_is_read_up_to_a_bad_run(rt: HostRuntime) -> Result<(), Fail> {
     let alloc = rt.alloc();

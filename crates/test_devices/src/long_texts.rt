@@ -12,7 +12,7 @@ use std::thread::Threads;
 /// How many bytes stand after the most.
 const REST: usize = 400_000;
 
-/// A front, then letters up to so many bytes in all.
+/// A front, then letters up to this many bytes in all.
 fn long_text(alloc: Global, front: &[u8], length: usize) -> Result<Vec<u8>, AllocError> {
     let mut bytes = Vec::new(alloc);
     bytes.extend_from_slice(front)?;

@@ -69,8 +69,8 @@ impl Trial {
         self.end_of(answered)
     }
 
-    /// Runs the command at each of so many calls down the stack, the lowest first, until it answers otherwise than with
-    /// ample memory.
+    /// Runs the command at each of this many calls down the stack, the lowest first, until it answers otherwise than
+    /// with ample memory.
     fn run_below<R: Threads + Wait + Sync>(
         &mut self,
         resources: &Resources<'_, R>,

@@ -34,7 +34,7 @@ fn words(lanes: [i32; 4]) -> [u8; 16] {
     ]
 }
 
-/// A state with so many elements of a kind, in which v1, v2 and v3 hold these bytes.
+/// A state with this many elements of a kind, in which v1, v2 and v3 hold these bytes.
 fn state_with(rt: &impl Abort, vtype: u32, count: u32, registers: [[u8; 16]; 3]) -> VectorState {
     let mut state = VectorState::new();
     same(

@@ -17,7 +17,7 @@ fn counter(alloc: Global) -> Result<Machine, AllocError>
     Machine::new(alloc, 0x0001_0000, words, bytes, 2)
 }
 
-/// So many turns of hart 0.
+/// This many turns of hart 0.
 fn turns_of_first(machine: &mut Machine, turns: u64) -> Outcome
     requires there { 0 < length machine.old.harts }
     requires some { 1 ≤ turns }

@@ -50,7 +50,7 @@ fn check_first_stops<R: Abort>(rt: &R, alloc: Global, session: &mut Session) {
     }
 }
 
-/// A hart that has finished stands on its address in each of its turns.
+/// A hart that has finished is on its address in each of its turns.
 #[test]
 fn idle_turns(rt: HostRuntime) -> Result<(), Fail> {
     let alloc = rt.alloc();
@@ -82,7 +82,7 @@ const LONG: [u8; 25] = [
     0, 0xa0, 0x86, 1, 0, 0, 0, 0, 0,
 ];
 
-/// A session stands at a place, and has made so many steps.
+/// A session is at a place, and has made this many steps.
 fn check_at<R: Abort>(rt: &R, session: &Session, place: u64, steps: u64) {
     same(rt, &session.place(), &place);
     same(rt, &session.steps(), &steps);

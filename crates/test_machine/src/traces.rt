@@ -68,7 +68,7 @@ fn one_hart(alloc: Global, words: &[u32]) -> Result<Machine, AllocError>
     Machine::new(alloc, 0x0001_0000, words, data, 1)
 }
 
-/// A log of so many turns of one hart.
+/// A log of this many turns of one hart.
 fn turns_of_one(alloc: Global, count: u64) -> Result<TurnLog, AllocError>
     requires some { 1 ≤ count }
     requires few { count ≤ 10 }
@@ -80,7 +80,7 @@ fn turns_of_one(alloc: Global, count: u64) -> Result<TurnLog, AllocError>
     Ok(log)
 }
 
-/// All these lines, one behind the other.
+/// All these lines, one after the other.
 fn joined(alloc: Global, lines: &[&str]) -> Result<String, AllocError> {
     let mut all = String::new(alloc);
     for line in lines {
@@ -89,7 +89,7 @@ fn joined(alloc: Global, lines: &[&str]) -> Result<String, AllocError> {
     Ok(all)
 }
 
-/// The lines of so many turns of one hart over these words, which come in one piece.
+/// The lines of this many turns of one hart over these words, which come in one piece.
 fn traced<R: Abort>(
     rt: &R,
     alloc: Global,

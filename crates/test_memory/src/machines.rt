@@ -85,7 +85,7 @@ pub fn check_turns<R: Abort>(rt: &R, machine: &mut Machine) {
     check_machine(rt, machine);
 }
 
-/// Hart 0 has finished, and hart 1 stands at its last instruction.
+/// Hart 0 has finished, and hart 1 is at its last instruction.
 fn check_machine<R: Abort>(rt: &R, machine: &Machine) {
     same(rt, &machine.word(WORD), &Some(2));
     same(rt, &machine.word(4), &None);
@@ -121,7 +121,7 @@ pub fn check_log<R: Abort>(rt: &R, log: &TurnLog) {
     same(rt, &(log.run_at(1), log.run_at(11)), &(Some((0, 4)), None));
 }
 
-/// A session that stands after the turns of hart 0.
+/// A session that is after the turns of hart 0.
 pub fn session(alloc: Global) -> Result<Session, Fail> {
     let mut session = Session::open(alloc, counter(alloc)?, turns(alloc)?)?;
     match session.goto(alloc, 5) {

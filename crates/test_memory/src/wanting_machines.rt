@@ -41,7 +41,7 @@ pub fn machines(alloc: Global) -> Answer {
 }
 
 /// Bytes are loaded, and not with nine harts; an image makes a machine, words have meanings, and the image is stored
-/// after a byte, which alone stands there where it isn't.
+/// after a byte, which alone is there where it isn't.
 pub fn images(alloc: Global, image: &Image, out: &mut Vec<u8>) -> Answer {
     let loaded = match load(alloc, &COUNTER, 2) {
         Err(LoadFault::OutOfMemory) => return Err(AllocError),

@@ -19,7 +19,7 @@ const LINES: &[u8] = b"#addi x6,x0,1\namoadd.w x7,x6,(x5)\n";
 /// The lines with their addresses.
 const ADDRESSED: &[u8] = b"addi x6,x0,1 # 0x00010004\namoadd.w x7,x6,(x5) # 0x00010008\n";
 
-/// Lines are written after a byte, which alone stands there where they aren't.
+/// Lines are written after a byte, which alone is there where they aren't.
 fn write(out: &mut Vec<u8>, both: bool) -> Answer {
     let (written, wanted) = if both {
         (write_lines(&WORDS, out), LINES)

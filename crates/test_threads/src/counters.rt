@@ -95,7 +95,7 @@ fn drive_all<
     }
 }
 
-/// What a closed machine came to: each hart has made so many turns, and the word is this.
+/// What a closed machine came to: each hart has made this many turns, and the word is this.
 fn check_end<R: Abort>(rt: &R, machine: &Machine, log: &TurnLog, turns: [u64; 2], word: u32) {
     assert_eq!(rt; machine.word(WORD), Some(word));
     assert_eq!(rt; log.count_of(0), turns[0]);
@@ -118,7 +118,7 @@ fn check_closed<O: Origin, F: Ledgers, R: Abort>(
     }
 }
 
-/// Drives all seats to their end: each has made so many turns then, and so the board says.
+/// Drives all seats to their end: each has made this many turns then, and so the board says.
 fn check_driven<
     O: Origin + Send + Sync,
     F: Ledgers + Send + Sync,
@@ -417,7 +417,7 @@ fn last_seat<O: Origin, F: Ledgers>(
     }
 }
 
-/// Makes so many turns of each of two harts, asks for a stop, and closes the machine: it is as the turns left it.
+/// Makes this many turns of each of two harts, asks for a stop, and closes the machine: it is as the turns left it.
 fn stop_counter<O: Origin, F: Ledgers, R: Wait + Abort + AllocGlobal>(
     rt: &R,
     image: Image,

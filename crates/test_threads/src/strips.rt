@@ -51,13 +51,13 @@ by parallel yo
 /// How many turns hart 1 makes before it is abandoned. A strip takes it thousands.
 const TURNS: u64 = 199;
 
-/// In so many turns of each hart a picture is done.
+/// In this many turns of each hart a picture is done.
 const LIMIT: u64 = 10_000_000;
 
 /// How often the others look whether hart 1 has made its turns.
 const TRIES: u32 = 1_000_000;
 
-/// A gate that lets hart 1 make so many turns, and the others begin after them.
+/// A gate that lets hart 1 make this many turns, and the others begin after them.
 #[derive(Drop)]
 struct Abandons {
     made: AtomicBool,

@@ -14,7 +14,7 @@ use test_cases::Part;
 /// How many harts there are.
 const HARTS: u32 = 3;
 
-/// In so many turns a hart draws its next task, and all harts finish.
+/// In this many turns a hart draws its next task, and all harts finish.
 const MOST_TURNS: u32 = 20_000_000;
 
 /// The output's pixels as they were last looked at, and for each row which harts changed it: bit h for hart h.

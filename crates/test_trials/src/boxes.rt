@@ -209,7 +209,7 @@ fn push_range(range: &Range, out: &mut String) -> Result<(), AllocError> {
     push_difference(range.high, ORIGIN, out)
 }
 
-/// What the loop with so many inside it adds, if it adds anything.
+/// What the loop with this many inside it adds, if it adds anything.
 fn push_multiple(multiple: Multiple, place: usize, out: &mut String) -> Result<(), AllocError> {
     let Multiple { more, less } = multiple;
     if more != less {

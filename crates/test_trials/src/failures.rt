@@ -1,4 +1,4 @@
-//! What stands in place of an answer.
+//! What takes the place of an answer.
 
 use bounds::BoundsFault;
 use halide_parser_syntax::ParseFault;

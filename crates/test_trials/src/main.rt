@@ -1,7 +1,7 @@
 //! `test_trials`: whether an algorithm under a schedule leaves the reference picture, whichever way it is computed.
 //!
 //! The program reads the files that its arguments name (`test_cases`), answers each case, and prints those whose answer
-//! is another than the rules' own, which stands after the case, with both; it ends with status 1 where there are any.
+//! is another than the rules' own, which is after the case, with both; it ends with status 1 where there are any.
 //! None of the answers was copied from this program. The cases of `data/written` were worked out by hand;
 //! `generate/make` makes those of `data/generated`; those of `data/taken` are random, with answers from another reading
 //! of the rules.
@@ -26,7 +26,7 @@
 //! An assignment is a list of harts, of three. Each of them is stepped alone until it has drawn a task of the first
 //! phase, so that the iterations are theirs in this order; then all are stepped in turn until they finish.
 //!
-//! A refusal stands in place of an answer, as `hrv` prints it. `rt try` builds with checks, so that all cases of
+//! A refusal takes the place of an answer, as `hrv` prints it. `rt try` builds with checks, so that all cases of
 //! `random.txt` take some minutes: `rt try --seconds 900 -- data/generated/random.txt`.
 //!
 //! - [`boxes`]: which points are computed and read, and where they lie.
@@ -36,7 +36,7 @@
 //! - [`vectors`]: which vectorized loops are vector code.
 //! - [`assignments`]: the answer to an assignment.
 //! - [`images`], [`pictures`]: what an image is, and what pictures hold, as lines.
-//! - [`failures`]: what stands in place of an answer.
+//! - [`failures`]: what takes the place of an answer.
 #![tactic(auto)]
 
 mod assignments;
@@ -77,7 +77,7 @@ fn main(rt: HostRuntime) -> io::Result<ExitCode> {
     })
 }
 
-/// The answer to a case of a kind, or what stands in its place.
+/// The answer to a case of a kind, or what is in its place.
 fn answer(
     rt: &(impl Threads + Sync),
     alloc: Global,

@@ -27,7 +27,7 @@ enum Order {
 }
 
 impl Order {
-    /// Which of so many tasks is done at a place.
+    /// Which of this many tasks is done at a place.
     fn task(self, place: u32, count: u32) -> u32 {
         let last = count.wrapping_sub(1);
         match self {

@@ -1,4 +1,4 @@
-//! Pictures: a case's inputs, and what stands in a machine's memory.
+//! Pictures: a case's inputs, and what is in a machine's memory.
 
 use crate::failures::TrialFailure;
 use loader::Output;
@@ -39,7 +39,7 @@ pub fn text_of(alloc: Global, picture: &Picture) -> Result<String, TrialFailure>
     }
 }
 
-/// The text of the picture that stands in a machine's memory.
+/// The text of the picture that is in a machine's memory.
 pub fn output_text(
     alloc: Global,
     machine: &Machine,
@@ -54,7 +54,7 @@ pub fn output_text(
     picture_text(alloc, output.width, output.height, pixels)
 }
 
-/// A pixel of the picture that stands in a machine's memory.
+/// A pixel of the picture that is in a machine's memory.
 pub fn pixel_at(machine: &Machine, output: Output, x: u32, y: u32) -> Result<u32, TrialFailure> {
     let row = output.address.wrapping_add(y.wrapping_mul(output.stride));
     match machine.word(row.wrapping_add(x.wrapping_mul(4))) {

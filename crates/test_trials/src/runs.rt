@@ -9,7 +9,7 @@ use multi_hart::Machine;
 use rv_insn::Outcome;
 use std::alloc::Global;
 
-/// In so many turns all harts of each case have finished.
+/// In this many turns all harts of each case have finished.
 const MOST_TURNS: u32 = 20_000_000;
 
 /// Which hart makes the next turn.
@@ -26,8 +26,8 @@ enum Pace {
 }
 
 impl Pace {
-    /// The hart that makes the turn of this number, of so many harts, where the first `lead` turns are those at first,
-    /// and this number was drawn.
+    /// The hart that makes the turn of this number, of this many harts, where the first `lead` turns are those at
+    /// first, and this number was drawn.
     fn hart(self, turn: u32, lead: u32, drawn: u32, harts: u32) -> u32 {
         let before = turn < lead;
         match self {
@@ -68,8 +68,8 @@ pub fn push_runs(
     Ok(())
 }
 
-/// Appends what so many harts leave at a pace: the words by which they share their work, and whether the picture isn't
-/// the wanted one. The answer is how many turns they made.
+/// Appends what this many harts leave at a pace: the words by which they share their work, and whether the picture
+/// isn't the wanted one. The answer is how many turns they made.
 fn push_run(
     alloc: Global,
     built: &Built,

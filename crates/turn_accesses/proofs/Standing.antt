@@ -1,4 +1,4 @@
--- What a hart's next turn touches, by the word that it stands at.
+-- What a hart's next turn touches, by the word that it is at.
 use Rattle.std.proofs.Common.{◌≡◌, ◌≢◌, ◌∙◌, ℕ, false, refl, ap, List, [], ◌∷◌, length, Option, Some, None}
 use Rattle.std.specs.Prelude.{option_and_then}
 use Rattle.rv_insn.specs.declared.instructions.Insn.{Insn}

@@ -1,4 +1,4 @@
--- Where a hart stands that goes over words which touch no memory.
+-- Where a hart is that goes over words which touch no memory.
 use Rattle.std.proofs.Common.{◌≡◌, ◌∙◌, ◌+◌, ◌-◌, ◌*◌, ◌/◌, ◌%◌, ◌^◌, ◌<◌, ◌≤◌, ◌||◌, ℕ, zero, suc, true, false, refl, sym, ap, arith, List}
 use Rattle.std.proofs.Common.{length, replicate, Option, Some, None, nat_lt, if◌then◌else◌}
 use Rattle.std.specs.Prelude.{option_and_then, slice_get}
@@ -49,7 +49,7 @@ does_word text bytes hart insn does = go hart.status does
     go Finished e = absurd cc
     go (Trapped trap) e = absurd cc
 
--- ---- where a hart stands after a turn
+-- ---- where a hart is after a turn
 
 scalar_pc : (hart : HartState) (scalar : Option (ℕ × ℕ)) → (with_scalar hart scalar).pc ≡ hart.pc
 scalar_pc hart None = refl

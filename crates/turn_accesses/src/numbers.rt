@@ -113,7 +113,7 @@ pub(crate) fn bytes_of(width: ElementWidth) -> u32
     }
 }
 
-/// Whether so many bytes from an address on lie in a text of so many words.
+/// Whether this many bytes from an address on lie in a text of this many words.
 #[inline(always)]
 fn lies_in_text(address: u32, count: u32, words: usize) -> bool
     requires words { words ≤ most_words }
@@ -124,7 +124,7 @@ fn lies_in_text(address: u32, count: u32, words: usize) -> bool
     address >= TEXT_START && end <= u64::from(TEXT_START) + 4 * words as u64
 }
 
-/// Whether so many bytes from an address on lie in a data of so many bytes.
+/// Whether this many bytes from an address on lie in a data of this many bytes.
 #[inline(always)]
 fn lies_in_data(address: u32, count: u32, bytes: usize) -> bool
     requires { count ≤ 4 }

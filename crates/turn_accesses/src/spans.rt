@@ -89,7 +89,7 @@ pub(crate) fn number_span(kind: AccessKind, address: u32, width: ElementWidth) -
     }
 }
 
-/// The span of so many bytes.
+/// The span of this many bytes.
 #[inline(always)]
 pub(crate) fn span_from(first: u64, end: u64, kind: AccessKind) -> Span
     ensures first { result.first ≡ first }

@@ -21,7 +21,7 @@ use hart_core::{Hart, Status};
 use rv_insn::{Addressing, ElementWidth, Insn, LoadOp, Reg, StoreOp, VectorInsn};
 use vector_unit::Numbers;
 
-/// What the next turn of a hart touches, over so many bytes of data and a text of which it is known which words touch
+/// What the next turn of a hart touches, over this many bytes of data and a text of which it is known which words touch
 /// memory.
 #[inline(always)]
 pub fn next_accesses(hart: &Hart, insns: &[Option<Insn>], bytes: usize) -> Accesses
@@ -149,7 +149,7 @@ fn width_stored(op: StoreOp) -> ElementWidth
     }
 }
 
-/// Between which bytes the next turn of a hart touches memory, over so many bytes of data and a text of which it is
+/// Between which bytes the next turn of a hart touches memory, over this many bytes of data and a text of which it is
 /// known which words touch memory. No list is made where it touches one number.
 #[inline(always)]
 pub fn next_span(hart: &Hart, insns: &[Option<Insn>], bytes: usize) -> Span

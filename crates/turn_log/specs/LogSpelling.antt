@@ -70,7 +70,7 @@ header_at bytes =
 abbrev pub run_read : List ℕ → Run
 run_read bytes = record { hart = slice_index bytes 0; length = little_number 8 (drop 1 bytes) }
 
--- a run of so many harts, after other runs, the nearest first
+-- a run of this many harts, after other runs, the nearest first
 unfoldable pub judged : ℕ → List Run → Run → Result Run LogFault
 judged harts before run =
     if nat_le harts run.hart then Err Hart
@@ -84,7 +84,7 @@ front_run harts before bytes =
     if nat_lt (length bytes) 9 then Err Truncated
     else (judged harts before (run_read bytes) >>= λ run. Ok (run, drop 9 bytes))
 
--- so many runs at the front, and the bytes after them
+-- this many runs at the front, and the bytes after them
 unfoldable pub front_runs : ℕ → ℕ → List Run → List ℕ → Result (List Run × List ℕ) LogFault
 front_runs harts zero before bytes = Ok ([], bytes)
 front_runs harts (suc count) before bytes = do

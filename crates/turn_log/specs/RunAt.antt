@@ -1,4 +1,4 @@
--- The run that stands at a place of a list of turns.
+-- The run that is at a place of a list of turns.
 -- This project's own.
 use Rattle.std.specs.Prelude.{◌≡◌, ℕ, suc, ◌+◌, ◌≤◌, ◌==◌, if◌then◌else◌, List, [], ◌∷◌, ◌++◌, length, drop, replicate, Option, Some, None}
 
@@ -16,7 +16,7 @@ first_run (hart ∷ turns) = Some (hart, suc (ahead hart turns))
 unfoldable pub run_at : List ℕ → ℕ → Option (ℕ × ℕ)
 run_at turns place = first_run (drop place turns)
 
--- So many turns of the hart stand at the place.
+-- This many turns of the hart stand at the place.
 pub record Stand (turns : List ℕ) (place hart count : ℕ) : Type 0 where
   pub some : 1 ≤ count
   pub within : place + count ≤ length turns

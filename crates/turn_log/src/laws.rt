@@ -12,7 +12,7 @@ pub fn one_spelling()
         → (a ≡ b) × (x ≡ y) }
 {}
 
-/// The run at a place of a log stands there, at least one turn long, and is of one of its harts. There
+/// The run at a place of a log is there, at least one turn long, and is of one of its harts. There
 /// is none only after the last turn.
 pub fn runs_stand()
     ensures stand { (turns : List ℕ) (place hart count : ℕ) → run_at turns place ≡ Some (hart, count)

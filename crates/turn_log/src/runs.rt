@@ -5,7 +5,7 @@ ghost use Rattle.turn_log.specs.LogSpelling.{run_bytes, run_read};
 
 use byteorder::{ByteOrder, LittleEndian};
 
-/// So many turns of one hart in a row.
+/// This many turns of one hart in a row.
 #[derive(Clone, Copy, Debug)]
 pub struct Run {
     pub hart: u8,

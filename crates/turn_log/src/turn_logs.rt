@@ -44,7 +44,6 @@ impl Model for TurnLog {
     ghost invariant = { λ log. IsKept log.harts log.totals log.runs.items };
 }
 
-/// Written out, so that a check sees a call wherever one is dropped, and not the drops of its parts.
 impl Drop for TurnLog {
     fn drop(self) {
         let TurnLog {
@@ -59,7 +58,7 @@ impl Drop for TurnLog {
 }
 
 impl TurnLog {
-    /// The log of so many harts before any turn. It takes no memory.
+    /// The log of this many harts before any turn. It takes no memory.
     pub fn new(alloc: Global, harts: usize) -> TurnLog
         requires some { 1 ≤ harts }
         requires few { harts ≤ 8 }
@@ -73,7 +72,7 @@ impl TurnLog {
         }
     }
 
-    /// The log of so many harts before any turn, with room for so many runs.
+    /// The log of this many harts before any turn, with room for this many runs.
     pub(crate) fn with_room(alloc: Global, harts: u8, runs: usize) -> Result<TurnLog, AllocError>
         requires some { 1 ≤ harts }
         requires few { harts ≤ 8 }
@@ -156,7 +155,7 @@ impl TurnLog {
         self.push_run(hart, 1)
     }
 
-    /// Adds so many turns of one hart at the end.
+    /// Adds this many turns of one hart at the end.
     pub fn push_run(&mut self, hart: usize, k: u64) -> Result<(), AllocError>
         requires below { hart < self.old.harts }
         requires some { 1 ≤ k }

@@ -35,7 +35,7 @@ lines-append wanted number state (hart ∷ some) more =
     ∙ ap (λ (n : ℕ). first ++ (rest ++ lines_from wanted n (run (turn state hart) some) more)) same
     ∙ sym (append_assoc first rest (lines_from wanted (number + suc (length some)) (run (turn state hart) some) more))
 
--- a text behind which nothing is written
+-- a text after which nothing is written
 pub unchanged : (text more : List ℕ) → more ≡ [] → text ≡ text ++ more
 unchanged text more none = sym (ap (λ (m : List ℕ). text ++ m) none ∙ append-nil text)
 
@@ -157,7 +157,7 @@ any_line wanted number hart state asked due = one_line wanted number hart state
 
 -- ---- pieces of a log
 
--- a piece, and more turns of the hart that stand behind it
+-- a piece, and more turns of the hart that stand after it
 pub piece-more : (turns : List ℕ) (place next hart count made : ℕ) → place ≤ next → Stand turns next hart count → made ≤ count
     → piece turns place (next + made) ≡ piece turns place next ++ replicate made hart
 piece-more turns place next hart count made from stand few =

@@ -11,6 +11,6 @@ PiecesJoin =
     → lines_from wanted place begin (drop place turns)
     ≡ lines_from wanted place begin (piece turns place next) ++ lines_from wanted next (run begin (piece turns place next)) (drop next turns)
 
--- Behind the last number that is wanted there are none.
+-- After the last number that is wanted there are none.
 abbrev pub NoneBehind : Type 0
 NoneBehind = (wanted : TurnsWanted) (number : ℕ) (state : State) (turns : List ℕ) → wanted.to < number → lines_from wanted number state turns ≡ []

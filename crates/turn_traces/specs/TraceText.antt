@@ -61,7 +61,7 @@ held state word = unwrap_or (word_in state word) 0
 unfoldable pub scalar_text : ℕ → ℕ → ℕ → List ℕ
 scalar_text before after r = if after == before then [] else codes "  x" ++ decimal r ++ codes " " ++ hexadecimal_text 8 after
 
--- of the registers numbered below so many; x0 always reads 0
+-- of the registers numbered below this many; x0 always reads 0
 unfoldable pub scalars_text : HartState → HartState → ℕ → List ℕ
 scalars_text before after zero = []
 scalars_text before after (suc r) = scalars_text before after r ++ scalar_text (register before r) (register after r) r

@@ -2,12 +2,12 @@
 
 ghost use Rattle.turn_traces.specs.Laws.{NoneBehind, PiecesJoin};
 
-/// The lines of a log are those of its pieces, one behind the other.
+/// The lines of a log are those of its pieces, one after the other.
 pub fn pieces_join()
     ensures { PiecesJoin }
 {}
 
-/// Behind the last turn that may be wanted there are none.
+/// After the last turn that may be wanted there are none.
 pub fn none_behind()
     ensures { NoneBehind }
 {}

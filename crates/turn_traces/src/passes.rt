@@ -13,14 +13,14 @@ use multi_hart::Machine;
 use std::alloc::{AllocError, Global};
 use turn_log::TurnLog;
 
-/// After so many bytes a piece ends.
+/// After this many bytes a piece ends.
 const USUAL_PIECE: usize = 65_536;
 
 /// The lines of some turns of a log.
 #[derive(Drop)]
 pub struct TracePiece {
     pub text: Vec<u8>,
-    /// The number of the turn behind the last of them.
+    /// The number of the turn after the last of them.
     pub next: u64,
 }
 

@@ -34,7 +34,6 @@ impl Model for TracedText {
         (length t.words.items ≤ most_words) × AreCounts t.words.items t.quiets.items };
 }
 
-/// Written out, so that a check sees a call wherever one is dropped, and not the drops of its parts.
 impl Drop for TracedText {
     fn drop(self) {
         let TracedText {

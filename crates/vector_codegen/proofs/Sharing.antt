@@ -42,7 +42,7 @@ module _ (text : List ℕ) (size harts : ℕ) (parts : List Part) (matter : ℕ 
   abbrev at : ℕ → ℕ
   at k = begin text_start parts k
 
-  -- ---- where it stands
+  -- ---- where it is
 
   four : (a : ℕ) (ps : List Part) (k : ℕ) → a % 4 ≡ 0 → begin a ps k % 4 ≡ 0
   four a ps zero e = e

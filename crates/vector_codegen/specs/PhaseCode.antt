@@ -22,7 +22,7 @@ pub record Part : Type 0 where
   pub tasks : ℕ
   pub insns : List Insn
 
--- where a hart goes that draws no task; in all phases but the last there follow so many words of the phase
+-- where a hart goes that draws no task; in all phases but the last there follow this many words of the phase
 abbrev pub door_code : Bool → ℕ → List Insn
 door_code true words = Ecall ∷ []
 door_code false words = AmoaddW 0 14 15 false false ∷ Load Lw 17 14 (pos 0) ∷ Branch Bne 17 11 (negsuc 1) ∷ Jal 0 (forth (words + 1)) ∷ []
@@ -55,7 +55,7 @@ program number [] = []
 program number (part ∷ []) = phase_code true (ticket_word number) part
 program number (part ∷ other ∷ others) = phase_code false (ticket_word number) part ++ program (suc number) (other ∷ others)
 
--- where the code of each ends in words, where the first of them has this number and begins after so many words
+-- where the code of each ends in words, where the first of them has this number and begins after this many words
 unfoldable pub ends_from : ℕ → ℕ → List Part → List ℕ
 ends_from number first [] = []
 ends_from number first (part ∷ parts) =

@@ -45,7 +45,7 @@ module _ (text : List ℕ) (size harts : ℕ) (parts : List Part) (matter : ℕ 
   abbrev pub is_last : ℕ → Bool
   is_last k = suc k == length parts
 
-  -- the phases of the program, which stands at the beginning of the text
+  -- the phases of the program, which is at the beginning of the text
   abbrev pub phase : ℕ → Phase
   phase k = record {
     text = text;

@@ -14,7 +14,7 @@ use task_code::{CodeStage, add_last, emit};
 use task_code_scalar::CodeFault;
 use task_code_scalar::layouts::Places;
 
-/// A program has at most so many phases: the code around a phase's tasks takes 16 words.
+/// A program has at most this many phases: the code around a phase's tasks takes 16 words.
 const MOST_PHASES: usize = MOST_WORDS / 16;
 
 /// Harts count tasks in a word, with those that they draw in vain.
@@ -29,7 +29,7 @@ fn ticket_of(number: u32) -> u32
     DATA_START + 8 * number
 }
 
-/// What stands of a program while its phases are laid one after the other.
+/// What is of a program while its phases are laid one after the other.
 #[derive(Drop)]
 struct BegunProgram {
     words: Vec<u32>,
@@ -119,7 +119,7 @@ fn push_ends(narrow: &mut Vec<u32>, ends: &[usize]) -> Result<(), AllocError>
     Ok(())
 }
 
-/// The words of a program, and where the code of each phase ends in them, and that of stages inside of phases stands.
+/// The words of a program, and where the code of each phase ends in them, and that of stages inside of phases is.
 #[derive(Drop)]
 pub struct Program {
     pub words: Vec<u32>,

@@ -17,7 +17,7 @@ use task_code::emit_restored;
 use task_code_scalar::instructions::{jump_back, jump_forth, put, register};
 use task_code_scalar::{CodeFault, append};
 
-/// Appends that 1 is added to the word at the address in x13 or x14, of which `rd` gets what stood there.
+/// Appends that 1 is added to the word at the address in x13 or x14, of which `rd` gets what was there.
 fn count_up(code: &mut Vec<u32>, rd: u8, address: u8) -> Result<(), AllocError>
     requires { (rd < 32) × (address < 32) }
     ensures { OnOk result (Emits code.old.items code.new.items (insns.AmoaddW rd address 15 false false ∷ [])) }
@@ -38,7 +38,7 @@ fn count_up(code: &mut Vec<u32>, rd: u8, address: u8) -> Result<(), AllocError>
     Ok(())
 }
 
-/// Appends a branch by so many half-words back.
+/// Appends a branch by this many half-words back.
 fn branch_back(
     code: &mut Vec<u32>,
     op: BranchOp,
@@ -83,7 +83,7 @@ fn look(code: &mut Vec<u32>) -> Result<(), AllocError>
     Ok(())
 }
 
-/// Appends the gate, and the way over so many words that follow.
+/// Appends the gate, and the way over this many words that follow.
 fn emit_gate(code: &mut Vec<u32>, words: usize) -> Result<(), CodeFault>
     requires { words ≤ 2 ^ 30 }
     ensures ok { OnOk result (Emits code.old.items code.new.items (spec.door_code false words)) }
@@ -96,7 +96,7 @@ fn emit_gate(code: &mut Vec<u32>, words: usize) -> Result<(), CodeFault>
     Ok(())
 }
 
-/// Appends the door of a phase: its end, or its gate and the way over so many words that follow.
+/// Appends the door of a phase: its end, or its gate and the way over this many words that follow.
 fn emit_door(code: &mut Vec<u32>, is_last: bool, words: usize) -> Result<(), CodeFault>
     requires { words ≤ 2 ^ 30 }
     ensures ok { OnOk result (Emits code.old.items code.new.items (spec.door_code is_last words)) }

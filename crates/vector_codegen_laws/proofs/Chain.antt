@@ -23,7 +23,7 @@ use Rattle.bounds_laws.proofs.PutIn.{pair_there}
 use Rattle.loop_ir.specs.declared.statements.Phase.{Phase}
 use Rattle.lowering.specs.Lowered.{ArePhasesOf, None_yet, One_more, IsNotAtRoot, AreLowered, No_func, Passed, Computed}
 use Rattle.lowering.specs.Planes.{held}
-use Rattle.bounds.specs.Stages.{IsAtRoot, StagePlace, stages_to, stages_where, stages_at, stages_below}
+use Rattle.bounds.specs.Stages.{IsAtRoot, StagePosition, stages_to, stages_where, stages_at, stages_below}
 use Rattle.lowering.specs.Stages.{after_stages}
 use Rattle.vector_codegen_laws.specs.Points.{RootPoint}
 use Rattle.vector_codegen_laws.proofs.Counting.{length_behind}
@@ -41,7 +41,7 @@ get_last [] x (suc k) e = absurd (omega (arith, e))
 get_last (y ∷ xs) x zero e = absurd (omega (arith, e))
 get_last (y ∷ xs) x (suc k) e = get_last xs x k (omega (arith, e))
 
--- one more after the first so many
+-- one more after the first this many
 with_last : (ℕ → Work) → ℕ → Work → ℕ → Work
 with_last works n last k = cond (nat_lt k n) (works k) last
 
@@ -66,13 +66,13 @@ module _ (pipeline : Pipeline) (schedule : Schedule) (boxes : Boxes) (inputs : P
   abbrev result : Work → Planes
   result work = result_of pipeline schedule boxes inputs work
 
-  -- what the first so many phases leave
+  -- what the first this many phases leave
   abbrev pub left_by : (ℕ → Work) → ℕ → Planes
   left_by works zero = held boxes.funcs (pixels pipeline.funcs inputs 0)
   left_by works (suc k) = result_of pipeline schedule boxes inputs (works k)
 
   -- all phases of a list, which leave these planes
-  pub record Told (phases : List Phase) (all : List StagePlace) (planes : Planes) : Type 0 where
+  pub record Told (phases : List Phase) (all : List StagePosition) (planes : Planes) : Type 0 where
     pub works : ℕ → Work
     pub known : (k : ℕ) → k < length phases → IsKnown pipeline schedule boxes (works k)
     pub phase_is : (k : ℕ) → k < length phases → slice_get phases k ≡ Some (works k).phase
@@ -91,7 +91,7 @@ module _ (pipeline : Pipeline) (schedule : Schedule) (boxes : Boxes) (inputs : P
   agree_second : (one other like : Planes) → Agree one other → like ≡ other → Agree one like
   agree_second one other like agree e func x y p = agree func x y p ∙ sym (ap (λ (planes : Planes). planes func x y) e)
 
-  module _ (phases : List Phase) (all : List StagePlace) (planes : Planes) (told : Told phases all planes) where
+  module _ (phases : List Phase) (all : List StagePosition) (planes : Planes) (told : Told phases all planes) where
     told_same : (other : Planes) → Agree planes other → Told phases all other
     told_same other agree = record {
       works = told.works;
@@ -188,14 +188,14 @@ module _ (pipeline : Pipeline) (schedule : Schedule) (boxes : Boxes) (inputs : P
   stages_told : (place : ℕ) (func : Func) (plan : FuncPlan) (own : SourceBox) → IsAtRoot pipeline schedule boxes place func plan own
       → (others phases : List Phase) (number : ℕ)
       → ArePhasesOf pipeline schedule boxes place func plan own others number phases
-      → (all : List StagePlace) → Told others all (before place)
+      → (all : List StagePosition) → Told others all (before place)
       → Told phases (all ++ stages_to place number) (held boxes.funcs (after_stages pipeline.funcs inputs place func number))
-  stages_told place func plan own at others _ _ None_yet all told = subst (λ (list : List StagePlace). Told others list (before place)) (sym (append-nil all))
+  stages_told place func plan own at others _ _ None_yet all told = subst (λ (list : List StagePosition). Told others list (before place)) (sym (append-nil all))
       told
   stages_told place func plan own at others _ _ (One_more number phases phase rest one) all told =
       let known = known_phase pipeline schedule boxes place func plan own at number phase one in
       let last : Work = record { place = place; func = func; plan = plan; own = own; number = number; owned = known.owned; phase = phase } in
-      subst (λ (list : List StagePlace). Told (phases ++ phase ∷ []) list (held boxes.funcs (after_stages pipeline.funcs inputs place func (suc number))))
+      subst (λ (list : List StagePosition). Told (phases ++ phase ∷ []) list (held boxes.funcs (after_stages pipeline.funcs inputs place func (suc number))))
       (append_assoc all (stages_to place number) (stage_of last ∷ []))
       (told_more phases (all ++ stages_to place number) (held boxes.funcs (after_stages pipeline.funcs inputs place func number)) (stages_told place func plan
       own at others phases number rest all told)
@@ -254,10 +254,10 @@ module _ (pipeline : Pipeline) (schedule : Schedule) (boxes : Boxes) (inputs : P
 
     -- ---- the stages of the Func at a place
 
-    abbrev stages_here : ℕ → List StagePlace
+    abbrev stages_here : ℕ → List StagePosition
     stages_here place = stages_at place (slice_get schedule.standings place) (slice_get pipeline.funcs place) (slice_get boxes.funcs place)
 
-    abbrev so_far : ℕ → List StagePlace
+    abbrev so_far : ℕ → List StagePosition
     so_far count = stages_below pipeline schedule boxes count
 
     stages_root : (place : ℕ) (func : Func) (plan : FuncPlan) (own : SourceBox) → IsAtRoot pipeline schedule boxes place func plan own
@@ -321,11 +321,11 @@ module _ (pipeline : Pipeline) (schedule : Schedule) (boxes : Boxes) (inputs : P
       stage_is = λ k l. absurd (omega (arith, l));
     }
     funcs_told other _ _ (Passed place phases rest not_root) =
-        subst (λ (list : List StagePlace). Told phases list (before (suc place))) (sym (ap (λ (list : List StagePlace). so_far place ++ list)
+        subst (λ (list : List StagePosition). Told phases list (before (suc place))) (sym (ap (λ (list : List StagePosition). so_far place ++ list)
         (stages_passed place not_root) ∙ append-nil (so_far place)))
         (told_same phases (so_far place) (before place) (funcs_told other place phases rest) (before (suc place)) (passed_agree place not_root))
     funcs_told other _ _ (Computed place others phases func plan own rest at stages) =
-        subst (λ (list : List StagePlace). Told phases list (before (suc place))) (ap (λ (list : List StagePlace). so_far place ++ list)
+        subst (λ (list : List StagePosition). Told phases list (before (suc place))) (ap (λ (list : List StagePosition). so_far place ++ list)
         (sym (stages_root place func plan own at)))
         (told_same phases (so_far place ++ stages_to place (suc (length func.updates))) (held boxes.funcs (after_stages pipeline.funcs inputs place func
         (suc (length func.updates))))

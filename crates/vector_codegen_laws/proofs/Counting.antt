@@ -17,7 +17,7 @@ pub length_behind : {A : Type 0} (xs : List A) (x : A) → length (xs ++ x ∷ [
 length_behind [] x = refl
 length_behind (y ∷ xs) x = ap suc (length_behind xs x)
 
--- ---- the phases of the first so many Funcs
+-- ---- the phases of the first this many Funcs
 
 phases_to : ℕ → List FuncPlacement → List Func → List (Option SourceBox) → ℕ
 phases_to zero standings funcs boxes = 0

@@ -11,7 +11,7 @@ use Rattle.halide_pipeline.specs.Pixel.{Planes, reads_of, pixels}
 use Rattle.schedule_lines.specs.declared.stages.Stage.{Stage}
 use Rattle.schedule.specs.declared.plans.FuncPlan.{FuncPlan}
 use Rattle.schedule.specs.declared.schedules.Schedule.{Schedule}
-use Rattle.schedule.specs.declared.placements.LoopPlace.{LoopPlace}
+use Rattle.schedule.specs.declared.placements.LoopPosition.{LoopPosition}
 use Rattle.schedule.specs.declared.placements.ComputeLevel.{ComputeLevel}
 use Rattle.schedule.specs.declared.placements.ComputeLevel.TheVariants as standpoints
 use Rattle.schedule.specs.declared.placements.FuncPlacement.{FuncPlacement}
@@ -31,7 +31,7 @@ use Rattle.lowering.specs.ProducedFuncs.{produced_from, is_produced, is_at_loop_
 use Rattle.lowering.specs.Lowered.{IsStagePhase, Pure, Updating}
 use Rattle.lowering.specs.Phases.{Hold}
 use Rattle.lowering.specs.Planes.{held, has_point, box_points}
-use Rattle.bounds.specs.Stages.{IsAtRoot, names, StagePlace, iterations, iterations_in, iterations_of, update_iterations, writes, writes_in, writes_of}
+use Rattle.bounds.specs.Stages.{IsAtRoot, names, StagePosition, iterations, iterations_in, iterations_of, update_iterations, writes, writes_in, writes_of}
 use Rattle.bounds.specs.Stages.{update_writes}
 use Rattle.lowering.specs.Stages.{is_at_loop, is_private_in, is_private, after_stages, DoesStage}
 use Rattle.lowering.specs.LoopLanes.{LanesMayBeAtOnce}
@@ -60,7 +60,7 @@ point_in (Some (Some own)) x y e =
 pub record IsAtLoop (schedule : Schedule) (func : ℕ) : Type 0 where
   pub standing : FuncPlacement
   pub standing_is : slice_get schedule.standings func ≡ Some standing
-  pub loop : LoopPlace
+  pub loop : LoopPosition
   pub at_loop : standing.place ≡ standpoints.At loop
 
 root_of : (own : FuncPlacement) (place : ComputeLevel) → own.place ≡ place → is_root place ≡ true → own.place ≡ standpoints.Root
@@ -162,7 +162,7 @@ listed_of consumer at (first ∷ others) k e = listed_here consumer at k first o
     refl e
 
 record LoopOf (place : ComputeLevel) : Type 0 where
-  loop : LoopPlace
+  loop : LoopPosition
   is : place ≡ standpoints.At loop
 
 loop_of : (consumer : ℕ) (place : ComputeLevel) → is_at_loop_of consumer place ≡ true → LoopOf place
@@ -192,7 +192,7 @@ pub record Work : Type 0 where
   pub phase : Phase
 
 -- its stage, by its place
-abbrev pub stage_of : Work → StagePlace
+abbrev pub stage_of : Work → StagePosition
 stage_of work = record { func = work.place; number = work.number }
 
 pub record IsKnown (pipeline : Pipeline) (schedule : Schedule) (boxes : Boxes) (work : Work) : Type 0 where

@@ -79,7 +79,7 @@ module _ (pipeline : Pipeline) (schedule : Schedule) (boxes : Boxes) where
       (offset / 4 / width_of boxes.funcs func)) false
   is_written inputs work task _ = false
 
-  -- where the tasks of each phase take so many turns
+  -- where the tasks of each phase take this many turns
   abbrev pub matter_of : Planes → (ℕ → Work) → (ℕ → ℕ → ℕ) → ℕ → Matter
   matter_of inputs works turns k = record {
     uses = uses pipeline schedule boxes.funcs k (owners_of (works k));
@@ -92,7 +92,7 @@ module _ (pipeline : Pipeline) (schedule : Schedule) (boxes : Boxes) where
 
 -- ---- owners
 
--- none of the first so many passes
+-- none of the first this many passes
 pub greatest_none : (count : ℕ) (test : ℕ → Bool) → greatest count test ≡ None → (n : ℕ) → n < count → test n ≡ false
 greatest_none zero test e n l = absurd (omega (arith, l))
 greatest_none (suc count) test e n l = elim (cases_Bool (test count)) [

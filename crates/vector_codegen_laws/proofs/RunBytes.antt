@@ -127,7 +127,7 @@ one-word p a rest e = elim (cases_eq p a) [
   ]
 ]
 
--- a byte of one of so many words
+-- a byte of one of this many words
 record InWords (a : ℕ → ℕ) (i n p : ℕ) : Type 0 where
   k : ℕ
   below : k < i + n

@@ -28,7 +28,7 @@ use Rattle.bounds.proofs.Finding.{control-found}
 use Rattle.loop_ir.specs.declared.statements.Phase.{Phase}
 use Rattle.loop_ir.specs.Stores.{is_stored_by_task}
 use Rattle.lowering.specs.Planes.{held, box_points}
-use Rattle.bounds.specs.Stages.{IsAtRoot, StagePlace, stages, iterations, writes}
+use Rattle.bounds.specs.Stages.{IsAtRoot, StagePosition, stages, iterations, writes}
 use Rattle.lowering.proofs.RunLists.{runs_are_listed}
 use Rattle.multi_hart_laws.specs.Uses.{Control as ForControl, Fixed, Owned, Shared, Task}
 use Rattle.multi_hart_laws.specs.Paths.{Stand, Writes}
@@ -75,7 +75,7 @@ turns_in all at (first ∷ others) [] are k task = 0
 turns_in all at (first ∷ others) (part ∷ parts) are zero task = are.0.does.turns task
 turns_in all at (first ∷ others) (part ∷ parts) are (suc k) task = turns_in all (suc at) others parts are.1 k task
 
--- the part does the tasks of the phase with this number in so many turns
+-- the part does the tasks of the phase with this number in this many turns
 record IsPart (all : Places) (at : ℕ) (own : Phase) (part : CodePart) (turns : ℕ → ℕ) : Type 0 where
   tasks : part.tasks ≡ own.tasks
   ends : EachTaskEnds all own (ticket_word at) part.insns turns
@@ -300,7 +300,7 @@ module _ (pipeline : Pipeline) (schedule : Schedule) (boxes : Boxes) (rules : Is
 
   -- ---- stages
 
-  module _ (k : ℕ) (stage : StagePlace) (e : slice_get (stages pipeline schedule boxes) k ≡ Some stage) where
+  module _ (k : ℕ) (stage : StagePosition) (e : slice_get (stages pipeline schedule boxes) k ≡ Some stage) where
     there : k ≤ last
     there =
         let inside = slice_get_within (stages pipeline schedule boxes) k stage e in
@@ -361,15 +361,15 @@ module _ (pipeline : Pipeline) (schedule : Schedule) (boxes : Boxes) (rules : Is
     own_bytes task l x y byte written small =
         let below : task < (work k).phase.tasks = subst (λ (n : ℕ). task < n) (sym ((known k there).tasks_are
         ∙ ap (iterations pipeline schedule boxes) same_stage)) l in
-        let here = subst (λ (s : StagePlace). writes pipeline schedule boxes inputs s task x y ≡ true) (sym same_stage) written in
-        subst (λ (s : StagePlace). ((matter k).uses (address_at pipeline schedule boxes.funcs 0 (sources.Func s.func) x y + byte) ≡ Owned task)
+        let here = subst (λ (s : StagePosition). writes pipeline schedule boxes inputs s task x y ≡ true) (sym same_stage) written in
+        subst (λ (s : StagePosition). ((matter k).uses (address_at pipeline schedule boxes.funcs 0 (sources.Func s.func) x y + byte) ≡ Owned task)
         × ((matter k).writes task (address_at pipeline schedule boxes.funcs 0 (sources.Func s.func) x y + byte) ≡ true)) same_stage
         (used task below x y byte here small, written_there task below x y byte here small)
 
     root_there : RootFunc pipeline schedule boxes.funcs stage.func
     root_there =
         let here = known k there in
-        subst (λ (s : StagePlace). RootFunc pipeline schedule boxes.funcs s.func) same_stage
+        subst (λ (s : StagePosition). RootFunc pipeline schedule boxes.funcs s.func) same_stage
         (record {
           standing = here.standing;
           standing_is = here.standing_is;
@@ -381,8 +381,8 @@ module _ (pipeline : Pipeline) (schedule : Schedule) (boxes : Boxes) (rules : Is
     number_there : (func : Func) → slice_get pipeline.funcs stage.func ≡ Some func → stage.number ≤ length func.updates
     number_there func found =
         let at = (known k there).number_is in
-        let here : (work k).number ≡ stage.number = ap (λ (s : StagePlace). s.number) same_stage in
-        let place : (work k).place ≡ stage.func = ap (λ (s : StagePlace). s.func) same_stage in
+        let here : (work k).number ≡ stage.number = ap (λ (s : StagePosition). s.number) same_stage in
+        let place : (work k).place ≡ stage.func = ap (λ (s : StagePosition). s.func) same_stage in
         let is : Some (work k).func ≡ Some func = sym (known k there).func_is ∙ ap (slice_get pipeline.funcs) place ∙ found in
         let same : (work k).func ≡ func = cc is in
         let long : length (work k).func.updates ≡ length func.updates = ap (λ (f : Func). length f.updates) same in
@@ -422,10 +422,10 @@ module _ (pipeline : Pipeline) (schedule : Schedule) (boxes : Boxes) (rules : Is
     here_known = known k (there k (record { func = place; number = number }) e)
 
     same_place : (work k).place ≡ place
-    same_place = ap (λ (s : StagePlace). s.func) (same_stage k (record { func = place; number = number }) e)
+    same_place = ap (λ (s : StagePosition). s.func) (same_stage k (record { func = place; number = number }) e)
 
     same_number : (work k).number ≡ number
-    same_number = ap (λ (s : StagePlace). s.number) (same_stage k (record { func = place; number = number }) e)
+    same_number = ap (λ (s : StagePosition). s.number) (same_stage k (record { func = place; number = number }) e)
 
     same_plan : (work k).plan ≡ plan
     same_plan = let is : Some (work k).plan ≡ Some plan = sym here_known.at.plan_is ∙ ap (slice_get schedule.funcs) same_place ∙ at.plan_is in cc is

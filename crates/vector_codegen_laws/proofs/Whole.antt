@@ -33,7 +33,7 @@ use Rattle.bounds_laws.specs.Reached.{is_computed_there}
 use Rattle.bounds_laws.proofs.BoxFacts.{has_box}
 use Rattle.bounds_laws.proofs.PutIn.{pair_there}
 use Rattle.bounds_laws.proofs.Reached.{boxes_are_of_reached_funcs}
-use Rattle.bounds.specs.Stages.{IsAtRoot, StagePlace, stages_to, stages_where, stages_at, stages_below, iterations, iterations_in, iterations_of}
+use Rattle.bounds.specs.Stages.{IsAtRoot, StagePosition, stages_to, stages_where, stages_at, stages_below, iterations, iterations_in, iterations_of}
 use Rattle.bounds.specs.Stages.{update_iterations, writes, writes_in, writes_of}
 use Rattle.lowering.specs.Updates.{IsUpdateAt}
 use Rattle.lowering.proofs.Covered as covered
@@ -57,18 +57,18 @@ either_has [] ys k x found = inr (k, found)
 either_has (first ∷ xs) ys zero x found = inl found
 either_has (first ∷ xs) ys (suc k) x found = either_has xs ys k x found
 
-record IsStageOfFunc (func number : ℕ) (stage : StagePlace) : Type 0 where
+record IsStageOfFunc (func number : ℕ) (stage : StagePosition) : Type 0 where
   func_is : stage.func ≡ func
   below : stage.number < number
 
-one_has : (func number k : ℕ) (stage : StagePlace) → slice_get (record { func = func; number = number } ∷ []) k ≡ Some stage
+one_has : (func number k : ℕ) (stage : StagePosition) → slice_get (record { func = func; number = number } ∷ []) k ≡ Some stage
     → IsStageOfFunc func (suc number) stage
 one_has func number zero stage found =
     let same : record { func = func; number = number } ≡ stage = cc in
-    record { func_is = ap (λ (s : StagePlace). s.func) (sym same); below = subst (λ (s : StagePlace). s.number < suc number) same (omega arith) }
+    record { func_is = ap (λ (s : StagePosition). s.func) (sym same); below = subst (λ (s : StagePosition). s.number < suc number) same (omega arith) }
 one_has func number (suc k) stage found = absurd cc
 
-to_has : (func number k : ℕ) (stage : StagePlace) → slice_get (stages_to func number) k ≡ Some stage → IsStageOfFunc func number stage
+to_has : (func number k : ℕ) (stage : StagePosition) → slice_get (stages_to func number) k ≡ Some stage → IsStageOfFunc func number stage
 to_has func zero k stage found = absurd cc
 to_has func (suc number) k stage found = elim (either_has (stages_to func number) (record { func = func; number = number } ∷ []) k stage found) [
   | inl here ↦ let told = to_has func number k stage here in record { func_is = told.func_is; below = omega (arith, told.below) }
@@ -78,7 +78,7 @@ to_has func (suc number) k stage found = elim (either_has (stages_to func number
 module _ (pipeline : Pipeline) (schedule : Schedule) (boxes : Boxes) where
   -- ---- which stages are listed
 
-  pub record IsListed (stage : StagePlace) : Type 0 where
+  pub record IsListed (stage : StagePosition) : Type 0 where
     pub func : Func
     pub standing : FuncPlacement
     pub own : SourceBox
@@ -88,7 +88,7 @@ module _ (pipeline : Pipeline) (schedule : Schedule) (boxes : Boxes) where
     pub box_is : slice_get boxes.funcs stage.func ≡ Some (Some own)
     pub few : stage.number ≤ length func.updates
 
-  listed_where : (place k : ℕ) (stage : StagePlace) (standing : FuncPlacement) (func : Func) (own : Option SourceBox) (at : ComputeLevel)
+  listed_where : (place k : ℕ) (stage : StagePosition) (standing : FuncPlacement) (func : Func) (own : Option SourceBox) (at : ComputeLevel)
       → slice_get schedule.standings place ≡ Some standing
       → slice_get pipeline.funcs place ≡ Some func → slice_get boxes.funcs place ≡ Some own → standing.place ≡ at → slice_get (stages_where at func own place) k
       ≡ Some stage → IsListed stage
@@ -110,7 +110,7 @@ module _ (pipeline : Pipeline) (schedule : Schedule) (boxes : Boxes) where
   listed_where place k stage standing func own (places.At loop) s f b at found = absurd cc
   listed_where place k stage standing func own places.Nowhere s f b at found = absurd cc
 
-  listed_at : (place k : ℕ) (stage : StagePlace) (standing : Option FuncPlacement) (func : Option Func) (own : Option (Option SourceBox))
+  listed_at : (place k : ℕ) (stage : StagePosition) (standing : Option FuncPlacement) (func : Option Func) (own : Option (Option SourceBox))
       → slice_get schedule.standings place ≡ standing
       → slice_get pipeline.funcs place ≡ func → slice_get boxes.funcs place ≡ own → slice_get (stages_at place standing func own) k ≡ Some stage
       → IsListed stage
@@ -119,7 +119,7 @@ module _ (pipeline : Pipeline) (schedule : Schedule) (boxes : Boxes) where
   listed_at place k stage (Some standing) (Some func) None s f b found = absurd cc
   listed_at place k stage (Some standing) (Some func) (Some own) s f b found = listed_where place k stage standing func own standing.place s f b refl found
 
-  listed_below : (count k : ℕ) (stage : StagePlace) → slice_get (stages_below pipeline schedule boxes count) k ≡ Some stage → IsListed stage
+  listed_below : (count k : ℕ) (stage : StagePosition) → slice_get (stages_below pipeline schedule boxes count) k ≡ Some stage → IsListed stage
   listed_below zero k stage found = absurd cc
   listed_below (suc place) k stage found = elim (either_has (stages_below pipeline schedule boxes place) (stages_at place (slice_get schedule.standings place)
       (slice_get pipeline.funcs place) (slice_get boxes.funcs place)) k stage found) [
@@ -129,7 +129,7 @@ module _ (pipeline : Pipeline) (schedule : Schedule) (boxes : Boxes) where
             here.1
       ]
 
-  pub planned : IsAccepted pipeline schedule → inferred pipeline schedule ≡ Ok boxes → (stage : StagePlace) (listed : IsListed stage)
+  pub planned : IsAccepted pipeline schedule → inferred pipeline schedule ≡ Ok boxes → (stage : StagePosition) (listed : IsListed stage)
       → (plan : FuncPlan) × IsAtRoot pipeline schedule boxes stage.func listed.func plan listed.own
   planned accepted is stage listed =
       let box = has_box pipeline schedule boxes accepted is stage.func listed.own listed.box_is in
@@ -147,7 +147,7 @@ module _ (pipeline : Pipeline) (schedule : Schedule) (boxes : Boxes) where
         },
       )
 
-  module _ (rules : IsWellFormed pipeline) (accepted : IsAccepted pipeline schedule) (is : inferred pipeline schedule ≡ Ok boxes) (stage : StagePlace)
+  module _ (rules : IsWellFormed pipeline) (accepted : IsAccepted pipeline schedule) (is : inferred pipeline schedule ≡ Ok boxes) (stage : StagePosition)
       (listed : IsListed stage)
       (plan : FuncPlan) (at : IsAtRoot pipeline schedule boxes stage.func listed.func plan listed.own) where
     abbrev extents : Extents
@@ -317,9 +317,9 @@ same_below : (pipeline : Pipeline) (schedule : Schedule) (boxes : Boxes)
     → (count : ℕ) → stages_below pipeline schedule boxes count ≡ reached_below pipeline schedule count
 same_below pipeline schedule boxes are zero = refl
 same_below pipeline schedule boxes are (suc place) =
-    ap (λ (l : List StagePlace). l ++ stages_at place (slice_get schedule.standings place) (slice_get pipeline.funcs place) (slice_get boxes.funcs place))
+    ap (λ (l : List StagePosition). l ++ stages_at place (slice_get schedule.standings place) (slice_get pipeline.funcs place) (slice_get boxes.funcs place))
     (same_below pipeline schedule boxes are place)
-    ∙ ap (λ (l : List StagePlace). reached_below pipeline schedule place ++ l) (same_at place (slice_get schedule.standings place) (slice_get pipeline.funcs
+    ∙ ap (λ (l : List StagePosition). reached_below pipeline schedule place ++ l) (same_at place (slice_get schedule.standings place) (slice_get pipeline.funcs
     place) (slice_get boxes.funcs place) (are place))
 
 pub stages-are-reached : StagesAreReached

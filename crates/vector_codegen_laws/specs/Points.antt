@@ -6,7 +6,7 @@ use Rattle.halide_pipeline.specs.declared.expressions.Source.{Source}
 use Rattle.halide_pipeline.specs.declared.expressions.Source.TheVariants as sources
 use Rattle.halide_pipeline.specs.Pipelines.{Pipeline}
 use Rattle.schedule.specs.declared.schedules.Schedule.{Schedule}
-use Rattle.schedule.specs.declared.placements.LoopPlace.{LoopPlace}
+use Rattle.schedule.specs.declared.placements.LoopPosition.{LoopPosition}
 use Rattle.schedule.specs.declared.placements.ComputeLevel.TheVariants as standpoints
 use Rattle.schedule.specs.declared.placements.FuncPlacement.{FuncPlacement}
 use Rattle.bounds.specs.declared.boxes.SourceBox.{SourceBox}
@@ -39,7 +39,7 @@ module _ (pipeline : Pipeline) (schedule : Schedule) (boxes : List (Option Sourc
   pub record PrivatePoint (func x y : ℕ) : Type 0 where
     pub standing : FuncPlacement
     pub standing_is : slice_get schedule.standings func ≡ Some standing
-    pub loop : LoopPlace
+    pub loop : LoopPosition
     pub at_loop : standing.place ≡ standpoints.At loop
     pub own : SourceBox
     pub box_is : slice_get boxes func ≡ Some (Some own)

@@ -19,7 +19,7 @@ use Rattle.bounds.specs.Extents.{extents_of}
 use Rattle.loop_ir.specs.declared.statements.Phase.{Phase}
 use Rattle.lowering.specs.Lowered.{AreLowered}
 use Rattle.lowering.specs.Planes.{held}
-use Rattle.bounds.specs.Stages.{IsAtRoot, StagePlace, stages, iterations, writes}
+use Rattle.bounds.specs.Stages.{IsAtRoot, StagePosition, stages, iterations, writes}
 use Rattle.multi_hart_laws.specs.Uses.{Fixed, Owned}
 use Rattle.multi_hart_laws.specs.Paths.{Stand}
 use Rattle.vector_codegen.specs.PhaseCode.{Part, program}
@@ -48,29 +48,29 @@ module _ (pipeline : Pipeline) (schedule : Schedule) (boxes : Boxes) where
   pub record IsOwnedIn (matter : ℕ → Matter) (k func address : ℕ) : Type 0 where
     pub task : ℕ
     pub owned : (matter k).uses address ≡ Owned task
-    pub stage : StagePlace
+    pub stage : StagePosition
     pub stage_is : slice_get (stages pipeline schedule boxes) k ≡ Some stage
     pub func_is : stage.func ≡ func
 
-  -- So many harts share their work. Where the tasks of the last phase left what they own, and all else is as that phase found it, the pixels
+  -- This many harts share their work. Where the tasks of the last phase left what they own, and all else is as that phase found it, the pixels
   -- stand.
   pub record AreShared (harts : ℕ) (parts : List Part) (last : ℕ) (text memory : List ℕ) (inputs : Planes) : Type 0 where
     pub matter : ℕ → Matter
     pub is_shared : IsShared text (size pipeline schedule boxes.funcs) harts parts matter last memory
     -- the phases compute the stages, with a task for each iteration
     pub stages_are : length (stages pipeline schedule boxes) ≡ suc last
-    pub tasks_are : (k : ℕ) (stage : StagePlace) → slice_get (stages pipeline schedule boxes) k ≡ Some stage
+    pub tasks_are : (k : ℕ) (stage : StagePosition) → slice_get (stages pipeline schedule boxes) k ≡ Some stage
         → (part_at text (size pipeline schedule boxes.funcs) harts parts matter k).tasks ≡ iterations pipeline schedule boxes stage
     -- each byte of a point that an iteration writes is its task's own, and written
-    pub own_bytes : (k : ℕ) (stage : StagePlace) → slice_get (stages pipeline schedule boxes) k ≡ Some stage → (task : ℕ)
+    pub own_bytes : (k : ℕ) (stage : StagePosition) → slice_get (stages pipeline schedule boxes) k ≡ Some stage → (task : ℕ)
         → task < iterations pipeline schedule boxes stage
         → (x y byte : ℕ) → writes pipeline schedule boxes inputs stage task x y ≡ true → byte < 4
         → let address = address_at pipeline schedule boxes.funcs 0 (sources.Func stage.func) x y + byte in
         ((matter k).uses address ≡ Owned task) × ((matter k).writes task address ≡ true)
     -- their Funcs are computed at root, and have boxes
-    pub roots_are : (k : ℕ) (stage : StagePlace) → slice_get (stages pipeline schedule boxes) k ≡ Some stage → RootFunc pipeline schedule boxes.funcs stage.func
+    pub roots_are : (k : ℕ) (stage : StagePosition) → slice_get (stages pipeline schedule boxes) k ≡ Some stage → RootFunc pipeline schedule boxes.funcs stage.func
     -- a stage is a pure definition or an update
-    pub numbers_are : (k : ℕ) (stage : StagePlace) (func : Func) → slice_get (stages pipeline schedule boxes) k ≡ Some stage
+    pub numbers_are : (k : ℕ) (stage : StagePosition) (func : Func) → slice_get (stages pipeline schedule boxes) k ≡ Some stage
         → slice_get pipeline.funcs stage.func ≡ Some func
         → stage.number ≤ length func.updates
     -- a byte of a point of a Func at root stays as it is in a phase, or one task of the phase owns it, which computes a stage of the Func

@@ -30,7 +30,7 @@ copy_bytes boxes place = 4 * points_in (box_in (slice_get boxes place))
 
 -- ---- uses
 
--- the greatest of the first so many numbers that passes
+-- the greatest of the first this many numbers that passes
 abbrev pub greatest : ℕ → (ℕ → Bool) → Option ℕ
 greatest zero test = None
 greatest (suc n) test = if test n then Some n else greatest n test

@@ -6,7 +6,7 @@
 //! - [`memory_laws`]: points of buffers lie where the layout has them (`specs/Points.antt`); what a task touches lies
 //!   so that its code may touch it (`specs/Settings.antt`); what memory holds before and after a task
 //!   (`specs/Held.antt`); that turns which write a vectorized Func's points write whole runs (`specs/RunBytes.antt`).
-//! - [`sharing_laws`]: phases whose code stands in the text share their work, and leave the pixels of Funcs at root.
+//! - [`sharing_laws`]: phases whose code is in the text share their work, and leave the pixels of Funcs at root.
 //! - [`stage_laws`]: which stages phases compute, and that those of pure definitions write all points
 //!   (`specs/Whole.antt`).
 //! The generator itself (`generate`) is passed on, since whoever has a program made wants what is promised of it.

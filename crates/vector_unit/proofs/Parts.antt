@@ -5,7 +5,7 @@ use Rattle.std.specs.List.{range_with_len}
 use Rattle.lanes.specs.Words.{zip_with, merged, reduced, chosen_of, with_mask_bits_from, with_mask_bit}
 use Rattle.std.proofs.lemmas.List.{take-replicate, drop-replicate}
 
--- so many elements, from those of a part on
+-- this many elements, from those of a part on
 abbrev pub part_of : {A : Type 0} → ℕ → ℕ → List A → List A
 part_of n part xs = take n (drop (part * n) xs)
 

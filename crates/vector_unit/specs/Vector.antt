@@ -138,7 +138,7 @@ active_in state vm = active 0 (count state) state.vl vm (register state 0)
 
 -- ---- results
 
--- so many registers from one on, holding elements of a width one register after the other
+-- this many registers from one on, holding elements of a width one register after the other
 abbrev pub with_registers : Vectors → ℕ → ℕ → ℕ → List ℕ → Vectors
 with_registers state w v zero numbers = state
 with_registers state w v (suc others) numbers =

@@ -22,7 +22,7 @@ use rv_insn::{ElementWidth, VReg};
 pub enum Spacing {
     /// One after the other, at this width.
     UnitStride(ElementWidth),
-    /// So many bytes apart, modulo 2^32.
+    /// This many bytes apart, modulo 2^32.
     Strided(u32),
     /// At the offsets in bytes that are the elements of a group of registers, at the configured width.
     Indexed(VReg),

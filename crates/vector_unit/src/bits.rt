@@ -39,7 +39,7 @@ impl VectorState {
         self.set_register(pair.vd, register);
     }
 
-    /// The same of so many registers of a group from one on, written into a register's bytes.
+    /// The same of this many registers of a group from one on, written into a register's bytes.
     fn compare_parts(
         &self,
         operation: CompareVxOp,
@@ -130,7 +130,7 @@ impl VectorState {
         }
     }
 
-    /// A start, joined with the active elements of so many registers of a group from one on, at 8 bits.
+    /// A start, joined with the active elements of this many registers of a group from one on, at 8 bits.
     fn join_bytes(&self, reduction: ElementReduction, start: u8, part: usize, others: usize) -> u8
         requires width { width self.now ≡ 8 }
         requires few { part + others ≤ 4 }
@@ -146,7 +146,7 @@ impl VectorState {
         self.join_bytes(reduction, total, part + 1, others - 1)
     }
 
-    /// A start, joined with the active elements of so many registers of a group from one on, at 16 bits.
+    /// A start, joined with the active elements of this many registers of a group from one on, at 16 bits.
     fn join_halves(
         &self,
         reduction: ElementReduction,
@@ -168,7 +168,7 @@ impl VectorState {
         self.join_halves(reduction, total, part + 1, others - 1)
     }
 
-    /// A start, joined with the active elements of so many registers of a group from one on, at 32 bits.
+    /// A start, joined with the active elements of this many registers of a group from one on, at 32 bits.
     fn join_words(&self, reduction: ElementReduction, start: u32, part: usize, others: usize) -> u32
         requires width { width self.now ≡ 32 }
         requires few { part + others ≤ 4 }

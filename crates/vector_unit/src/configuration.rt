@@ -12,7 +12,7 @@ use rv_insn::{Reg, Trap};
 /// How many elements a configuration asks for.
 #[derive(Clone, Copy, Debug, PartialEq, Eq)]
 pub enum RequestedLength {
-    /// So many, if they fit.
+    /// This many, if they fit.
     AtMost(u32),
     /// As many as a group has.
     AsManyAsFit,
@@ -75,7 +75,7 @@ impl VectorState {
     }
 }
 
-/// Whether elements are words under a supported vtype, and so many are all of a group.
+/// Whether elements are words under a supported vtype, and this many are all of a group.
 fn is_whole(vtype: u32, vl: u32) -> bool
     requires { is_supported vtype ≡ true }
     ensures { result ≡ is_whole_of vtype vl }

@@ -54,7 +54,7 @@ impl VectorState {
         self.write_parts(vd, vm, &new, 0, self.group());
     }
 
-    /// Writes new elements to so many registers of a group, from one on. What a register gets is made before any that
+    /// Writes new elements to this many registers of a group, from one on. What a register gets is made before any that
     /// is after it is written, so that all is read before anything is written.
     fn write_parts(&mut self, vd: VReg, vm: bool, new: &NewElements, part: usize, others: usize)
         requires configured { has_vill self.old ≡ false }

@@ -19,7 +19,7 @@ pub(crate) trait WordOperand: Copy {
     /// The operand that it is.
     ghost operand: { Self → OtherOperand };
 
-    /// Whether it begins where groups of so many registers do.
+    /// Whether it begins where groups of this many registers do.
     ghost IsPlaced: { Self → ℕ → Type 0 };
 
     /// A register's worth of it.

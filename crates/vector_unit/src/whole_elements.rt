@@ -21,7 +21,7 @@ pub(crate) trait WholeElements: Copy {
     /// The elements that they are.
     ghost elements: { Self → NewElements };
 
-    /// Whether all that they are made of begins where groups of so many registers do.
+    /// Whether all that they are made of begins where groups of this many registers do.
     ghost ArePlaced: { Self → ℕ → Type 0 };
 
     /// A register's worth of them.

@@ -29,7 +29,7 @@ byte-number j b l h = omega (arith, l, h)
 pub use-in : (words : ℕ → Use) (j b : ℕ) → word j ≤ b → b < word j + 4 → use_by words b ≡ words j
 use-in words j b l h = ap (λ t. cond t Control (words ((b - data_start) / 4))) (below-data b (omega (arith, l))) ∙ ap words (word-number j b l h)
 
--- the word in which a byte stands that is not just for control
+-- the word in which a byte is that is not just for control
 pub in-word : (words : ℕ → Use) (b : ℕ) → (use_by words b ≡ Control → ⊥) → (j : ℕ) × ((word j ≤ b) × (b < word j + 4))
 in-word words b n = elim (cases_Bool (nat_lt b data_start)) [
   | inl t ↦ absurd (n (ap (λ q. cond q Control (words ((b - data_start) / 4))) t))

@@ -192,7 +192,7 @@ drawn-on : (p : Phase) (top top1 : ℕ) (x : Job) → top ≤ top1 → IsDrawn p
 drawn-on p top top1 Setup l d = d
 drawn-on p top top1 (Task t) l d = let q = d.1 in (d.0, omega (arith, q, l))
 
--- another hart's part stands
+-- another hart's part is
 stands-on : (z p : Phase) (top top1 shut shut1 : ℕ) (mem ps bs : List ℕ) (k l : ℕ) (h : HartState) (r q : Role) → top ≤ top1 → shut ≤ shut1 → k ≢ l
     → Within (Touch p k r) ps → ((t : ℕ) → Has q t → Has r t → ⊥) → Holds z p top shut mem l h q → Holds z p top1 shut1 (put mem ps bs) l h q
 stands-on z p top top1 shut shut1 mem ps bs k l h r Before lt ls ne w f o = o

@@ -145,7 +145,7 @@ pub record Turned (q p : Phase) (roles : List Role) (old : ℕ) (k : ℕ) (r : R
   pub becomes : Becomes p old (total has_added roles) r role top
   pub inv : Inv q p (set roles k role) top s
 
--- a phase with no text, from which nothing leads to another: it stands before the first
+-- a phase with no text, from which nothing leads to another: it is before the first
 abbrev pub nowhere : Phase
 nowhere = record {
   text = [];

@@ -46,7 +46,7 @@ module _ (ph : ℕ → Phase) (last : ℕ) (pr : Program ph last) (k : ℕ) wher
   Further d at = (s : State) (known : List ℕ) (e : ℕ) → d ≡ suc e → (rs : List Role) → Inv (ph at) (ph (suc at)) rs 0 s → (q : Role) → slice_get rs k ≡ Some q
       → has_added q ≡ 0 → Stops s known
 
-  -- what stands after the phase under way
+  -- what is after the phase under way
   gate-or-last : (at : ℕ) → at ≤ last → ((at < last) × HasGate (ph at)) ⊎ HasEnd (ph at)
   gate-or-last at le = elim (cases_eq at last) [
     | inl e ↦ inr (subst (λ c. HasEnd (ph c)) (sym e) pr.leave)

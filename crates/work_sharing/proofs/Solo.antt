@@ -72,7 +72,7 @@ pub wp-all : (p : Phase) (x : Job) (k n at : ℕ) (i : Insn) (h : HartState) (m 
     → All p x k (suc n) h m
 wp-all p x k n at i h m l st w f may s = (wp p x k n at i h m l st w f may s.0, cover-later p x k n at i h m l st w f s.1)
 
--- ---- what stands after an instruction
+-- ---- what is after an instruction
 
 -- a register that the phase doesn't keep
 abbrev pub is_free : ℕ → Bool

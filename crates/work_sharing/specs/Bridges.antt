@@ -1,4 +1,4 @@
--- From paths of code to tasks: where a task begins a hart stands with its own numbers, and a path from there to the draw that keeps
+-- From paths of code to tasks: where a task begins a hart is with its own numbers, and a path from there to the draw that keeps
 -- what the phase keeps and leaves the task's bytes does the task. This project's own.
 use Rattle.std.specs.Prelude.{◌≡◌, ℕ, ◌-◌, ◌/◌, ◌%◌, ◌==◌, nat_lt, if◌then◌else◌, List}
 use Rattle.lanes.specs.Words.{element, mask_bit}
@@ -18,7 +18,7 @@ numbers_of hart n =
     else (if nat_lt n 162 then element 32 (vector hart ((n - 34) / 4)) ((n - 34) % 4)
     else one_if (mask_bit (vector hart 0) (n - 162)))))
 
--- a hart that stands at an address of a phase is there with its numbers
+-- a hart that is at an address of a phase is there with its numbers
 abbrev pub StandsThere : Type 0
 StandsThere = (phase : Phase) (number address : ℕ) (hart : HartState) → Stands phase number hart address → At address (numbers_of hart) hart
 

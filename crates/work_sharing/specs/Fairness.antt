@@ -1,5 +1,5 @@
 -- Every fair list ends. A list of turns is fair as long as every hart goes on having turns, and how far it has come is told by rounds: in a
--- round every hart has at least one turn. So many rounds are enough for all harts to finish, whatever turns came before, whichever
+-- round every hart has at least one turn. This many rounds are enough for all harts to finish, whatever turns came before, whichever
 -- turns each round has, and in whatever order. The count depends on the phases alone, and not on the list. This project's own.
 use Rattle.std.specs.Prelude.{◌≡◌, ◌≤◌, ℕ, zero, suc, ◌+◌, ◌*◌, true, List, ◌++◌, length, slice_get, Some}
 use Rattle.std.specs.List.{concat}
@@ -13,12 +13,12 @@ use Rattle.work_sharing.specs.Turns.{arrived, are_rounds}
 
 -- ---- how many are enough
 
--- so many numbers, added up: those of 0, of 1, and so on
+-- this many numbers, added up: those of 0, of 1, and so on
 abbrev pub sum_below : ℕ → (ℕ → ℕ) → ℕ
 sum_below zero number_of = 0
 sum_below (suc count) number_of = sum_below count number_of + number_of count
 
--- At most so many turns bring a phase on, all harts together. Each task: the draw, the branch after it, and its own. Each hart: at most three
+-- At most this many turns bring a phase on, all harts together. Each task: the draw, the branch after it, and its own. Each hart: at most three
 -- out of the gate before (a branch back, a load, a branch on), which the first phase hasn't; the way to the draw; and then a draw that finds no
 -- task, the branch after it and the door. Whoever looks at a gate that isn't full brings nothing on, and isn't counted.
 abbrev pub turns_of_phase : Phase → ℕ

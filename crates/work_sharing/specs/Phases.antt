@@ -70,7 +70,7 @@ pub record IsControl (phase : Phase) (address : ℕ) : Type 0 where
   pub third : phase.uses (address + 2) ≡ Control
   pub fourth : phase.uses (address + 3) ≡ Control
 
--- The draw. A task's code stands from the draw's third word on, and ends by going to the draw. The door may stand on either side: in
+-- The draw. A task's code is from the draw's third word on, and ends by going to the draw. The door may stand on either side: in
 -- front of the draw, its branch reaches it however long the tasks' code is.
 --
 --     draw_code:      amoadd.w x12, x15, (x13)     draw the next number

@@ -19,7 +19,7 @@ abbrev pub Leaves : Phase → Job → List ℕ → Type 0
 Leaves phase Setup memory = Unit {0}
 Leaves phase (Task task) memory = Complete phase memory task
 
--- after so many quiet turns of the hart alone the job is done, and the hart is at the draw
+-- after this many quiet turns of the hart alone the job is done, and the hart is at the draw
 abbrev pub SoonDone : Phase → Job → ℕ → ℕ → HartState → List ℕ → Type 0
 SoonDone phase job number turns hart memory =
     Soon (world phase job number) (λ after left. Stands phase number after phase.draw_code × Leaves phase job left) turns hart memory

@@ -24,7 +24,7 @@ stuck_text = 0x00200737 ∷ 0x00100793 ∷ 0x00158813 ∷ 0x00F7202F ∷ 0x00072
 abbrev pub stuck : State
 stuck = opened 0x00010000 stuck_text (replicate 4 0) 2
 
--- however many rounds are asked for, there are so many after which no hart has finished, though each runs
+-- however many rounds are asked for, there are this many after which no hart has finished, though each runs
 abbrev pub NoCount : Type 0
 NoCount =
     (count : ℕ)

@@ -19,7 +19,7 @@ ticket_word phase = data_start + 8 * phase
 abbrev pub gate_word : ℕ → ℕ
 gate_word phase = data_start + 8 * phase + 4
 
--- those of so many phases
+-- those of this many phases
 abbrev pub control_words : ℕ → List ℕ
 control_words zero = []
 control_words (suc phases) = control_words phases ++ (ticket_word phases ∷ gate_word phases ∷ [])

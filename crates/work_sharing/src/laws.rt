@@ -70,7 +70,7 @@ pub fn rules_kept()
     ensures { RulesKept }
 {}
 
-/// A hart that stands at an address of a phase is there with its own numbers; a path of code from there to
+/// A hart that is at an address of a phase is there with its own numbers; a path of code from there to
 /// the draw that keeps what the phase keeps, and leaves the job's bytes, does the job.
 pub fn paths_do_jobs()
     ensures begins { StandsThere }

@@ -43,6 +43,6 @@ order name other = slice_cmp nat_cmp name.items other.items
 abbrev pub AreBelow : ℕ → Entries → Type 0
 AreBelow count entries = AllByRecursion (λ entry. entry.1.number < count) entries
 
--- no name stands twice, and each number is below how many there are
+-- no name occurs twice, and each number is below how many there are
 abbrev pub AreNumbered : Entries → Type 0
 AreNumbered entries = IsStrictlySortedBy order (keys_of entries) × AreBelow (length entries) entries

@@ -15,7 +15,7 @@ most = 2 ^ 32 - 1
 abbrev pub Same : ℕ → ℕ → Type 0
 Same m n = min m most ≡ min n most
 
--- where the arguments have so many nodes
+-- where the arguments have this many nodes
 abbrev pub sum_at : Sum → ℕ → ℕ → ℕ
 sum_at sum x y = sum.own + (sum.first * x + sum.second * y)
 
@@ -43,11 +43,11 @@ SameCall (Some f) (Some g) = (x : ℕ) (y : Option ℕ) (z : ℕ) (u : Option �
 
 -- A table for the first Funcs, of which the flagged ones are inlined, counts as the definition does.
 abbrev pub Counts : List Bool → List Func → List (Option CountCall) → Type 0
-Counts flags funcs table = (place : ℕ) → SameCall (counted table place) (inside counting (flagged flags) funcs (length table) place)
+Counts flags funcs table = (func_index : ℕ) → SameCall (counted table func_index) (inside counting (flagged flags) funcs (length table) func_index)
 
 -- what a call of the Func at a place is counted as
 abbrev pub made_at : List Bool → List Func → ℕ → Option (ℕ → Option ℕ → ℕ)
-made_at flags funcs place = made_in counting (inside counting (flagged flags) funcs place) (func_in funcs (flagged flags) (place + 1) place)
+made_at flags funcs func_index = made_in counting (inside counting (flagged flags) funcs func_index) (func_in funcs (flagged flags) (func_index + 1) func_index)
 
 -- so often
 abbrev pub times : ℕ → ℕ → ℕ
@@ -79,7 +79,7 @@ needed table place = need_in (slice_get table place)
 
 -- A table for the first Funcs, of which the flagged ones are inlined, needs what the definition needs.
 abbrev pub Needs : List Bool → List Func → List (Option Need) → Type 0
-Needs flags funcs table = (place : ℕ) → SameCall (needed table place) (inside needing (flagged flags) funcs (length table) place)
+Needs flags funcs table = (func_index : ℕ) → SameCall (needed table func_index) (inside needing (flagged flags) funcs (length table) func_index)
 
 abbrev pub need_made : List Bool → List Func → ℕ → Option (ℕ → Option ℕ → ℕ)
-need_made flags funcs place = made_in needing (inside needing (flagged flags) funcs place) (func_in funcs (flagged flags) (place + 1) place)
+need_made flags funcs func_index = made_in needing (inside needing (flagged flags) funcs func_index) (func_in funcs (flagged flags) (func_index + 1) func_index)

@@ -26,7 +26,11 @@ abbrev pub NeedsAs : List (Option Need) → ℕ → (List Bool → List Func →
 NeedsAs table result number = (flags : List Bool) (funcs : List Func) → AllNeeds flags funcs table → result ≡ capped (number flags funcs)
 
 abbrev pub capped_needs : StageNeeds → StageNeeds
-capped_needs own = record { greatest = capped own.greatest; greatest_by_16 = capped own.greatest_by_16 }
+capped_needs own_stage_needs = record {
+  greatest = capped own_stage_needs.greatest;
+  greatest_by_16 = capped
+      own_stage_needs.greatest_by_16;
+}
 
 abbrev pub AllNeedsAs : List (Option Need) → StageNeeds → (List Bool → List Func → StageNeeds) → Type 0
 AllNeedsAs table result number = (flags : List Bool) (funcs : List Func) → AllNeeds flags funcs table → result ≡ capped_needs (number flags funcs)

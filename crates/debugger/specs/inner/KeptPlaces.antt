@@ -44,13 +44,13 @@ pub record KeptFits (image : ImageContents) (log : LogState) (kept : KeptPlaces)
   pub places : AreKept image log (first_of image kept) kept.places.items
   pub last : HoldsUnwritten kept.written.items memory (last_kept image kept)
 
--- what a machine of such data and so many harts has to be for places to be put back
+-- what a machine of such data and this many harts has to be for places to be put back
 pub record CanPutBack (size many : ℕ) (kept : KeptPlaces) : Type 0 where
   pub below : AreBelow size kept.below.items
   pub pages : All (ArePages size) kept.places.items
   pub harts : All (λ (copy : KeptPlace). length copy.harts.items ≡ many) kept.places.items
 
--- no place is kept, over so many pages
+-- no place is kept, over this many pages
 pub record AreFree (pages : ℕ) (kept : KeptPlaces) : Type 0 where
   pub slots : length kept.below.items ≡ pages
   pub flags : length kept.written.items ≡ pages
@@ -73,6 +73,6 @@ most_kept = 16
 abbrev pub room_for_one : List KeptPlace → List KeptPlace
 room_for_one copies = if nat_lt (length copies) most_kept then copies else drop 1 copies
 
--- One more is kept behind the last ones of those before, 16 with it at most; or it isn't, where there was no memory for it.
+-- One more is kept after the last ones of those before, 16 with it at most; or it isn't, where there was no memory for it.
 abbrev pub AreLastKept : List KeptPlace → KeptPlace → List KeptPlace → Type 0
 AreLastKept before copy after = (after ≡ room_for_one before ++ copy ∷ []) ⊎ (after ≡ room_for_one before)

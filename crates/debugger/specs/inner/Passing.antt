@@ -6,7 +6,7 @@ use Rattle.debugger.specs.declared.passing.Passed.{Passed}
 use Rattle.debugger.specs.Places.{SessionState, state_at}
 use Rattle.debugger.specs.Stops.{stops}
 
--- a session of this log and these marks, whose machine stands at the place
+-- a session of this log and these marks, whose machine is at the place
 pub record Fits (session : SessionState) (log : LogState) (breaks watches : List ℕ) (machine : State) (place : ℕ) : Type 0 where
   pub same_log : log ≡ session.log
   pub same_breaks : breaks ≡ session.breaks

@@ -6,12 +6,12 @@ use Rattle.multi_hart.specs.Run.{State, run, hart_at}
 use Rattle.debugger.specs.Counts.{one_if_running}
 use Rattle.debugger.specs.Stops.{differs}
 
--- of so many turns of a hart one after the other, those in which it runs
+-- of this many turns of a hart one after the other, those in which it runs
 abbrev pub steps_of : State → ℕ → ℕ → ℕ
 steps_of state hart zero = 0
 steps_of state hart (suc n) = steps_of state hart n + one_if_running (hart_at (run state (replicate n hart)) hart).status
 
--- of so many turns of a hart the hart stands on no break after each but the last, and no watched word is changed by any but the last
+-- of this many turns of a hart the hart is on no break after each but the last, and no watched word is changed by any but the last
 pub record IsQuietUntil (state : State) (hart : ℕ) (breaks watches : List ℕ) (turns : ℕ) : Type 0 where
   pub on_none : (k : ℕ) → 1 ≤ k → k < turns → list_any (λ mark. mark == (hart_at (run state (replicate k hart)) hart).pc) breaks ≡ false
   pub changes_none : (k : ℕ) → 1 ≤ k → k < turns → list_any (differs (run state (replicate (k - 1) hart)) (run state (replicate k hart))) watches ≡ false

@@ -19,7 +19,7 @@ abbrev pub some_goes_on : Option Insn → Bool
 some_goes_on None = false
 some_goes_on (Some insn) = goes_on insn
 
--- so many words from a place on store nothing, and after each but the last the next one is due
+-- this many words from a place on store nothing, and after each but the last the next one is due
 pub record AreQuiet (words : List ℕ) (place count : ℕ) : Type 0 where
   pub there : (k : ℕ) → k < count → place + k < length words
   pub stores_none : (k : ℕ) → k < count → option_and_then store_in (slice_get words (place + k)) ≡ None

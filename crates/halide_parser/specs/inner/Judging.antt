@@ -124,7 +124,7 @@ group a = enclosed a
 abbrev pub minus : Judged → Judged
 minus a = enclosed (binary op.Subtract (literal 0) a)
 
--- A call of the Func that the line updates: an argument stands in its place only alone.
+-- A call of the Func that the line updates: an argument is in its place only alone.
 abbrev pub own_marks : Bool → Option Variable → Option Variable → Marks
 own_marks is_own first second = record {
   is_unknown = false;

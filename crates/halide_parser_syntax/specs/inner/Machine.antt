@@ -27,7 +27,7 @@ is_empty (item ∷ items) = false
 abbrev pub Moved : Type 0 → Type 0
 Moved V = Option (TermState V × List Token)
 
--- whether an operator stands at the front
+-- whether an operator is at the front
 abbrev pub is_operator : List Token → Bool
 is_operator (t.Product op ∷ rest) = true
 is_operator (t.Sum op ∷ rest) = true
@@ -83,7 +83,7 @@ module _ {V : Type 0} where
   is_over s tokens = is_some s.term && not (is_operator tokens) && is_empty s.stack
 
 module _ {V : Type 0} (alg : Algebra V) where
-  -- so many signs before an operand
+  -- this many signs before an operand
   abbrev pub negated : ℕ → V → V
   negated zero value = value
   negated (suc n) value = alg.minus (negated n value)
@@ -196,7 +196,7 @@ module _ {V : Type 0} (alg : Algebra V) where
   onward None f = None
   onward (Some moved) f = f moved.0 moved.1
 
-  -- at most so many steps
+  -- at most this many steps
   unfoldable pub run : ℕ → TermState V → List Token → Option (V × List Token)
   run zero s tokens = None
   run (suc n) s tokens = if is_over s tokens then finished s tokens else onward (step s tokens) (run n)

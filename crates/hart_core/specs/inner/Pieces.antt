@@ -20,12 +20,12 @@ use Rattle.hart_core.specs.declared.vectors.VectorAccess.{VectorAccess}
 abbrev pub accesses_of : HartState → VectorAccess → List Access
 accesses_of hart access = accesses_at access.group.width (addresses_by (vectors_of hart) access.spacing access.vm (register hart access.rs1))
 
--- so many addresses, of elements of a width one after the other
+-- this many addresses, of elements of a width one after the other
 abbrev pub addresses_from : ElementWidth → ℕ → ℕ → List ℕ
 addresses_from w address zero = []
 addresses_from w address (suc others) = address ∷ addresses_from w (address + bytes_in (size_of w)) others
 
--- so many elements of a width from an address on are aligned and lie in a data of so many bytes
+-- this many elements of a width from an address on are aligned and lie in a data of this many bytes
 pub record LiesInData (bytes : ℕ) (w : ElementWidth) (address others : ℕ) : Type 0 where
   pub aligned : address % bytes_in (size_of w) ≡ 0
   pub inside : IsTrue (in_data bytes address (others * bytes_in (size_of w)))
@@ -39,7 +39,7 @@ pub record IsPiece (bytes : ℕ) (state : Vectors) (w : ElementWidth) (spacing :
 
 -- ---- whole groups of words
 
--- a whole group of words begins at a register, and as many words from an address on lie in a data of so many bytes
+-- a whole group of words begins at a register, and as many words from an address on lie in a data of this many bytes
 pub record IsRun (bytes : ℕ) (state : Vectors) (v base : ℕ) : Type 0 where
   pub configured : has_vill state ≡ false
   pub words : width state ≡ 32
@@ -47,7 +47,7 @@ pub record IsRun (bytes : ℕ) (state : Vectors) (v base : ℕ) : Type 0 where
   pub placed : v % group state ≡ 0
   pub lies : LiesInData bytes widths.Bits32 base (count state)
 
--- so many words from an element and an address on, loaded one after the other
+-- this many words from an element and an address on, loaded one after the other
 abbrev pub words_filled : (Access → ℕ) → ℕ → Vectors → ℕ → ℕ → ℕ → Vectors
 words_filled f v state i address n =
     filled_from i state 32 v (replicate n true) (map f (accesses_at widths.Bits32 (addresses_from widths.Bits32 address n)))
@@ -64,7 +64,7 @@ is_access (v.LoadElements w vd rs1 addressing vm) = true
 is_access (v.StoreElements w vs3 rs1 addressing vm) = true
 is_access insn = false
 
--- the accesses to so many words from one on that lie so from a base on
+-- the accesses to this many words from one on that lie so from a base on
 abbrev pub spots : Vectors → Spacing → ℕ → ℕ → ℕ → List Access
 spots state spacing base i n = map (λ k. access_at Word (word.add 32 base (offset state spacing k))) (range_with_len i n)
 

@@ -18,6 +18,7 @@ pub record AreWordsOf (pipeline : Pipeline) (schedule : Schedule) (boxes : Boxes
   pub is_program : IsProgram (places_of pipeline schedule boxes.funcs boxes.layout) phases words
   pub ends_are : ends ≡ ends_from 0 0 is_program.parts
 
-pub record IsHeld (own : CompiledContents) : Type 0 where
-  pub compiled : IsCompiled own
-  pub words_are : AreWordsOf own.pipeline own.schedule own.boxes own.words own.ends
+pub record IsHeld (compiled_contents : CompiledContents) : Type 0 where
+  pub compiled : IsCompiled compiled_contents
+  pub words_are : AreWordsOf compiled_contents.pipeline compiled_contents.schedule compiled_contents.boxes
+      compiled_contents.words compiled_contents.ends

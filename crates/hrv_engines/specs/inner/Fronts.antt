@@ -9,7 +9,7 @@ use Rattle.hrv_engines.specs.declared.texts.KeptFront.{KeptFront}
 use Rattle.hrv_engines.specs.declared.texts.Reading.{Reading}
 use Rattle.hrv_engines.specs.Devices.{BeginsNoText, GaveEach, GaveNoText, GaveText, NamesFailed, NoneFailed, Sources, most_picture_bytes}
 
--- so many bytes are the longest front that is a text
+-- this many bytes are the longest front that is a text
 pub record IsLongestText (bytes : List ℕ) (count : ℕ) : Type 0 where
   pub within : count ≤ length bytes
   pub front : IsUtf8 (take count bytes)

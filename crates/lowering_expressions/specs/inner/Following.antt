@@ -19,9 +19,9 @@ abbrev pub algebra : List Corner → Values → Reads → Algebra Seen
 algebra corners values reads = seeing (placed corners values reads)
 
 -- It has the value that is seen, and what it loads are points that are seen, where they lie, or that are given.
-pub record Follows (corners : List Corner) (values : Values) (reads : Reads) (given : List Point) (made : Expr) (own : Seen) : Type 0 where
-  pub same : value reads values made ≡ own.value
-  pub holds : (test : Point → Bool) → Hold test given → Hold (λ point. test (place corners values point)) own.points → Hold test (loads reads values made)
+pub record Follows (corners : List Corner) (values : Values) (reads : Reads) (given : List Point) (new_expression : Expr) (own_seen : Seen) : Type 0 where
+  pub same : value reads values new_expression ≡ own_seen.value
+  pub holds : (test : Point → Bool) → Hold test given → Hold (λ point. test (place corners values point)) own_seen.points → Hold test (loads reads values new_expression)
 
 -- what is seen of an expression that stands for a variable
 abbrev pub stands : Reads → Values → Expr → Seen
@@ -34,11 +34,11 @@ standing reads values a b c d variables.FirstReduction = stands reads values c
 standing reads values a b c d variables.SecondReduction = stands reads values d
 
 abbrev pub variable_terms : Reads → Values → Terms → Variable → Seen
-variable_terms reads values own v = standing reads values own.first_argument.now own.second_argument.now own.first_reduction.now own.second_reduction.now v
+variable_terms reads values terms v = standing reads values terms.first_argument.now terms.second_argument.now terms.first_reduction.now terms.second_reduction.now v
 
 -- what they load
 abbrev pub loaded_by : Reads → Values → Expr → Expr → Expr → Expr → List Point
 loaded_by reads values a b c d = loads reads values a ++ (loads reads values b ++ (loads reads values c ++ loads reads values d))
 
 abbrev pub term_loads : Reads → Values → Terms → List Point
-term_loads reads values own = loaded_by reads values own.first_argument.now own.second_argument.now own.first_reduction.now own.second_reduction.now
+term_loads reads values terms = loaded_by reads values terms.first_argument.now terms.second_argument.now terms.first_reduction.now terms.second_reduction.now

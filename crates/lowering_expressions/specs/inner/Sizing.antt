@@ -11,16 +11,16 @@ use Rattle.lowering_expressions.specs.Sizing.{IsGiven}
 
 -- of what stands for a variable
 abbrev pub term_size : Terms → Variable → ℕ
-term_size own variables.FirstArgument = size own.first_argument.now
-term_size own variables.SecondArgument = size own.second_argument.now
-term_size own variables.FirstReduction = size own.first_reduction.now
-term_size own variables.SecondReduction = size own.second_reduction.now
+term_size terms variables.FirstArgument = size terms.first_argument.now
+term_size terms variables.SecondArgument = size terms.second_argument.now
+term_size terms variables.FirstReduction = size terms.first_reduction.now
+term_size terms variables.SecondReduction = size terms.second_reduction.now
 
--- no more than so many nodes are given
+-- no more than this many nodes are given
 abbrev pub AreGiven : Terms → (Variable → ℕ) → Type 0
-AreGiven own nodes = (v : Variable) → IsGiven (term_size own v) (nodes v)
+AreGiven terms nodes = (v : Variable) → IsGiven (term_size terms v) (nodes v)
 
--- a second argument of so many nodes, or 0 where there is none
+-- a second argument of this many nodes, or 0 where there is none
 abbrev pub IsGivenSecond : Expr → Option ℕ → Type 0
 IsGivenSecond y None = y ≡ e.Number 0
 IsGivenSecond y (Some nodes) = IsGiven (size y) nodes

@@ -10,14 +10,14 @@ use Rattle.lowering_expressions.specs.declared.lowering.Terms.{Terms}
 
 -- of what stands for a variable
 abbrev pub term_need : Terms → Variable → ℕ
-term_need own variables.FirstArgument = need own.first_argument.now
-term_need own variables.SecondArgument = need own.second_argument.now
-term_need own variables.FirstReduction = need own.first_reduction.now
-term_need own variables.SecondReduction = need own.second_reduction.now
+term_need terms variables.FirstArgument = need terms.first_argument.now
+term_need terms variables.SecondArgument = need terms.second_argument.now
+term_need terms variables.FirstReduction = need terms.first_reduction.now
+term_need terms variables.SecondReduction = need terms.second_reduction.now
 
 -- no more than these
 abbrev pub AreTaken : Terms → (Variable → ℕ) → Type 0
-AreTaken own most = (v : Variable) → term_need own v ≤ most v
+AreTaken terms most = (v : Variable) → term_need terms v ≤ most v
 
 -- a second argument that needs no more, or 0 where there is none
 abbrev pub IsSecond : Expr → Option ℕ → Type 0

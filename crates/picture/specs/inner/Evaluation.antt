@@ -31,36 +31,37 @@ inputs_of scene = input_planes scene.pictures.now
 
 -- the Funcs before this place
 abbrev pub earlier_of : Scene → ℕ → Planes
-earlier_of scene place = pixels scene.funcs.now (inputs_of scene) place
+earlier_of scene func_index = pixels scene.funcs.now (inputs_of scene) func_index
 
 -- the Func at this place, after all its updates
 abbrev pub plane_in : List Func → List PictureContents → ℕ → Plane
-plane_in funcs pictures place = func_plane place (slice_get funcs place) (input_planes pictures) (pixels funcs (input_planes pictures) place)
+plane_in funcs pictures func_index = func_plane func_index (slice_get funcs func_index) (input_planes pictures) (pixels funcs (input_planes pictures) func_index)
 
 abbrev pub plane_of : Scene → ℕ → Plane
-plane_of scene place = plane_in scene.funcs.now scene.pictures.now place
+plane_of scene func_index = plane_in scene.funcs.now scene.pictures.now func_index
 
--- after so many points of an update, if there is one
+-- after this many points of an update, if there is one
 abbrev pub after_some : ℕ → Option Update → Planes → Planes → Plane → ℕ → Plane
-after_some own None inputs earlier before number = before
-after_some own (Some update) inputs earlier before number = after own update inputs earlier before number
+after_some func_index None inputs earlier before number = before
+after_some func_index (Some update) inputs earlier before number = after func_index update inputs earlier before number
 
 abbrev pub after_of : ℕ → Option Func → Planes → Planes → ℕ → ℕ → Plane
-after_of own None inputs earlier updates number x y = 0
-after_of own (Some func) inputs earlier updates number x y =
-    after_some own (slice_get func.updates updates) inputs earlier (stage own func inputs earlier updates) number x y
+after_of func_index None inputs earlier updates number x y = 0
+after_of func_index (Some func) inputs earlier updates number x y =
+    after_some func_index (slice_get func.updates updates) inputs earlier (stage func_index func inputs earlier updates)
+    number x y
 
 -- what the Funcs answer in a definition of the one at this place
 abbrev pub funcs_in : Scene → ℕ → FuncState → Planes
-funcs_in scene own states.Earlier = earlier_of scene own
-funcs_in scene own (states.After updates number) =
-    with_plane own (after_of own (slice_get scene.funcs.now own) (inputs_of scene) (earlier_of scene own) updates number) (earlier_of scene own)
-funcs_in scene own (states.Forward updates number slice) =
-    with_plane own (after_of own (slice_get scene.funcs.now own) (inputs_of scene) (earlier_of scene own) updates number) (earlier_of scene own)
+funcs_in scene func_index states.Earlier = earlier_of scene func_index
+funcs_in scene func_index (states.After updates number) =
+    with_plane func_index (after_of func_index (slice_get scene.funcs.now func_index) (inputs_of scene) (earlier_of scene func_index) updates number) (earlier_of scene func_index)
+funcs_in scene func_index (states.Forward updates number slice) =
+    with_plane func_index (after_of func_index (slice_get scene.funcs.now func_index) (inputs_of scene) (earlier_of scene func_index) updates number) (earlier_of scene func_index)
 
 -- and all sources
 abbrev pub reads_in : Scene → ℕ → FuncState → Reads
-reads_in scene own state = reads_of (inputs_of scene) (funcs_in scene own state)
+reads_in scene func_index state = reads_of (inputs_of scene) (funcs_in scene func_index state)
 
 -- ---- updates, run forward
 
@@ -69,24 +70,24 @@ pub record IsPass (scene : Scene) (pass : Pass) : Type 0 where
   pub is : slice_get scene.funcs.now pass.own ≡ Some pass.func.now
   pub next : slice_get pass.func.now.updates pass.updates ≡ Some pass.update.now
 
--- after so many whole updates
+-- after this many whole updates
 abbrev pub stage_some : ℕ → Option Func → Planes → Planes → ℕ → Plane
-stage_some own None inputs earlier updates x y = 0
-stage_some own (Some func) inputs earlier updates x y = stage own func inputs earlier updates x y
+stage_some func_index None inputs earlier updates x y = 0
+stage_some func_index (Some func) inputs earlier updates x y = stage func_index func inputs earlier updates x y
 
 abbrev pub stage_of : Scene → ℕ → ℕ → Plane
-stage_of scene own updates = stage_some own (slice_get scene.funcs.now own) (inputs_of scene) (earlier_of scene own) updates
+stage_of scene func_index updates = stage_some func_index (slice_get scene.funcs.now func_index) (inputs_of scene) (earlier_of scene func_index) updates
 
 -- what was written is what is there now, and where nothing was there is what was before
 abbrev pub Holds : Option ℕ → ℕ → ℕ → Type 0
 Holds (Some value) now before = value ≡ now
 Holds None now before = before ≡ now
 
--- what a slice has written after so many points of an update
-pub record IsForward (scene : Scene) (own updates number : ℕ) (slice : Slice) : Type 0 where
+-- what a slice has written after this many points of an update
+pub record IsForward (scene : Scene) (func_index updates number : ℕ) (slice : Slice) : Type 0 where
   pub each : (x y : ℕ) → x < 2 ^ 32 → y < 2 ^ 32 → is_on slice x y ≡ true
-      → Holds (written slice.writes x y) (after_of own (slice_get scene.funcs.now own) (inputs_of scene) (earlier_of scene own) updates number x y)
-      (stage_of scene own updates x y)
+      → Holds (written slice.writes x y) (after_of func_index (slice_get scene.funcs.now func_index) (inputs_of scene) (earlier_of scene func_index) updates number x y)
+      (stage_of scene func_index updates x y)
 
 -- the slice of this point for an update
 pub record IsBegun (update : Update) (x y : ℕ) (slice : Slice) : Type 0 where
@@ -97,9 +98,9 @@ pub record IsBegun (update : Update) (x y : ℕ) (slice : Slice) : Type 0 where
 
 -- what a state says is so
 abbrev pub IsState : Scene → ℕ → FuncState → Type 0
-IsState scene own states.Earlier = Unit {0}
-IsState scene own (states.After updates number) = Unit {0}
-IsState scene own (states.Forward updates number slice) = IsForward scene own updates number slice.now
+IsState scene func_index states.Earlier = Unit {0}
+IsState scene func_index (states.After updates number) = Unit {0}
+IsState scene func_index (states.Forward updates number slice) = IsForward scene func_index updates number slice.now
 
 -- ---- tables
 
@@ -115,7 +116,7 @@ IsNumberedRow plane left top width number row = AreValues width (λ at. plane (w
 pub record AreNumberedRows (plane : Plane) (left top width : ℕ) (rows : List (Vec ℕ Global)) : Type 0 where
   pub each : (number : ℕ) (row : Vec ℕ Global) → slice_get rows number ≡ Some row → IsNumberedRow plane left top width number row.items
 
--- the pixels of so many rows
+-- the pixels of this many rows
 pub record AreNumbered (plane : Plane) (left top width height : ℕ) (pixels : List ℕ) : Type 0 where
   pub len : length pixels ≡ width * height
   pub each : (at : ℕ) → at < length pixels → slice_index pixels at ≡ numbered_pixel plane left top width at
@@ -135,35 +136,36 @@ pub record IsAt (left top width height : ℕ) (table : Table) : Type 0 where
 
 -- each of the first Funcs' tables has the Func's pixels
 pub record AreTablesOf (funcs : List Func) (pictures : List PictureContents) (tables : List Table) : Type 0 where
-  pub each : (place : ℕ) (table : Table) → slice_get tables place ≡ Some table → IsTable (plane_in funcs pictures place) table
+  pub each : (func_index : ℕ) (table : Table) → slice_get tables func_index ≡ Some table → IsTable (plane_in funcs pictures func_index) table
 
--- after so many whole updates
+-- after this many whole updates
 abbrev pub stage_in : List Func → List PictureContents → ℕ → ℕ → Plane
-stage_in funcs pictures own updates = stage_some own (slice_get funcs own) (input_planes pictures) (pixels funcs (input_planes pictures) own) updates
+stage_in funcs pictures func_index updates = stage_some func_index (slice_get funcs func_index) (input_planes pictures) (pixels funcs (input_planes pictures) func_index) updates
 
 -- what a slice has written after all points of an update
-pub record IsSliceOf (funcs : List Func) (pictures : List PictureContents) (own updates : ℕ) (slice : Slice) : Type 0 where
+pub record IsSliceOf (funcs : List Func) (pictures : List PictureContents) (func_index updates : ℕ) (slice : Slice) : Type 0 where
   pub each : (x y : ℕ) → x < 2 ^ 32 → y < 2 ^ 32 → is_on slice x y ≡ true
-      → Holds (written slice.writes x y) (stage_in funcs pictures own (updates + 1) x y) (stage_in funcs pictures own updates x y)
+      → Holds (written slice.writes x y) (stage_in funcs pictures func_index (updates + 1) x y) (stage_in funcs pictures func_index updates x y)
 
-pub record AreSlicesOf (funcs : List Func) (pictures : List PictureContents) (own updates : ℕ) (slices : List Slice) : Type 0 where
-  pub each : (at : ℕ) (slice : Slice) → slice_get slices at ≡ Some slice → IsSliceOf funcs pictures own updates slice
+pub record AreSlicesOf (funcs : List Func) (pictures : List PictureContents) (func_index updates : ℕ) (slices : List Slice) : Type 0 where
+  pub each : (at : ℕ) (slice : Slice) → slice_get slices at ≡ Some slice
+      → IsSliceOf funcs pictures func_index updates slice
 
 -- boxes of this plane
 pub record AreBoxes (plane : Plane) (boxes : List Table) : Type 0 where
   pub each : (at : ℕ) (box : Table) → slice_get boxes at ≡ Some box → IsTable plane box
 
 -- what is known of this update of this Func
-pub record IsKnown (funcs : List Func) (pictures : List PictureContents) (own updates : ℕ) (known : UpdatedPixels) : Type 0 where
-  pub slices : AreSlicesOf funcs pictures own updates known.slices.items
-  pub boxes : AreBoxes (stage_in funcs pictures own (updates + 1)) known.boxes.items
+pub record IsKnown (funcs : List Func) (pictures : List PictureContents) (func_index updates : ℕ) (known : UpdatedPixels) : Type 0 where
+  pub slices : AreSlicesOf funcs pictures func_index updates known.slices.items
+  pub boxes : AreBoxes (stage_in funcs pictures func_index (updates + 1)) known.boxes.items
 
 pub record AreKnownOf (funcs : List Func) (pictures : List PictureContents) (known : List UpdatedPixels) : Type 0 where
   pub each : (at : ℕ) (k : UpdatedPixels) → slice_get known at ≡ Some k → IsKnown funcs pictures k.own k.updates k
 
 -- each pixel that is kept is the Func's
 pub record IsMemo (funcs : List Func) (pictures : List PictureContents) (memo : Memo) : Type 0 where
-  pub each : (place x y pixel : ℕ) → x < 2 ^ 32 → y < 2 ^ 32 → remembered memo place x y ≡ Some pixel → pixel ≡ plane_in funcs pictures place x y
+  pub each : (func_index x y pixel : ℕ) → x < 2 ^ 32 → y < 2 ^ 32 → remembered memo func_index x y ≡ Some pixel → pixel ≡ plane_in funcs pictures func_index x y
 
 -- tables, slices and pixels are what they should be
 pub record AreTables (scene : Scene) : Type 0 where

@@ -10,8 +10,8 @@ use Rattle.halide_pipeline.specs.Pixel.{Plane, Reads, reads_of, value, with_plan
 use Rattle.picture.specs.declared.lines.Along.{Along}
 use Rattle.picture.specs.declared.lines.Along.TheVariants as alongs
 use Rattle.picture.specs.declared.lines.PointLine.{PointLine}
-use Rattle.picture.specs.declared.lines.Own.{Own}
-use Rattle.picture.specs.declared.lines.Own.TheVariants as owns
+use Rattle.picture.specs.declared.lines.KnownPixels.{KnownPixels}
+use Rattle.picture.specs.declared.lines.KnownPixels.TheVariants as owns
 use Rattle.picture.specs.declared.scenes.Scene.{Scene}
 use Rattle.picture.specs.inner.Evaluation.{inputs_of, earlier_of, IsTable}
 use Rattle.picture_rows.specs.declared.rows.Row.{Row}
@@ -51,7 +51,7 @@ line_point alongs.Columns start at = pixel_point start at
 line_point alongs.Rows start at = lower_point start at
 
 -- a line is so long, where its pixels are known, and a box has some plane's
-abbrev pub IsLong : ℕ → Own → Type 0
+abbrev pub IsLong : ℕ → KnownPixels → Type 0
 IsLong width owns.Nothing = Unit {0}
 IsLong width (owns.Pixels before) = length before.now ≡ width
 IsLong width (owns.Box own) = (plane : Plane) × IsTable plane own.now
@@ -60,7 +60,7 @@ abbrev pub IsLine : PointLine → Type 0
 IsLine line = IsLong line.width line.own
 
 -- the own Func answers as is known
-abbrev pub Knows : ℕ → Environment → Own → Plane → Type 0
+abbrev pub Knows : ℕ → Environment → KnownPixels → Plane → Type 0
 Knows width start owns.Nothing plane = Unit {0}
 Knows width start (owns.Pixels before) plane = AreValues width (λ at. plane (word.add start.first_argument at) start.second_argument) before.now
 Knows width start (owns.Box own) plane = IsTable plane own.now
@@ -70,15 +70,17 @@ Fits line plane = Knows line.width line.start line.own plane
 
 -- reads, where the own Func answers by this plane
 abbrev pub reads_with : Scene → ℕ → Plane → Reads
-reads_with scene own plane = reads_of (inputs_of scene) (with_plane own plane (earlier_of scene own))
+reads_with scene func_index plane = reads_of (inputs_of scene)
+    (with_plane func_index plane (earlier_of scene func_index))
 
 -- the value of an expression at a point of a line, where the own Func answers by this plane
 abbrev pub value_along : Scene → ℕ → PointLine → Expr → Plane → ℕ → ℕ
-value_along scene own line expr plane at = value (reads_with scene own plane) (line_point line.along line.start at) expr
+value_along scene func_index line expr plane at = value (reads_with scene func_index plane)
+    (line_point line.along line.start at) expr
 
 abbrev pub is_own : ℕ → Source → Bool
-is_own own (sources.Input place) = false
-is_own own (sources.Func place) = place == own
+is_own func_index (sources.Input place) = false
+is_own func_index (sources.Func place) = place == func_index
 
 -- what a row has at its places, whatever the own Func answers where it isn't known
 pub record IsShared (line : PointLine) (says : Plane → ℕ → ℕ) (row : Row) : Type 0 where

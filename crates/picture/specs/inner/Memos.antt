@@ -7,16 +7,16 @@ use Rattle.picture.specs.declared.memos.Memo.{Memo}
 
 -- a number for each point of each Func
 abbrev pub pixel_number : ℕ → ℕ → ℕ → ℕ
-pixel_number place x y = place * 2 ^ 64 + x * 2 ^ 32 + y
+pixel_number func_index x y = func_index * 2 ^ 64 + x * 2 ^ 32 + y
 
 -- what is known of the Func at this place, if anything is
 unfoldable pub remembered : Memo → ℕ → ℕ → ℕ → Option ℕ
-remembered memo place x y = get nat_eq memo.values (pixel_number place x y)
+remembered memo func_index x y = get nat_eq memo.values (pixel_number func_index x y)
 
 -- one pixel more
-pub record Remembers (old new : Memo) (place x y pixel : ℕ) : Type 0 where
+pub record Remembers (old new : Memo) (func_index x y pixel : ℕ) : Type 0 where
   pub each : (at i j : ℕ) → i < 2 ^ 32 → j < 2 ^ 32
-      → remembered new at i j ≡ (if at == place && i == x && j == y then Some pixel else remembered old at i j)
+      → remembered new at i j ≡ (if at == func_index && i == x && j == y then Some pixel else remembered old at i j)
 
 -- no pixel
 pub record KnowsNothing (memo : Memo) : Type 0 where

@@ -15,7 +15,7 @@ IsRowOf plane stretch pixels = AreValues stretch.width (λ at. plane (word.add s
 
 -- what the right side of an update is at a point of its reduction box, where the own Func answers by this plane
 abbrev pub one_more : Scene → ℕ → Update → ℕ → Plane → Plane
-one_more scene own update number plane x y = value (reads_with scene own plane) (at_reduction update number x y) update.right
+one_more scene func_index update number plane x y = value (reads_with scene func_index plane) (at_reduction update number x y) update.right
 
 -- an update stores at each pixel of a row
 pub record StoresEverywhere (update : Update) (y : ℕ) : Type 0 where

@@ -9,7 +9,7 @@ use Rattle.picture.specs.Slices.{is_forward}
 use Rattle.picture.specs.declared.lines.Along.{Along}
 use Rattle.picture.specs.declared.lines.Along.TheVariants as alongs
 use Rattle.picture.specs.declared.lines.PointLine.{PointLine}
-use Rattle.picture.specs.declared.lines.Own.TheVariants as owns
+use Rattle.picture.specs.declared.lines.KnownPixels.TheVariants as owns
 use Rattle.picture.specs.declared.scenes.Pass.{Pass}
 use Rattle.picture.specs.declared.scenes.Scene.{Scene}
 use Rattle.picture.specs.declared.scenes.Table.{Table}
@@ -18,7 +18,7 @@ use Rattle.picture.specs.inner.Evaluation.{inputs_of, earlier_of}
 use Rattle.picture.specs.inner.Lines.{line_point, reads_with, IsShared}
 use Rattle.picture_rows.specs.Rows.{value_at}
 
--- the Func after so many points of a pass
+-- the Func after this many points of a pass
 abbrev pub after_points : Scene → Pass → ℕ → Plane
 after_points scene pass number =
     after pass.own pass.update.now (inputs_of scene) (earlier_of scene pass.own) (stage pass.own pass.func.now (inputs_of scene) (earlier_of scene pass.own)
@@ -50,7 +50,7 @@ pub record IsStoreRow (scene : Scene) (pass : Pass) (line : PointLine) (row : St
   pub y : IsShared (free line) (λ plane at. index_value (reads_with scene pass.own plane) (line_point line.along line.start at) pass.update.now.left_y) row.y
   pub value : IsShared line (λ plane at. value (reads_with scene pass.own plane) (line_point line.along line.start at) pass.update.now.right) row.value
 
--- a plane with the first so many stores
+-- a plane with the first this many stores
 unfoldable pub with_stores : StoreRow → ℕ → Plane → Plane
 with_stores row zero plane i j = plane i j
 with_stores row (suc at) plane i j = if i == value_at row.x at && j == value_at row.y at then value_at row.value at else with_stores row at plane i j

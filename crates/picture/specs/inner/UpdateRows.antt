@@ -41,16 +41,17 @@ pub record IsRight (width : ℕ) (says : Plane → ℕ → ℕ) (right : Right) 
   pub each : (plane : Plane) (at : ℕ) → at < width → right_says right plane at ≡ says plane at
 
 -- the sides of an update along a row of the reduction box, whatever the own Func answers
-pub record IsUpdateRow (scene : Scene) (own width : ℕ) (start : Environment) (update : Update) (row : UpdateRow) : Type 0 where
-  pub left_x : IsShared (reduction_line width start) (λ plane at. value (reads_with scene own plane) (row_point start at) update.left_x) row.left_x
-  pub left_y : IsShared (reduction_line width start) (λ plane at. index_value (reads_with scene own plane) (row_point start at) update.left_y) row.left_y
-  pub right : IsRight width (λ plane at. value (reads_with scene own plane) (row_point start at) update.right) row.right
+pub record IsUpdateRow (scene : Scene) (func_index width : ℕ) (start : Environment) (update : Update) (row : UpdateRow) : Type 0 where
+  pub left_x : IsShared (reduction_line width start) (λ plane at. value (reads_with scene func_index plane) (row_point start at) update.left_x) row.left_x
+  pub left_y : IsShared (reduction_line width start) (λ plane at. index_value (reads_with scene func_index plane) (row_point start at) update.left_y) row.left_y
+  pub right : IsRight width (λ plane at. value (reads_with scene func_index plane) (row_point start at) update.right)
+      row.right
 
 -- what a point of an update stores
-pub record IsStore (scene : Scene) (own updates number : ℕ) (update : Update) (slice : Slice) (store : UpdateStore) : Type 0 where
-  pub left_x : store.x ≡ value (reads_in scene own states.Earlier) (at_reduction update number slice.x slice.y) update.left_x
-  pub left_y : store.y ≡ index_value (reads_in scene own states.Earlier) (at_reduction update number slice.x slice.y) update.left_y
-  pub right : store.value ≡ value (reads_in scene own (states.After updates number)) (at_reduction update number slice.x slice.y) update.right
+pub record IsStore (scene : Scene) (func_index updates number : ℕ) (update : Update) (slice : Slice) (store : UpdateStore) : Type 0 where
+  pub left_x : store.x ≡ value (reads_in scene func_index states.Earlier) (at_reduction update number slice.x slice.y) update.left_x
+  pub left_y : store.y ≡ index_value (reads_in scene func_index states.Earlier) (at_reduction update number slice.x slice.y) update.left_y
+  pub right : store.value ≡ value (reads_in scene func_index (states.After updates number)) (at_reduction update number slice.x slice.y) update.right
 
 -- a slice's place is kept
 pub record KeepsPlace (old new : Slice) : Type 0 where

@@ -8,7 +8,7 @@ use Rattle.run_reports.specs.Profile.{idle_turns, turns_at, turns_made}
 use Rattle.run_reports.specs.ProfileText.{Counts}
 use Rattle.run_reports.specs.declared.profiles.HartProfile.{HartProfile}
 
--- so many turns may still be added to each count
+-- this many turns may still be added to each count
 abbrev pub HaveRoom : List ℕ → ℕ → Type 0
 HaveRoom counts more = (place : ℕ) → place < length counts → slice_index counts place + more < 2 ^ 64
 
@@ -17,7 +17,7 @@ pub record HasRoom (profile : HartProfile) (more : ℕ) : Type 0 where
   pub made : profile.made + more < 2 ^ 64
   pub idle : profile.idle + more < 2 ^ 64
 
--- the counts of so many words from a place on are one more, and all others as they were
+-- the counts of this many words from a place on are one more, and all others as they were
 pub record AreRaised (place count : ℕ) (old new : List ℕ) : Type 0 where
   pub as_many : length new ≡ length old
   pub each : (k : ℕ) → k < length old → slice_index new k ≡ slice_index old k + (if nat_le place k && nat_lt k (place + count) then 1 else 0)
@@ -33,13 +33,13 @@ pub record IsAdded (hart : ℕ) (begin : State) (turns : List ℕ) (old new : Ha
   pub made : new.made ≡ old.made + turns_made hart begin turns
   pub idle : new.idle ≡ old.idle + idle_turns hart begin turns
 
--- no turn is counted yet, over so many words
+-- no turn is counted yet, over this many words
 pub record IsUncounted (words : ℕ) (profile : HartProfile) : Type 0 where
   pub counts : profile.counts.items ≡ replicate words 0
   pub made : profile.made ≡ 0
   pub idle : profile.idle ≡ 0
 
--- there are counts of so many words, none of more turns than eight harts make
+-- there are counts of this many words, none of more turns than eight harts make
 pub record AreFew (words : ℕ) (profile : HartProfile) : Type 0 where
   pub enough : words ≤ length profile.counts.items
   pub few : (place : ℕ) → place < words → slice_index profile.counts.items place ≤ 8 * most_turns

@@ -17,7 +17,7 @@ abbrev pub some_goes_on : Option Insn → Bool
 some_goes_on None = false
 some_goes_on (Some insn) = goes_on insn
 
--- so many words stand from a place on, and after each but the last the next one is due
+-- this many words stand from a place on, and after each but the last the next one is due
 pub record AreStraight (words : List ℕ) (place count : ℕ) : Type 0 where
   pub there : (k : ℕ) → k < count → place + k < length words
   pub go_on : (k : ℕ) → k + 1 < count → some_goes_on (option_and_then decoded (slice_get words (place + k))) ≡ true

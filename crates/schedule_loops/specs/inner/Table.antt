@@ -61,7 +61,7 @@ pub record IsKept (extents : Extents) (rows : List SizedSplit) : Type 0 where
   pub table : IsTable extents rows
   pub splits : AreSplits (splits_of rows)
 
--- the most that a stride is after so many splits
+-- the most that a stride is after this many splits
 abbrev pub stride_limit : ℕ → ℕ
 stride_limit zero = 1
 stride_limit (suc n) = stride_limit n * 64

@@ -2,7 +2,7 @@
 -- This project's own.
 use Rattle.std.specs.Prelude.{◌≡◌, ℕ, ◌<◌, Option, None, Some, List, length, slice_index_or}
 
--- R holds of what stood at each place and of what stands there now
+-- R holds of what was at each place and of what is there now
 pub record EachIs {T : Type 0} (R : T → T → Type 0) (olds news : List T) : Type 0 where
   pub len : length news ≡ length olds
   pub each : (k : ℕ) (d : T) → k < length olds → R (slice_index_or olds k d) (slice_index_or news k d)

@@ -45,20 +45,20 @@ use Rattle.task_code_lane_values.specs.Leaving.{LeavesLanes}
 -- ---- expressions that all iterations have in common
 
 -- each iteration has the value of the first one
-abbrev pub IsSteady : Counter → Expr → Type 0
-IsSteady counter e = (reads : Reads) (values : Values) (i : ℕ) → value reads (with counter i values) e ≡ value reads (with counter 0 values) e
+abbrev pub IsLoopInvariant : Counter → Expr → Type 0
+IsLoopInvariant counter e = (reads : Reads) (values : Values) (i : ℕ) → value reads (with counter i values) e ≡ value reads (with counter 0 values) e
 
 -- ---- scalar operands
 
 -- Appended code leaves a number in register s, from what registers hold in the first iteration. It keeps memory and all registers but
 -- those of values, the scratch ones and the one where addresses are made.
-pub record MakesScalar (old new : List ℕ) (scope : List Held) (own : VectorLanes) (s : ℕ) (may : World → List ℕ → Reads → Values → Type 0)
+pub record MakesScalar (old new : List ℕ) (scope : List Held) (lanes : VectorLanes) (s : ℕ) (may : World → List ℕ → Reads → Values → Type 0)
     (says : ℕ → Reads → Values → ℕ) : Type 0 where
   pub insns : List Insn
   pub emits : Emits old new insns
   pub source : IsSource s
   pub does : (world : World) (memory : List ℕ) (values : Values) (reads : Reads) (f : ℕ → ℕ) → length memory ≡ world.size → AreHolders scope
-      → Knows world.hart scope (with own.counter 0 values) f → may world memory reads values
+      → Knows world.hart scope (with lanes.counter 0 values) f → may world memory reads values
       → Leaves world memory insns f first_value s (says world.hart reads values)
 
 -- it loads nothing
@@ -66,35 +66,35 @@ abbrev pub Nothing : World → List ℕ → Reads → Values → Type 0
 Nothing world memory reads values = Unit {0}
 
 -- an expression's value in the first iteration
-abbrev pub MakesSteady : List ℕ → List ℕ → Places → List Held → VectorLanes → ℕ → Expr → Type 0
-MakesSteady old new places scope own s e =
+abbrev pub MakesInvariant : List ℕ → List ℕ → Places → List Held → VectorLanes → ℕ → Expr → Type 0
+MakesInvariant old new places scope own s e =
     MakesScalar old new scope own s (λ world memory reads values. AllByRecursion (Loads world places memory reads) (loads reads (with own.counter 0 values) e))
     (λ hart reads values. value reads (with own.counter 0 values) e)
 
 -- a pointer to the point at a column of the first iteration and a row, as far as words go
 abbrev pub MakesRowPointer : List ℕ → List ℕ → Places → List Held → VectorLanes → ℕ → BufferLayout → Linear → Expr → Type 0
-MakesRowPointer old new places scope own s place x y =
-    MakesScalar old new scope own s (λ world memory reads values. AllByRecursion (Loads world places memory reads) (loads reads (with own.counter 0 values) y))
-    (λ hart reads values. address place hart (linear_value (with own.counter 0 values) x) (value reads (with own.counter 0 values) y) % 2 ^ 32)
+MakesRowPointer old new places scope vector_lanes s layout x y =
+    MakesScalar old new scope vector_lanes s (λ world memory reads values. AllByRecursion (Loads world places memory reads) (loads reads (with vector_lanes.counter 0 values) y))
+    (λ hart reads values. address layout hart (linear_value (with vector_lanes.counter 0 values) x) (value reads (with vector_lanes.counter 0 values) y) % 2 ^ 32)
 
 -- ---- lanes of any numbers
 
 -- Appended code leaves a number for each iteration in group k, as the lanes of an expression are left.
-pub record MakesEach (old new : List ℕ) (places : Places) (scope : List Held) (own : VectorLanes) (k : ℕ)
+pub record MakesEach (old new : List ℕ) (places : Places) (scope : List Held) (lanes : VectorLanes) (k : ℕ)
     (may : World → List ℕ → Reads → Values → ℕ → Type 0) (says : Reads → Values → ℕ → ℕ) : Type 0 where
   pub insns : List Insn
   pub emits : Emits old new insns
   pub does : (world : World) (memory : List ℕ) (values : Values) (reads : Reads) (count : ℕ) (f : ℕ → ℕ) → length memory ≡ world.size
-      → ArePlaces places → AreHolders scope → Knows world.hart scope (with own.counter 0 values) f → HasLanes own.group count f → 1 ≤ count
-      → count ≤ 4 * registers own.group → ((i : ℕ) → i < count → may world memory reads values i)
-      → LeavesLanes world memory insns f own.group k count (λ i. says reads values i)
+      → ArePlaces places → AreHolders scope → Knows world.hart scope (with lanes.counter 0 values) f → HasLanes lanes.group count f → 1 ≤ count
+      → count ≤ 4 * registers lanes.group → ((i : ℕ) → i < count → may world memory reads values i)
+      → LeavesLanes world memory insns f lanes.group k count (λ i. says reads values i)
 
 abbrev pub NothingEach : World → List ℕ → Reads → Values → ℕ → Type 0
 NothingEach world memory reads values i = Unit {0}
 
 -- a sum in an iteration
 abbrev pub sum_at : Counter → Linear → Values → ℕ → ℕ
-sum_at counter own values i = linear_value (with counter i values) own
+sum_at counter sum values i = linear_value (with counter i values) sum
 
 -- a buffer has what is read at the point of two sums in an iteration
 abbrev pub LoadsPoint : Places → Source → Counter → Linear → Linear → World → List ℕ → Reads → Values → ℕ → Type 0
@@ -103,36 +103,36 @@ LoadsPoint places source counter x y world memory reads values i =
     (reads source (sum_at counter x values i) (sum_at counter y values i))
 
 abbrev pub MakesPoint : List ℕ → List ℕ → Places → List Held → VectorLanes → ℕ → Source → Linear → Linear → Type 0
-MakesPoint old new places scope own k source x y =
-    MakesEach old new places scope own k (LoadsPoint places source own.counter x y)
-    (λ reads values i. reads source (sum_at own.counter x values i) (sum_at own.counter y values i))
+MakesPoint old new places scope lanes k source x y =
+    MakesEach old new places scope lanes k (LoadsPoint places source lanes.counter x y)
+    (λ reads values i. reads source (sum_at lanes.counter x values i) (sum_at lanes.counter y values i))
 
 -- Appended code loads pixels that lie one after the other, from the address in register b on.
 pub record LoadsAlong (old new : List ℕ) (group : LaneGroup) (k b : ℕ) (pixels : Pixels) : Type 0 where
   pub insns : List Insn
   pub emits : Emits old new insns
-  pub does : (world : World) (memory : List ℕ) (count : ℕ) (f x y pixel : ℕ → ℕ) (place : BufferLayout) → length memory ≡ world.size → HasLanes group count f
-      → place.pixels ≡ pixels → ((i : ℕ) → i < count → LoadsAt world place memory (x i) (y i) (pixel i))
-      → ((i : ℕ) → i < count → (f b + i * pixel_bytes pixels) % 2 ^ 32 ≡ address place world.hart (x i) (y i))
+  pub does : (world : World) (memory : List ℕ) (count : ℕ) (f x y pixel : ℕ → ℕ) (layout : BufferLayout) → length memory ≡ world.size → HasLanes group count f
+      → layout.pixels ≡ pixels → ((i : ℕ) → i < count → LoadsAt world layout memory (x i) (y i) (pixel i))
+      → ((i : ℕ) → i < count → (f b + i * pixel_bytes pixels) % 2 ^ 32 ≡ address layout world.hart (x i) (y i))
       → LeavesLanes world memory insns f group k count pixel
 
 -- And words that lie as many bytes apart as register s holds.
 pub record LoadsStrided (old new : List ℕ) (group : LaneGroup) (k b s : ℕ) : Type 0 where
   pub insns : List Insn
   pub emits : Emits old new insns
-  pub does : (world : World) (memory : List ℕ) (count : ℕ) (f x y pixel : ℕ → ℕ) (place : BufferLayout) → length memory ≡ world.size → HasLanes group count f
-      → place.pixels ≡ Words → ((i : ℕ) → i < count → LoadsAt world place memory (x i) (y i) (pixel i))
-      → ((i : ℕ) → i < count → (f b + (i * f s) % 2 ^ 32) % 2 ^ 32 ≡ address place world.hart (x i) (y i))
+  pub does : (world : World) (memory : List ℕ) (count : ℕ) (f x y pixel : ℕ → ℕ) (layout : BufferLayout) → length memory ≡ world.size → HasLanes group count f
+      → layout.pixels ≡ Words → ((i : ℕ) → i < count → LoadsAt world layout memory (x i) (y i) (pixel i))
+      → ((i : ℕ) → i < count → (f b + (i * f s) % 2 ^ 32) % 2 ^ 32 ≡ address layout world.hart (x i) (y i))
       → LeavesLanes world memory insns f group k count pixel
 
 -- And at the distances from there that the lanes hold.
 pub record LoadsFrom (old new : List ℕ) (group : LaneGroup) (k b : ℕ) (pixels : Pixels) : Type 0 where
   pub insns : List Insn
   pub emits : Emits old new insns
-  pub does : (world : World) (memory : List ℕ) (count : ℕ) (f x y pixel offset : ℕ → ℕ) (place : BufferLayout) → length memory ≡ world.size → HasLanes group count f
-      → f zero_register ≡ 0 → place.pixels ≡ pixels → ((i : ℕ) → i < count → LoadsAt world place memory (x i) (y i) (pixel i))
+  pub does : (world : World) (memory : List ℕ) (count : ℕ) (f x y pixel offset : ℕ → ℕ) (layout : BufferLayout) → length memory ≡ world.size → HasLanes group count f
+      → f zero_register ≡ 0 → layout.pixels ≡ pixels → ((i : ℕ) → i < count → LoadsAt world layout memory (x i) (y i) (pixel i))
       → ((i : ℕ) → i < count → f (lane (slot group k) i) ≡ offset i)
-      → ((i : ℕ) → i < count → (f b + offset i) % 2 ^ 32 ≡ address place world.hart (x i) (y i))
+      → ((i : ℕ) → i < count → (f b + offset i) % 2 ^ 32 ≡ address layout world.hart (x i) (y i))
       → LeavesLanes world memory insns f group k count pixel
 
 -- ---- operations on lanes
@@ -158,15 +158,18 @@ AnyWord c = Unit {0}
 
 -- an instruction does an operation on lanes with a register as the second operand
 abbrev pub IsBy : Operation → ArithmeticVxOp → Type 0
-IsBy op own = (x c : ℕ) → x < 2 ^ 32 → c < 2 ^ 32 → arithmetic_vx own 32 x c ≡ word.applied op x c
+IsBy op arithmetic_vx_op = (x c : ℕ) → x < 2 ^ 32 → c < 2 ^ 32
+    → arithmetic_vx arithmetic_vx_op 32 x c ≡ word.applied op x c
 
 -- a comparison does one, with a register as the second operand
 abbrev pub IsComparedBy : Operation → CompareVxOp → Type 0
-IsComparedBy op own = (x c : ℕ) → x < 2 ^ 32 → c < 2 ^ 32 → one_if (compare_vx own 32 x c) ≡ word.applied op x c
+IsComparedBy op compare_vx_op = (x c : ℕ) → x < 2 ^ 32 → c < 2 ^ 32
+    → one_if (compare_vx compare_vx_op 32 x c) ≡ word.applied op x c
 
 -- an instruction does an operation on lanes with a register as the first operand
 abbrev pub IsComputedBy : Operation → ArithmeticVxOp → Type 0
-IsComputedBy op own = (x c : ℕ) → x < 2 ^ 32 → c < 2 ^ 32 → arithmetic_vx own 32 x c ≡ word.applied op c x
+IsComputedBy op arithmetic_vx_op = (x c : ℕ) → x < 2 ^ 32 → c < 2 ^ 32
+    → arithmetic_vx arithmetic_vx_op 32 x c ≡ word.applied op c x
 
 -- And of the lane and that of the next group.
 pub record ComputesTwo (old new : List ℕ) (group : LaneGroup) (k : ℕ) (says : ℕ → ℕ → ℕ) : Type 0 where
@@ -211,6 +214,6 @@ operation_rows operations.NotEqual d a b = compared compares.Vmsne d a b
 
 -- a comparison of lanes does an operation, of the second operand and the first where they are swapped
 abbrev pub IsVectorComparison : Operation → VectorComparison → Type 0
-IsVectorComparison op own =
+IsVectorComparison op vector_comparison =
     (x y : ℕ) → x < 2 ^ 32 → y < 2 ^ 32
-    → one_if (if own.is_swapped then compare_vv own.instruction 32 y x else compare_vv own.instruction 32 x y) ≡ word.applied op x y
+    → one_if (if vector_comparison.is_swapped then compare_vv vector_comparison.instruction 32 y x else compare_vv vector_comparison.instruction 32 x y) ≡ word.applied op x y

@@ -40,13 +40,14 @@ IsSmallerPart whole part = IsPart whole part × (size-Expr part < size-Expr whol
 -- ---- what groups hold
 
 -- an expression's value in each iteration
-pub record HoldsValue (own : VectorLanes) (reads : Reads) (values : Values) (count : ℕ) (f : ℕ → ℕ) (s : ℕ) (e : Expr) : Type 0 where
-  pub value_is : (i : ℕ) → i < count → f (lane (slot own.group s) i) ≡ value reads (with own.counter i values) e
-  pub small : (i : ℕ) → i < count → value reads (with own.counter i values) e < 2 ^ 32
+pub record HoldsValue (lanes : VectorLanes) (reads : Reads) (values : Values) (count : ℕ) (f : ℕ → ℕ) (s : ℕ) (e : Expr) : Type 0 where
+  pub value_is : (i : ℕ) → i < count → f (lane (slot lanes.group s) i) ≡ value reads (with lanes.counter i values) e
+  pub small : (i : ℕ) → i < count → value reads (with lanes.counter i values) e < 2 ^ 32
 
 -- all that stays
 abbrev pub HoldsKept : VectorLanes → List Kept → Reads → Values → ℕ → (ℕ → ℕ) → Type 0
-HoldsKept own kept reads values count f = AllByRecursion (λ t. HoldsValue own reads values count f t.slot t.e.now) kept
+HoldsKept lanes kept reads values count f = AllByRecursion (λ t. HoldsValue lanes reads values count f t.slot t.e.now)
+    kept
 
 -- in groups below another one
 abbrev pub AreBelow : List Kept → ℕ → Type 0

@@ -18,7 +18,7 @@ use Rattle.task_code_vector_loops.specs.Runs.{least_left, left_by}
 
 -- ---- how many lanes
 
--- straight code that configures so many lanes and keeps what they hold; registers that the scope doesn't keep may change
+-- straight code that configures this many lanes and keeps what they hold; registers that the scope doesn't keep may change
 pub record Configured (world : World) (memory : List ℕ) (insns : List Insn) (scope : List Held) (f : ℕ → ℕ) (group : LaneGroup) (count : ℕ) : Type 0 where
   pub after : ℕ → ℕ
   pub line : Line world insns f memory after memory
@@ -27,11 +27,12 @@ pub record Configured (world : World) (memory : List ℕ) (insns : List Insn) (s
   pub lanes_stay : (q : ℕ) → 34 ≤ q → after q ≡ f q
 
 -- appended code does so, from what registers hold in the first iteration
-pub record Configures (old new : List ℕ) (scope : List Held) (own : VectorLanes) (count : Values → ℕ) : Type 0 where
+pub record Configures (old new : List ℕ) (scope : List Held) (vector_lanes : VectorLanes) (count : Values
+    → ℕ) : Type 0 where
   pub insns : List Insn
   pub emits : Emits old new insns
   pub does : (world : World) (memory : List ℕ) (values : Values) (f : ℕ → ℕ) → length memory ≡ world.size → AreHolders scope
-      → Knows world.hart scope (with own.counter 0 values) f → Configured world memory insns scope f own.group (count values)
+      → Knows world.hart scope (with vector_lanes.counter 0 values) f → Configured world memory insns scope f vector_lanes.group (count values)
 
 -- ---- where lanes begin
 
@@ -42,7 +43,7 @@ pub record Points (world : World) (memory : List ℕ) (insns : List Insn) (f : �
   pub value : after b ≡ v
   pub others : (q : ℕ) → q ≢ address_register → q ≢ scratch → q ≢ second_scratch → after q ≡ f q
 
--- appended code makes a register other than x0 point where a form stands in the first iteration
+-- appended code makes a register other than x0 point where a form is in the first iteration
 pub record MakesPointer (old new : List ℕ) (scope : List Held) (counter : Counter) (b : ℕ) (form : AffineForm) : Type 0 where
   pub insns : List Insn
   pub emits : Emits old new insns

@@ -11,7 +11,7 @@ abbrev pub is_fit : Option Trap → Bool
 is_fit None = true
 is_fit (Some trap) = false
 
--- what accesses read and write, in a text of so many words and a data of so many bytes
+-- what accesses read and write, in a text of this many words and a data of this many bytes
 abbrev pub read_if_fit : ℕ → ℕ → Kind → List Access → List ℕ
 read_if_fit words bytes kind accesses = if_fits (first_fault words bytes kind accesses) (touched (read_by kind accesses))
 

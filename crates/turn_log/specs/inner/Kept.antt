@@ -6,7 +6,7 @@ use Rattle.turn_log.specs.LogSpelling.{begins_with, expanded}
 use Rattle.turn_log.specs.declared.runs.Run.{Run}
 use Rattle.turn_log.specs.inner.RunEnds.{RunEnd}
 
--- the runs of the kept runs after so many turns
+-- the runs of the kept runs after this many turns
 abbrev pub runs_from : ℕ → List RunEnd → List Run
 runs_from start [] = []
 runs_from start (run_end ∷ run_ends) = record { hart = run_end.hart; length = run_end.end - start } ∷ runs_from run_end.end run_ends

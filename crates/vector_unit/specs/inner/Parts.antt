@@ -62,7 +62,7 @@ abbrev pub merged_register : Vectors → ℕ → Bool → NewElements → ℕ �
 merged_register state vd vm new part =
     register_of (width state) (merged (active_part state vm part) (new_part state new part) (register_part state vd part))
 
--- so many registers of a group from a part on with new elements
+-- this many registers of a group from a part on with new elements
 abbrev pub with_parts : Vectors → ℕ → Bool → NewElements → ℕ → ℕ → Vectors
 with_parts state vd vm new part zero = state
 with_parts state vd vm new part (suc others) =

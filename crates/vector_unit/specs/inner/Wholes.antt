@@ -6,7 +6,7 @@ use Rattle.vector_unit.specs.declared.operands.OtherOperand.{OtherOperand}
 use Rattle.vector_unit.specs.declared.operands.OtherOperand.TheVariants.{Register, Number, Immediate, Amount}
 use Rattle.vector_unit.specs.Vector.{Vectors, register, with_register, has_vill, is_supported, vsew_of, most_elements, width, count}
 
--- whether elements are words, and so many are all of a group
+-- whether elements are words, and this many are all of a group
 abbrev pub is_whole_of : ℕ → ℕ → Bool
 is_whole_of vtype vl = is_supported vtype && (vsew_of vtype == 2 && nat_le (most_elements vtype) vl)
 
@@ -31,7 +31,7 @@ words_of state (Amount amount) part = replicate 4 amount
 abbrev pub paired_words : Vectors → (ℕ → ℕ → ℕ) → ℕ → OtherOperand → ℕ → List ℕ
 paired_words state f vs2 other part = zip_with f (words_in state vs2 part) (words_of state other part)
 
--- so many registers of a group from a part on with elements of a width
+-- this many registers of a group from a part on with elements of a width
 abbrev pub with_each : Vectors → ℕ → ℕ → (ℕ → List ℕ) → ℕ → ℕ → Vectors
 with_each state w vd each part zero = state
 with_each state w vd each part (suc others) = with_register (with_each state w vd each (part + 1) others) (vd + part) (register_of w (each part))

@@ -9,11 +9,11 @@ use Rattle.bounds_inlining.proofs.counts.call_at.Goals as goal
 pub returns-in-Some : goal.returns-in-Some
 returns-in-Some c =
     let func = c.in-Some.func.now in
-    let found : func_in c.args.funcs.now (flagged c.args.flags.now) (c.args.place + 1) c.args.place ≡ Some c.in-Some.func.now = sym c.inlined_func.ensures
+    let found : func_in c.args.funcs.now (flagged c.args.flags.now) (c.args.func_index + 1) c.args.func_index ≡ Some c.in-Some.func.now = sym c.inlined_func.ensures
     ∙ ap option_copied c.in-Some.is in
     let made = made_same c.args.flags.now c.args.funcs.now c.args.table.now c.requires.known c.in-Some.func.now c.call_for.result c.sum_of.result
     c.sum_of.ensures c.call_for.ensures.one c.call_for.ensures.two in
     subst (λ (f : Option Func). SameCall (Some (count_call c.call_for.result)) (made_in counting (inside counting (flagged c.args.flags.now) c.args.funcs.now
-    c.args.place) f)) (sym found)
+    c.args.func_index) f)) (sym found)
     (subst (λ (n : ℕ). SameCall (Some (count_call c.call_for.result)) (Some (made_of counting (inside counting (flagged c.args.flags.now) c.args.funcs.now n)
     c.in-Some.func.now))) c.requires.next made)

@@ -12,8 +12,8 @@ returns c = λ flags funcs known.
     let u = c.updates_weight-updates.ensures flags funcs known
     ∙ ap (λ (updates : List Update). capped (updates_weight flags funcs updates c.as_slice-2.result.now)) c.as_slice.ensures
     ∙ ap (λ (stages : List Stage). capped (updates_weight flags funcs c.args.func.now.updates stages)) c.as_slice-2.ensures in
-    let own = stage_weight (nodes_in flags funcs c.args.func.now.pure) c.args.plan.now.pure in
+    let placement = stage_weight (nodes_in flags funcs c.args.func.now.pure) c.args.plan.now.pure in
     let others = updates_weight flags funcs c.args.func.now.updates c.args.plan.now.updates in
-    times_capped c.saturating_add.result c.consumer_copies.result (own + others) (consumer_copies c.args.plans.now c.args.own.now.place) c.saturating_mul.result
-    (plus_capped c.stage_weight-pure.result c.updates_weight-updates.result own others c.saturating_add.result p u c.saturating_add.ensures)
+    times_capped c.saturating_add.result c.consumer_copies.result (placement + others) (consumer_copies c.args.plans.now c.args.placement.now.place) c.saturating_mul.result
+    (plus_capped c.stage_weight-pure.result c.updates_weight-updates.result placement others c.saturating_add.result p u c.saturating_add.ensures)
     c.consumer_copies.ensures c.saturating_mul.ensures

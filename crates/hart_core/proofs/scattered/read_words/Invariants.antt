@@ -3,7 +3,7 @@ use Rattle.vector_unit.specs.Vector.{count}
 use Rattle.hart_core.specs.inner.Pieces.{AreRead}
 use Rattle.hart_core.proofs.scattered.read_words.Given as goal
 
--- the words of so many registers are read
+-- the words of this many registers are read
 abbrev pub invariant-loop-part : goal.invariant-loop-part
 invariant-loop-part g l = record {
   end : l.part-end ≡ count l.state / 4;

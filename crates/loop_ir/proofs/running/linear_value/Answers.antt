@@ -11,5 +11,5 @@ unfolding linear_value
 returns c =
     let values = values_of c.args.bindings.now in
     c.add.ensures
-    ∙ ap (λ (k : ℕ). word.add c.args.own.now.number k) (c.sum_of.ensures ∙ ap (λ (ts : List Term). sum_of values ts % 2 ^ 32) c.as_slice.ensures)
-    ∙ number_more c.args.own.now.number (sum_of values c.args.own.now.terms)
+    ∙ ap (λ (k : ℕ). word.add c.args.sum.now.number k) (c.sum_of.ensures ∙ ap (λ (ts : List Term). sum_of values ts % 2 ^ 32) c.as_slice.ensures)
+    ∙ number_more c.args.sum.now.number (sum_of values c.args.sum.now.terms)

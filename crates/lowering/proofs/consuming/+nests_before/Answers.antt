@@ -24,6 +24,7 @@ nests_before-requires t c =
 pub returns : goal.returns
 returns t c =
     let next : c.args.from + 1 ≡ suc c.args.from = omega arith in
-    One_more c.args.from c.in_ok-found.found c.args.inside c.in_ok-rest.rest c.in_ok-made.made c.in_ok-found.ensures
+    One_more c.args.from c.in_ok-found.found c.args.inside c.in_ok-rest.rest c.in_ok-statement.statement
+    c.in_ok-found.ensures
     (subst (λ (n : ℕ). HasNests c.args.plan.now.pipeline c.args.plan.now.schedule c.args.plan.now.boxes c.args.at n c.args.inside c.in_ok-rest.rest) next
-    c.in_ok-rest.ensures) c.in_ok-made.ensures
+    c.in_ok-rest.ensures) c.in_ok-statement.ensures

@@ -10,10 +10,11 @@ use Rattle.lowering.proofs.consuming.+nests_upto.Goals as goal
 pub returns-in_default-clause-does : goal.returns-in_default-clause-does
 returns-in_default-clause-does t c =
     subst (λ (n : ℕ). DoesNests c.args.plan.now.pipeline c.args.plan.now.schedule c.args.plan.now.boxes c.args.at c.args.computed.now.place
-    c.args.computed.now.func.now c.args.computed.now.own.now n c.in_ok-made.made) (omega (arith, c.in_default.ensures))
+    c.args.computed.now.func.now c.args.computed.now.own.now n c.in_ok-statement.statement)
+    (omega (arith, c.in_default.ensures))
     (pure_stage c.args.plan.now.pipeline c.args.plan.now.schedule c.args.plan.now.boxes c.schedule-schedule.ensures.plan.accepted
     c.schedule-schedule.ensures.plan.boxes c.args.at c.args.computed.now.place c.args.computed.now.func.now c.args.computed.now.plan.now
-    c.args.computed.now.own.now c.requires.parts c.in_ok-made.made c.in_ok-made.ensures.does)
+    c.args.computed.now.own.now c.requires.parts c.in_ok-statement.statement c.in_ok-statement.ensures.does)
 
 pub returns-in_default-get : goal.returns-in_default-get
 returns-in_default-get t c =
@@ -31,16 +32,16 @@ returns-in_default-get-2 t c =
 pub returns-clause-does : goal.returns-clause-does
 returns-clause-does t c =
     subst (λ (n : ℕ). DoesNests c.args.plan.now.pipeline c.args.plan.now.schedule c.args.plan.now.boxes c.args.at c.args.computed.now.place
-    c.args.computed.now.func.now c.args.computed.now.own.now n c.in_ok-made-2.made) (omega (arith, c.in-Some.ensures)) c.in_ok-made-2.ensures.does
+    c.args.computed.now.func.now c.args.computed.now.own.now n c.in_ok-statement-2.statement) (omega (arith, c.in-Some.ensures)) c.in_ok-statement-2.ensures.does
 
 pub returns-in_default-clause-sizes : goal.returns-in_default-clause-sizes
 returns-in_default-clause-sizes t c =
     let none : 0 ≡ c.args.count = omega (arith, c.in_default.ensures) in
-    subst (λ (n : ℕ). whole_size c.in_ok-made.made ≤ 64 * shares (flags_of c.args.plan.now.schedule.standings) c.args.plan.now.pipeline.funcs
-    c.args.computed.now.func.now c.args.computed.now.plan.now n) none c.in_ok-made.ensures.sizes
+    subst (λ (n : ℕ). whole_size c.in_ok-statement.statement ≤ 64 * shares (flags_of c.args.plan.now.schedule.standings) c.args.plan.now.pipeline.funcs
+    c.args.computed.now.func.now c.args.computed.now.plan.now n) none c.in_ok-statement.ensures.sizes
 
 pub returns-clause-sizes : goal.returns-clause-sizes
 returns-clause-sizes t c =
     let more : suc c.in-Some.number ≡ c.args.count = omega (arith, c.in-Some.ensures) in
-    subst (λ (n : ℕ). whole_size c.in_ok-made-2.made ≤ 64 * shares (flags_of c.args.plan.now.schedule.standings) c.args.plan.now.pipeline.funcs
-    c.args.computed.now.func.now c.args.computed.now.plan.now n) more c.in_ok-made-2.ensures.sizes
+    subst (λ (n : ℕ). whole_size c.in_ok-statement-2.statement ≤ 64 * shares (flags_of c.args.plan.now.schedule.standings) c.args.plan.now.pipeline.funcs
+    c.args.computed.now.func.now c.args.computed.now.plan.now n) more c.in_ok-statement-2.ensures.sizes

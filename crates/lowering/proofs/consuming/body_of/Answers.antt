@@ -29,5 +29,5 @@ returns c = record {
       (subst (λ (s : SizedLoops). HasLoops c.args.plan.now.pipeline c.args.plan.now.schedule c.args.plan.now.boxes c.args.consumer (counts s.extents s.splits)
       c.in_ok-leaf.leaf c.inside_parallel-inside.result.now c.in_ok-inner.inner) c.in_ok-sizes.ensures
       c.in_ok-inner.ensures));
-  begun = c.in_ok-made.ensures;
+  begun = c.in_ok-statement.ensures;
 }

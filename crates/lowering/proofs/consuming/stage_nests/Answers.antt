@@ -12,13 +12,13 @@ returns c = record {
   own = c.args.computed.now.own.now;
   parts = c.requires.parts;
   does = subst (λ (n : ℕ). DoesNests c.args.plan.now.pipeline c.args.plan.now.schedule c.args.plan.now.boxes c.args.at c.args.computed.now.place
-      c.args.computed.now.func.now c.args.computed.now.own.now n c.in_ok-made.made) c.len-count.ensures c.in_ok-made.ensures.does;
-  alone = c.in_ok-made.ensures.alone;
-  sound = c.in_ok-made.ensures.sound;
-  few = c.in_ok-made.ensures.few;
-  needs = c.in_ok-made.ensures.needs;
-  small = subst (λ (n : ℕ). whole_size c.in_ok-made.made ≤ 64 * shares (flags_of c.args.plan.now.schedule.standings) c.args.plan.now.pipeline.funcs
-      c.args.computed.now.func.now c.args.computed.now.plan.now n) c.len-count.ensures c.in_ok-made.ensures.sizes;
-  at_once = c.in_ok-made.ensures.at_once;
-  about = c.in_ok-made.ensures.about;
+      c.args.computed.now.func.now c.args.computed.now.own.now n c.in_ok-statement.statement) c.len-count.ensures c.in_ok-statement.ensures.does;
+  alone = c.in_ok-statement.ensures.alone;
+  sound = c.in_ok-statement.ensures.sound;
+  few = c.in_ok-statement.ensures.few;
+  needs = c.in_ok-statement.ensures.needs;
+  small = subst (λ (n : ℕ). whole_size c.in_ok-statement.statement ≤ 64 * shares (flags_of c.args.plan.now.schedule.standings) c.args.plan.now.pipeline.funcs
+      c.args.computed.now.func.now c.args.computed.now.plan.now n) c.len-count.ensures c.in_ok-statement.ensures.sizes;
+  at_once = c.in_ok-statement.ensures.at_once;
+  about = c.in_ok-statement.ensures.about;
 }

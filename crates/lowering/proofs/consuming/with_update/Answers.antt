@@ -48,14 +48,14 @@ returns-clause-does c =
     ∙ ap (λ (s : Schedule). s.funcs) c.schedule-schedule.ensures.value) (c.as_slice.ensures.value ∙ ap (λ (b : Boxes). b.funcs) c.boxes.ensures.value)
     (c.as_slice-standings.ensures ∙ ap (λ (s : Schedule). s.standings) c.schedule-schedule.ensures.value) c.in_ok-corners.ensures.are)
     c.in-Some.corner.now (ap (λ (l : List Corner). slice_get l c.args.of.now.computed.place) (sym c.deref.ensures.value) ∙ sym c.in-Some.ensures)
-    c.args.of.now.at c.args.of.now.update.now c.requires.update.update_is c.args.before c.in_ok-next.next c.in_ok-made.made c.in_ok-made.ensures
+    c.args.of.now.at c.args.of.now.update.now c.requires.update.update_is c.args.before c.in_ok-next.next c.in_ok-statement.statement c.in_ok-statement.ensures
     c.requires.before
     (subst (λ (l : List Corner). DoesUpdate c.args.plan.now.pipeline c.args.plan.now.schedule c.args.plan.now.boxes l c.args.of.now.computed.place
     c.args.of.now.computed.func.now c.in-Some.corner.now c.args.of.now.computed.own.now c.args.of.now.at c.args.of.now.update.now c.in_ok-next.next)
     c.deref-2.ensures.value c.in_ok-next.ensures.does)
 
 pub returns-clause-alone : goal.returns-clause-alone
-returns-clause-alone c = both_alone c.args.of.now.computed.place c.args.before c.in_ok-next.next c.in_ok-made.made c.in_ok-made.ensures c.requires.alone
+returns-clause-alone c = both_alone c.args.of.now.computed.place c.args.before c.in_ok-next.next c.in_ok-statement.statement c.in_ok-statement.ensures c.requires.alone
     c.in_ok-next.ensures.alone
 
 pub returns-clause-sound : goal.returns-clause-sound
@@ -68,20 +68,20 @@ returns-clause-sound c =
     ∙ ap (λ (s : Schedule). s.funcs) c.schedule-schedule.ensures.value) (c.as_slice.ensures.value ∙ ap (λ (b : Boxes). b.funcs) c.boxes.ensures.value)
     (c.as_slice-standings.ensures ∙ ap (λ (s : Schedule). s.standings) c.schedule-schedule.ensures.value) c.in_ok-corners.ensures.are)
     c.in-Some.corner.now (ap (λ (l : List Corner). slice_get l c.args.of.now.computed.place) (sym c.deref.ensures.value) ∙ sym c.in-Some.ensures)
-    c.args.of.now.at c.args.of.now.update.now c.requires.update.update_is c.args.before c.in_ok-next.next c.in_ok-made.made c.in_ok-made.ensures
+    c.args.of.now.at c.args.of.now.update.now c.requires.update.update_is c.args.before c.in_ok-next.next c.in_ok-statement.statement c.in_ok-statement.ensures
     c.requires.sound
     (subst (λ (l : List Corner). AreSoundLoops c.args.plan.now.pipeline c.args.plan.now.schedule c.args.plan.now.boxes l c.args.of.now.computed.place
     c.in-Some.corner.now c.args.of.now.computed.own.now c.args.of.now.update.now c.in_ok-next.next) c.deref-2.ensures.value c.in_ok-next.ensures.sound)
 
 pub returns-clause-at_once : goal.returns-clause-at_once
 returns-clause-at_once c = λ reads values small.
-    c.in_ok-made.ensures.at_once reads values
+    c.in_ok-statement.ensures.at_once reads values
     ∙ and_from (may_be_at_once reads c.args.before values) (may_be_at_once reads c.in_ok-next.next values) (c.requires.at_once reads values small)
     (c.in_ok-next.ensures.at_once reads values small)
 
 pub returns-clause-about : goal.returns-clause-about
 returns-clause-about c =
-    c.in_ok-made.ensures.about c.args.of.now.computed.place
+    c.in_ok-statement.ensures.about c.args.of.now.computed.place
     ∙ and_from (is_about c.args.of.now.computed.place c.args.before) (is_about c.args.of.now.computed.place c.in_ok-next.next) c.requires.about
     c.in_ok-next.ensures.about
 
@@ -95,6 +95,6 @@ returns-clause-sizes c =
     c.requires.update.update_is
     ∙ ap (λ (s : Option Stage). update_share flags c.args.plan.now.pipeline.funcs (Some c.args.of.now.update.now) s) c.requires.update.stage_is in
     let next = c.in_ok-next.ensures.sizes (subst AreShort (sym c.deref-2.ensures.value) c.in_ok-corners.ensures.short) in
-    let both = c.in_ok-made.ensures.size_is in
+    let both = c.in_ok-statement.ensures.size_is in
     let before = c.requires.sizes in
     omega (arith, own, next, both, before)

@@ -3,4 +3,5 @@ use Rattle.lowering.proofs.BaseWords.{stride_is}
 use Rattle.lowering.proofs.corners.stride_of.Goals as goal
 
 pub returns : goal.returns
-returns c = ap (λ n. (n + c.args.own.less) % 2 ^ 32) c.subtract.ensures ∙ stride_is c.args.own.more c.args.own.less
+returns c = ap (λ n. (n + c.args.multiple.less) % 2 ^ 32) c.subtract.ensures ∙ stride_is c.args.multiple.more
+    c.args.multiple.less

@@ -55,18 +55,18 @@ returns-clause-does c =
     fills c.args.plan.now.pipeline c.args.plan.now.schedule c.args.plan.now.boxes c.store_of.ensures.rules c.schedule-schedule.ensures.plan.accepted
     c.schedule-schedule.ensures.plan.boxes c.args.at c.args.computed.now.place c.args.computed.now.func.now c.args.computed.now.plan.now
     c.args.computed.now.own.now c.requires.parts
-    c.in_ok-store.store c.in_ok-store.ensures.stores c.in_ok-made.made
-    (subst (λ (l : List Loop). Repeats c.args.computed.now.place c.in_ok-made.made c.in_ok-store.store (wholes (extents_of c.args.computed.now.own.now)
+    c.in_ok-store.store c.in_ok-store.ensures.stores c.in_ok-statement.statement
+    (subst (λ (l : List Loop). Repeats c.args.computed.now.place c.in_ok-statement.statement c.in_ok-store.store (wholes (extents_of c.args.computed.now.own.now)
     c.args.computed.now.plan.now.pure.splits l)) c.as_slice-2.ensures
-    (subst (λ (l : List Split). Repeats c.args.computed.now.place c.in_ok-made.made c.in_ok-store.store (wholes (extents_of c.args.computed.now.own.now) l
+    (subst (λ (l : List Split). Repeats c.args.computed.now.place c.in_ok-statement.statement c.in_ok-store.store (wholes (extents_of c.args.computed.now.own.now) l
     c.as_slice-2.result.now)) c.as_slice.ensures
-    (subst (λ (e : Extents). Repeats c.args.computed.now.place c.in_ok-made.made c.in_ok-store.store (wholes e c.as_slice.result.now c.as_slice-2.result.now))
-    c.extents_of-extents.ensures c.in_ok-made.ensures.repeats)))
+    (subst (λ (e : Extents). Repeats c.args.computed.now.place c.in_ok-statement.statement c.in_ok-store.store (wholes e c.as_slice.result.now c.as_slice-2.result.now))
+    c.extents_of-extents.ensures c.in_ok-statement.ensures.repeats)))
 
 pub returns-clause-alone : goal.returns-clause-alone
 returns-clause-alone c =
-    nest_alone c.args.computed.now.place c.in_ok-made.made c.in_ok-store.store (wholes c.extents_of-extents.result c.as_slice.result.now
-    c.as_slice-2.result.now) c.in_ok-made.ensures.repeats
+    nest_alone c.args.computed.now.place c.in_ok-statement.statement c.in_ok-store.store (wholes c.extents_of-extents.result c.as_slice.result.now
+    c.as_slice-2.result.now) c.in_ok-statement.ensures.repeats
     (pure_alone c.args.computed.now.place c.in_ok-store.store c.in_ok-store.ensures.stores.hits)
 
 pub returns-clause-sound : goal.returns-clause-sound
@@ -74,13 +74,13 @@ returns-clause-sound c =
     touches c.args.plan.now.pipeline c.args.plan.now.schedule c.args.plan.now.boxes c.store_of.ensures.rules c.schedule-schedule.ensures.plan.accepted
     c.schedule-schedule.ensures.plan.boxes c.args.at c.args.computed.now.place c.args.computed.now.func.now c.args.computed.now.plan.now
     c.args.computed.now.own.now c.requires.parts
-    c.in_ok-store.store c.in_ok-store.ensures.stores c.in_ok-made.made
-    (subst (λ (l : List Loop). Repeats c.args.computed.now.place c.in_ok-made.made c.in_ok-store.store (wholes (extents_of c.args.computed.now.own.now)
+    c.in_ok-store.store c.in_ok-store.ensures.stores c.in_ok-statement.statement
+    (subst (λ (l : List Loop). Repeats c.args.computed.now.place c.in_ok-statement.statement c.in_ok-store.store (wholes (extents_of c.args.computed.now.own.now)
     c.args.computed.now.plan.now.pure.splits l)) c.as_slice-2.ensures
-    (subst (λ (l : List Split). Repeats c.args.computed.now.place c.in_ok-made.made c.in_ok-store.store (wholes (extents_of c.args.computed.now.own.now) l
+    (subst (λ (l : List Split). Repeats c.args.computed.now.place c.in_ok-statement.statement c.in_ok-store.store (wholes (extents_of c.args.computed.now.own.now) l
     c.as_slice-2.result.now)) c.as_slice.ensures
-    (subst (λ (e : Extents). Repeats c.args.computed.now.place c.in_ok-made.made c.in_ok-store.store (wholes e c.as_slice.result.now c.as_slice-2.result.now))
-    c.extents_of-extents.ensures c.in_ok-made.ensures.repeats)))
+    (subst (λ (e : Extents). Repeats c.args.computed.now.place c.in_ok-statement.statement c.in_ok-store.store (wholes e c.as_slice.result.now c.as_slice-2.result.now))
+    c.extents_of-extents.ensures c.in_ok-statement.ensures.repeats)))
 
 pub returns-clause-few : goal.returns-clause-few
 returns-clause-few c =
@@ -94,7 +94,7 @@ returns-clause-few c =
     (places.At c.args.at) produced c.requires.parts).few in
     let el = ap (λ (x : List Loop). length x) c.as_slice-2.ensures in
     let es = ap (λ (x : List Split). length x) c.as_slice.ensures in
-    let d = c.in_ok-made.ensures.depth in
+    let d = c.in_ok-statement.ensures.depth in
     let z = c.in_ok-store.ensures.depth in
     omega (arith, l, s, el, es, d, z)
 
@@ -103,7 +103,7 @@ returns-clause-needs c =
     let produced = produced_before c.args.plan.now.pipeline c.args.plan.now.schedule c.schedule-schedule.ensures.plan.accepted c.args.computed.now.place
     c.requires.parts.standing c.requires.parts.there c.args.at c.requires.parts.placed_is in
     let computed = subst (λ (p : ComputeLevel). IsComputed c.args.computed.now.place p) (sym c.requires.parts.placed_is) produced in
-    let same = c.in_ok-made.ensures.needs in
+    let same = c.in_ok-statement.ensures.needs in
     let few = c.in_ok-store.ensures.needs in
     pure-most c.args.plan.now.pipeline c.args.plan.now.schedule c.store_of.ensures.rules c.args.computed.now.place c.args.computed.now.func.now
     c.args.computed.now.plan.now c.requires.parts.standing c.requires.parts.func_is c.requires.parts.plan_is c.requires.parts.there computed
@@ -117,7 +117,7 @@ returns-clause-at_once c = λ reads values small.
     c.args.computed.now.plan.now c.args.computed.now.own.now c.schedule-schedule.ensures.plan.accepted c.schedule-schedule.ensures.plan.boxes
     (places.At c.args.at) produced c.requires.parts in
     let store = c.in_ok-store.ensures.stores in
-    c.in_ok-made.ensures.loop_lanes [] c.in_ok-store.ensures.leaf
+    c.in_ok-statement.ensures.loop_lanes [] c.in_ok-store.ensures.leaf
     (subst (λ (ls : List Loop). MayBeUnder c.args.computed.now.place c.extents_of-extents.result c.as_slice.result.now ls [] c.in_ok-store.store)
     (sym c.as_slice-2.ensures)
     (subst (λ (l : List Split). MayBeUnder c.args.computed.now.place c.extents_of-extents.result l c.args.computed.now.plan.now.pure.loops []
@@ -141,7 +141,7 @@ returns-clause-sizes c =
     c.args.computed.now.func.now c.requires.parts.func_is in
     nest-light c.args.computed.now.func.now None c.extents_of-extents.result c.args.computed.now.plan.now.pure facts.0 (whole_size c.in_ok-store.store)
     (nodes_in (flags_of c.args.plan.now.schedule.standings) c.args.plan.now.pipeline.funcs c.args.computed.now.func.now.pure) more
-    (omega (arith, given, counts)) (whole_size c.in_ok-made.made)
+    (omega (arith, given, counts)) (whole_size c.in_ok-statement.statement)
     (same-nest c.extents_of-extents.result c.as_slice.result.now c.args.computed.now.plan.now.pure.splits c.as_slice-2.result.now
-    c.args.computed.now.plan.now.pure.loops (whole_size c.in_ok-made.made) (whole_size c.in_ok-store.store)
-    c.as_slice.ensures c.as_slice-2.ensures c.in_ok-made.ensures.sizes)
+    c.args.computed.now.plan.now.pure.loops (whole_size c.in_ok-statement.statement) (whole_size c.in_ok-store.store)
+    c.as_slice.ensures c.as_slice-2.ensures c.in_ok-statement.ensures.sizes)

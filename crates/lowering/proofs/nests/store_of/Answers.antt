@@ -30,21 +30,23 @@ returns-clause-stores c =
       is_corner = subst (λ (l : List FuncPlan). IsCorner l c.args.placed c.args.computed.now.own.now c.in_ok-corner.corner) (c.as_slice-plans.ensures
           ∙ ap (λ (s : Schedule). s.funcs) c.schedule-schedule.ensures.value) c.in_ok-corner.ensures.is;
       stores = subst (λ (l : List Corner). StoresPure l (flagged (flags_of c.args.plan.now.schedule.standings)) c.args.plan.now.pipeline.funcs
-          c.args.computed.now.place c.in_ok-corner.corner c.args.computed.now.func.now.pure c.in_ok-made.made) c.as_slice-3.ensures.value
+          c.args.computed.now.place c.in_ok-corner.corner c.args.computed.now.func.now.pure c.in_ok-statement.statement) c.as_slice-3.ensures.value
           (subst (λ (l : List Func). StoresPure c.as_slice-3.result.now (flagged (flags_of c.args.plan.now.schedule.standings)) l c.args.computed.now.place
-          c.in_ok-corner.corner c.args.computed.now.func.now.pure c.in_ok-made.made) (c.funcs-funcs.ensures.value
+          c.in_ok-corner.corner c.args.computed.now.func.now.pure c.in_ok-statement.statement)
+          (c.funcs-funcs.ensures.value
           ∙ ap (λ (p : Pipeline). p.funcs) c.pipeline.ensures.value)
           (subst (λ (f : List Bool). StoresPure c.as_slice-3.result.now (flagged f) c.funcs-funcs.result.now c.args.computed.now.place c.in_ok-corner.corner
-          c.args.computed.now.func.now.pure c.in_ok-made.made) flags_are c.in_ok-made.ensures.stores));
-      hits = c.in_ok-made.ensures.hits;
-      misses = c.in_ok-made.ensures.misses;
+          c.args.computed.now.func.now.pure c.in_ok-statement.statement) flags_are c.in_ok-statement.ensures.stores));
+      hits = c.in_ok-statement.ensures.hits;
+      misses = c.in_ok-statement.ensures.misses;
       sound = subst (λ (l : List Corner). IsSoundPure l (flagged (flags_of c.args.plan.now.schedule.standings)) c.args.plan.now.pipeline.funcs
-          c.args.computed.now.place c.in_ok-corner.corner c.args.computed.now.func.now.pure c.in_ok-made.made) c.as_slice-3.ensures.value
+          c.args.computed.now.place c.in_ok-corner.corner c.args.computed.now.func.now.pure c.in_ok-statement.statement) c.as_slice-3.ensures.value
           (subst (λ (l : List Func). IsSoundPure c.as_slice-3.result.now (flagged (flags_of c.args.plan.now.schedule.standings)) l c.args.computed.now.place
-          c.in_ok-corner.corner c.args.computed.now.func.now.pure c.in_ok-made.made) (c.funcs-funcs.ensures.value
+          c.in_ok-corner.corner c.args.computed.now.func.now.pure c.in_ok-statement.statement)
+          (c.funcs-funcs.ensures.value
           ∙ ap (λ (p : Pipeline). p.funcs) c.pipeline.ensures.value)
           (subst (λ (f : List Bool). IsSoundPure c.as_slice-3.result.now (flagged f) c.funcs-funcs.result.now c.args.computed.now.place c.in_ok-corner.corner
-          c.args.computed.now.func.now.pure c.in_ok-made.made) flags_are c.in_ok-made.ensures.sound));
+          c.args.computed.now.func.now.pure c.in_ok-statement.statement) flags_are c.in_ok-statement.ensures.sound));
     }
 
 pub returns-clause-sizes : goal.returns-clause-sizes
@@ -52,8 +54,8 @@ returns-clause-sizes c =
     let flags_are = c.as_slice-2.ensures.value ∙ (c.in_ok-flags.ensures ∙ ap flags_of (c.as_slice-standings.ensures
     ∙ ap (λ (s : Schedule). s.standings) c.schedule-schedule.ensures.value)) in
     let short = subst AreShort (sym c.as_slice-3.ensures.value) c.in_ok-corners.ensures.short in
-    subst (λ (l : List Func). whole_size c.in_ok-made.made + 8 ≤ 64 * counted (flags_of c.args.plan.now.schedule.standings) l c.args.computed.now.place
+    subst (λ (l : List Func). whole_size c.in_ok-statement.statement + 8 ≤ 64 * counted (flags_of c.args.plan.now.schedule.standings) l c.args.computed.now.place
     c.args.computed.now.func.now.pure) (c.funcs-funcs.ensures.value ∙ ap (λ (p : Pipeline). p.funcs) c.pipeline.ensures.value)
-    (subst (λ (f : List Bool). whole_size c.in_ok-made.made + 8 ≤ 64 * counted f c.funcs-funcs.result.now c.args.computed.now.place
+    (subst (λ (f : List Bool). whole_size c.in_ok-statement.statement + 8 ≤ 64 * counted f c.funcs-funcs.result.now c.args.computed.now.place
     c.args.computed.now.func.now.pure) flags_are
-    (c.in_ok-made.ensures.sizes short c.in_ok-corner.ensures.short))
+    (c.in_ok-statement.ensures.sizes short c.in_ok-corner.ensures.short))

@@ -32,9 +32,9 @@ returns-in-None-clause-needs c =
     subst (λ (o : Option Expr). need (terms.Number 0) ≤ second_taken c.args.reader.now.flags.now c.args.reader.now.funcs.now c.args.reader.now.place o)
     (sym c.in-None.is) (omega (arith, one))
 
-pub returns-in_ok-made-in-Some-clause-loads : goal.returns-in_ok-made-in-Some-clause-loads
-returns-in_ok-made-in-Some-clause-loads c = λ reads values test h.
-    c.in_ok-made-in-Some.ensures.loads reads values test
+pub returns-in_ok-expression-in-Some-clause-loads : goal.returns-in_ok-expression-in-Some-clause-loads
+returns-in_ok-expression-in-Some-clause-loads c = λ reads values test h.
+    c.in_ok-expression-in-Some.ensures.loads reads values test
     (subst (λ (o : Option Expr). Hold (λ point. test (place_in c.args.reader.now.corners.now values point))
     (spec.points_of_index (λ e. (inlined (seeing (placed c.args.reader.now.corners.now values reads)) (flagged c.args.reader.now.flags.now)
     c.args.reader.now.funcs.now c.args.reader.now.place (seen_variable (environment values c.args.arguments.now)) e).points) o)) c.in-Some.is h)
@@ -44,7 +44,7 @@ returns-in-None-clause-sizes c = λ short few.
     subst (λ (o : Option Expr). IsGivenIndex c.args.reader.now.flags.now c.args.reader.now.funcs.now c.args.reader.now.place o (terms.Number 0))
     (sym c.in-None.is) refl
 
-pub returns-in_ok-made-in-Some-clause-sizes : goal.returns-in_ok-made-in-Some-clause-sizes
-returns-in_ok-made-in-Some-clause-sizes c = λ short few.
-    subst (λ (o : Option Expr). IsGivenIndex c.args.reader.now.flags.now c.args.reader.now.funcs.now c.args.reader.now.place o c.in_ok-made-in-Some.made)
-    (sym c.in-Some.is) (c.in_ok-made-in-Some.ensures.sizes short few)
+pub returns-in_ok-expression-in-Some-clause-sizes : goal.returns-in_ok-expression-in-Some-clause-sizes
+returns-in_ok-expression-in-Some-clause-sizes c = λ short few.
+    subst (λ (o : Option Expr). IsGivenIndex c.args.reader.now.flags.now c.args.reader.now.funcs.now c.args.reader.now.place o c.in_ok-expression-in-Some.expression)
+    (sym c.in-Some.is) (c.in_ok-expression-in-Some.ensures.sizes short few)

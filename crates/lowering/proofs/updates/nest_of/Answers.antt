@@ -9,14 +9,14 @@ use Rattle.lowering.proofs.updates.nest_of.Goals as goal
 
 pub returns-clause-loop_lanes : goal.returns-clause-loop_lanes
 returns-clause-loop_lanes c =
-    subst (λ (l : List Split). (outside : List Loop) → IsLeaf c.args.store → MayBeUnder c.args.place c.args.extents l c.args.stage.now.loops outside
+    subst (λ (l : List Split). (outside : List Loop) → IsLeaf c.args.store → MayBeUnder c.args.func_index c.args.extents l c.args.stage.now.loops outside
     c.args.store
-    → MayBeAtOnce c.args.place (counts c.args.extents l) outside c.in_ok-made.made) c.as_slice.ensures
-    (subst (λ (ls : List Loop). (outside : List Loop) → IsLeaf c.args.store → MayBeUnder c.args.place c.args.extents c.as_slice.result.now ls outside
+    → MayBeAtOnce c.args.func_index (counts c.args.extents l) outside c.in_ok-statement.statement) c.as_slice.ensures
+    (subst (λ (ls : List Loop). (outside : List Loop) → IsLeaf c.args.store → MayBeUnder c.args.func_index c.args.extents c.as_slice.result.now ls outside
     c.args.store
-    → MayBeAtOnce c.args.place (counts c.args.extents c.as_slice.result.now) outside c.in_ok-made.made) c.as_slice-2.ensures c.in_ok-made.ensures.loop_lanes)
+    → MayBeAtOnce c.args.func_index (counts c.args.extents c.as_slice.result.now) outside c.in_ok-statement.statement) c.as_slice-2.ensures c.in_ok-statement.ensures.loop_lanes)
 
 pub returns-clause-sizes : goal.returns-clause-sizes
 returns-clause-sizes c =
     same-nest c.args.extents c.as_slice.result.now c.args.stage.now.splits c.as_slice-2.result.now c.args.stage.now.loops
-    (whole_size c.in_ok-made.made) (whole_size c.args.store) c.as_slice.ensures c.as_slice-2.ensures c.in_ok-made.ensures.sizes
+    (whole_size c.in_ok-statement.statement) (whole_size c.args.store) c.as_slice.ensures c.as_slice-2.ensures c.in_ok-statement.ensures.sizes

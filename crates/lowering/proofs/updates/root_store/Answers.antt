@@ -25,15 +25,15 @@ returns-clause-stores c = record {
       ∙ ap (λ (s : Schedule). s.funcs) c.schedule-schedule.ensures.value)
       c.in_ok-corner.ensures.is;
   stores = subst (λ (l : List Corner). spec.StoresUpdate l (flagged (flags_of c.args.plan.now.schedule.standings)) c.args.plan.now.pipeline.funcs
-      c.args.of.now.computed.place c.in_ok-corner.corner c.args.of.now.update.now c.in_ok-made.made)
-      c.as_slice-2.ensures.value c.in_ok-made.ensures.stores;
+      c.args.of.now.computed.place c.in_ok-corner.corner c.args.of.now.update.now c.in_ok-statement.statement)
+      c.as_slice-2.ensures.value c.in_ok-statement.ensures.stores;
   hits = subst (λ (l : List Corner). spec.HitsUpdate l (flagged (flags_of c.args.plan.now.schedule.standings)) c.args.plan.now.pipeline.funcs
-      c.args.of.now.computed.place c.in_ok-corner.corner c.args.of.now.update.now c.in_ok-made.made)
-      c.as_slice-2.ensures.value c.in_ok-made.ensures.hits;
+      c.args.of.now.computed.place c.in_ok-corner.corner c.args.of.now.update.now c.in_ok-statement.statement)
+      c.as_slice-2.ensures.value c.in_ok-statement.ensures.hits;
   sound = subst (λ (l : List Corner). spec.IsSoundUpdate l (flagged (flags_of c.args.plan.now.schedule.standings)) c.args.plan.now.pipeline.funcs
-      c.args.of.now.computed.place c.in_ok-corner.corner c.args.of.now.update.now c.in_ok-made.made)
-      c.as_slice-2.ensures.value c.in_ok-made.ensures.sound;
+      c.args.of.now.computed.place c.in_ok-corner.corner c.args.of.now.update.now c.in_ok-statement.statement)
+      c.as_slice-2.ensures.value c.in_ok-statement.ensures.sound;
 }
 
 pub returns-clause-sizes : goal.returns-clause-sizes
-returns-clause-sizes c = c.in_ok-made.ensures.sizes (subst AreShort (sym c.as_slice-2.ensures.value) c.in_ok-corners.ensures.short) c.in_ok-corner.ensures.short
+returns-clause-sizes c = c.in_ok-statement.ensures.sizes (subst AreShort (sym c.as_slice-2.ensures.value) c.in_ok-corners.ensures.short) c.in_ok-corner.ensures.short

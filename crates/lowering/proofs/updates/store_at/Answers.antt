@@ -12,35 +12,35 @@ use Rattle.lowering.proofs.updates.store_at.Goals as goal
 pub returns-clause-hits : goal.returns-clause-hits
 returns-clause-hits c =
     subst (λ (l : List Func). spec.HitsUpdate c.args.corners.now (flagged (flags_of c.args.plan.now.schedule.standings)) l c.args.of.now.computed.place
-    c.args.corner.now c.args.of.now.update.now c.in_ok-made.made) (c.funcs.ensures.value ∙ ap (λ (p : Pipeline). p.funcs) c.pipeline.ensures.value)
+    c.args.corner.now c.args.of.now.update.now c.in_ok-statement.statement) (c.funcs.ensures.value ∙ ap (λ (p : Pipeline). p.funcs) c.pipeline.ensures.value)
     (subst (λ (f : List Bool). spec.HitsUpdate c.args.corners.now (flagged f) c.funcs.result.now c.args.of.now.computed.place c.args.corner.now
-    c.args.of.now.update.now c.in_ok-made.made)
+    c.args.of.now.update.now c.in_ok-statement.statement)
     (c.as_slice-2.ensures.value ∙ (c.in_ok-flags.ensures ∙ ap flags_of (c.as_slice.ensures ∙ ap (λ (s : Schedule). s.standings) c.schedule.ensures.value)))
-    c.in_ok-made.ensures.hits)
+    c.in_ok-statement.ensures.hits)
 
 pub returns-clause-sound : goal.returns-clause-sound
 returns-clause-sound c =
     subst (λ (l : List Func). spec.IsSoundUpdate c.args.corners.now (flagged (flags_of c.args.plan.now.schedule.standings)) l c.args.of.now.computed.place
-    c.args.corner.now c.args.of.now.update.now c.in_ok-made.made) (c.funcs.ensures.value ∙ ap (λ (p : Pipeline). p.funcs) c.pipeline.ensures.value)
+    c.args.corner.now c.args.of.now.update.now c.in_ok-statement.statement) (c.funcs.ensures.value ∙ ap (λ (p : Pipeline). p.funcs) c.pipeline.ensures.value)
     (subst (λ (f : List Bool). spec.IsSoundUpdate c.args.corners.now (flagged f) c.funcs.result.now c.args.of.now.computed.place c.args.corner.now
-    c.args.of.now.update.now c.in_ok-made.made)
+    c.args.of.now.update.now c.in_ok-statement.statement)
     (c.as_slice-2.ensures.value ∙ (c.in_ok-flags.ensures ∙ ap flags_of (c.as_slice.ensures ∙ ap (λ (s : Schedule). s.standings) c.schedule.ensures.value)))
-    c.in_ok-made.ensures.sound)
+    c.in_ok-statement.ensures.sound)
 
 pub returns-clause-stores : goal.returns-clause-stores
 returns-clause-stores c =
     subst (λ (l : List Func). spec.StoresUpdate c.args.corners.now (flagged (flags_of c.args.plan.now.schedule.standings)) l c.args.of.now.computed.place
-    c.args.corner.now c.args.of.now.update.now c.in_ok-made.made) (c.funcs.ensures.value ∙ ap (λ (p : Pipeline). p.funcs) c.pipeline.ensures.value)
+    c.args.corner.now c.args.of.now.update.now c.in_ok-statement.statement) (c.funcs.ensures.value ∙ ap (λ (p : Pipeline). p.funcs) c.pipeline.ensures.value)
     (subst (λ (f : List Bool). spec.StoresUpdate c.args.corners.now (flagged f) c.funcs.result.now c.args.of.now.computed.place c.args.corner.now
-    c.args.of.now.update.now c.in_ok-made.made)
+    c.args.of.now.update.now c.in_ok-statement.statement)
     (c.as_slice-2.ensures.value ∙ (c.in_ok-flags.ensures ∙ ap flags_of (c.as_slice.ensures ∙ ap (λ (s : Schedule). s.standings) c.schedule.ensures.value)))
-    c.in_ok-made.ensures.stores)
+    c.in_ok-statement.ensures.stores)
 
 pub returns-clause-sizes : goal.returns-clause-sizes
 returns-clause-sizes c = λ short few.
-    subst (λ (l : List Func). whole_size c.in_ok-made.made + 8 ≤ 64 * update_counted (flags_of c.args.plan.now.schedule.standings) l
+    subst (λ (l : List Func). whole_size c.in_ok-statement.statement + 8 ≤ 64 * update_counted (flags_of c.args.plan.now.schedule.standings) l
     c.args.of.now.computed.place c.args.of.now.update.now) (c.funcs.ensures.value ∙ ap (λ (p : Pipeline). p.funcs) c.pipeline.ensures.value)
-    (subst (λ (f : List Bool). whole_size c.in_ok-made.made + 8 ≤ 64 * update_counted f c.funcs.result.now c.args.of.now.computed.place
+    (subst (λ (f : List Bool). whole_size c.in_ok-statement.statement + 8 ≤ 64 * update_counted f c.funcs.result.now c.args.of.now.computed.place
     c.args.of.now.update.now)
     (c.as_slice-2.ensures.value ∙ (c.in_ok-flags.ensures ∙ ap flags_of (c.as_slice.ensures ∙ ap (λ (s : Schedule). s.standings) c.schedule.ensures.value)))
-    (c.in_ok-made.ensures.sizes short few))
+    (c.in_ok-statement.ensures.sizes short few))

@@ -53,14 +53,14 @@ returns-clause-does c =
     c.pipeline.ensures.plan.accepted c.pipeline.ensures.plan.boxes c.args.corners.now c.args.of.now.computed.place c.args.of.now.computed.func.now
     c.args.of.now.computed.plan.now c.args.of.now.computed.own.now
     c.requires.computed c.args.of.now.at c.args.of.now.update.now c.args.of.now.stage.now c.requires.at c.args.corner.now c.requires.corner c.in_ok-store.store
-    c.in_ok-store.ensures.stores c.in_ok-made.made
-    (subst (λ (e : Extents). Repeats c.args.of.now.computed.place c.in_ok-made.made c.in_ok-store.store (wholes e c.args.of.now.stage.now.splits
-    c.args.of.now.stage.now.loops)) c.update_extents-extents.ensures c.in_ok-made.ensures.repeats)
+    c.in_ok-store.ensures.stores c.in_ok-statement.statement
+    (subst (λ (e : Extents). Repeats c.args.of.now.computed.place c.in_ok-statement.statement c.in_ok-store.store (wholes e c.args.of.now.stage.now.splits
+    c.args.of.now.stage.now.loops)) c.update_extents-extents.ensures c.in_ok-statement.ensures.repeats)
 
 pub returns-clause-alone : goal.returns-clause-alone
 returns-clause-alone c =
-    nest_alone c.args.of.now.computed.place c.in_ok-made.made c.in_ok-store.store (wholes c.update_extents-extents.result c.args.of.now.stage.now.splits
-    c.args.of.now.stage.now.loops) c.in_ok-made.ensures.repeats
+    nest_alone c.args.of.now.computed.place c.in_ok-statement.statement c.in_ok-store.store (wholes c.update_extents-extents.result c.args.of.now.stage.now.splits
+    c.args.of.now.stage.now.loops) c.in_ok-statement.ensures.repeats
     (update_alone c.args.corners.now (flagged (flags_of c.args.plan.now.schedule.standings)) c.args.plan.now.pipeline.funcs c.args.of.now.computed.place
     c.args.corner.now c.args.of.now.update.now c.in_ok-store.store c.in_ok-store.ensures.hits)
 
@@ -70,9 +70,9 @@ returns-clause-sound c =
     c.pipeline.ensures.plan.accepted c.pipeline.ensures.plan.boxes c.args.corners.now c.args.of.now.computed.place c.args.of.now.computed.func.now
     c.args.of.now.computed.plan.now c.args.of.now.computed.own.now
     c.requires.computed c.args.of.now.at c.args.of.now.update.now c.args.of.now.stage.now c.requires.at c.args.corner.now c.requires.corner c.in_ok-store.store
-    c.in_ok-store.ensures.stores c.in_ok-made.made
-    (subst (λ (e : Extents). Repeats c.args.of.now.computed.place c.in_ok-made.made c.in_ok-store.store (wholes e c.args.of.now.stage.now.splits
-    c.args.of.now.stage.now.loops)) c.update_extents-extents.ensures c.in_ok-made.ensures.repeats)
+    c.in_ok-store.ensures.stores c.in_ok-statement.statement
+    (subst (λ (e : Extents). Repeats c.args.of.now.computed.place c.in_ok-statement.statement c.in_ok-store.store (wholes e c.args.of.now.stage.now.splits
+    c.args.of.now.stage.now.loops)) c.update_extents-extents.ensures c.in_ok-statement.ensures.repeats)
     c.in_ok-store.ensures.sound
 
 pub returns-clause-few : goal.returns-clause-few
@@ -83,13 +83,13 @@ returns-clause-few c =
     let s = (splits c.args.plan.now.pipeline c.args.plan.now.schedule c.pipeline.ensures.plan.accepted c.args.of.now.computed.place
     c.args.of.now.computed.func.now c.args.of.now.computed.plan.now c.requires.computed.standing c.requires.computed.func_is c.requires.computed.there
     c.args.of.now.at c.args.of.now.update.now c.args.of.now.stage.now c.requires.at).few in
-    let d = c.in_ok-made.ensures.depth in
+    let d = c.in_ok-statement.ensures.depth in
     let z = c.in_ok-store.ensures.depth in
     omega (arith, l, s, d, z)
 
 pub returns-clause-needs : goal.returns-clause-needs
 returns-clause-needs c =
-    let same = c.in_ok-made.ensures.needs in
+    let same = c.in_ok-statement.ensures.needs in
     let few = c.in_ok-store.ensures.needs in
     update-most c.args.plan.now.pipeline c.args.plan.now.schedule (subst IsWellFormed c.pipeline.ensures.value c.funcs-funcs.ensures.rules)
     c.args.of.now.computed.place c.args.of.now.computed.func.now c.args.of.now.computed.plan.now c.requires.computed.standing c.requires.computed.func_is
@@ -101,7 +101,7 @@ returns-clause-at_once c = λ reads values small.
     let facts = staged c.args.plan.now.pipeline c.args.plan.now.schedule c.pipeline.ensures.plan.accepted c.args.of.now.computed.place
     c.args.of.now.computed.func.now c.args.of.now.computed.plan.now c.requires.computed.standing c.requires.computed.func_is c.requires.computed.there
     c.args.of.now.at c.args.of.now.update.now c.args.of.now.stage.now c.requires.at in
-    c.in_ok-made.ensures.loop_lanes [] c.in_ok-store.ensures.leaf
+    c.in_ok-statement.ensures.loop_lanes [] c.in_ok-store.ensures.leaf
     (subst (λ (e : Extents). MayBeUnder c.args.of.now.computed.place e c.args.of.now.stage.now.splits c.args.of.now.stage.now.loops [] c.in_ok-store.store)
     (sym c.update_extents-extents.ensures)
     (update_under c.args.plan.now.pipeline c.args.plan.now.schedule (subst IsWellFormed c.pipeline.ensures.value c.funcs-funcs.ensures.rules)
@@ -129,4 +129,4 @@ returns-clause-sizes c = λ short.
     nest-light c.args.of.now.computed.func.now (Some c.args.of.now.update.now) c.update_extents-extents.result c.args.of.now.stage.now facts.0
     (whole_size c.in_ok-store.store)
     (update_nodes (flags_of c.args.plan.now.schedule.standings) c.args.plan.now.pipeline.funcs c.args.of.now.update.now) more (omega (arith, given, counts))
-    (whole_size c.in_ok-made.made) c.in_ok-made.ensures.sizes
+    (whole_size c.in_ok-statement.statement) c.in_ok-statement.ensures.sizes

@@ -135,82 +135,91 @@ lowered_in-returns-in-Number-clause-follows t c = λ values reads.
 
 pub lowered_in-returns-in-Variable-clause-follows : goal.lowered_in-returns-in-Variable-clause-follows
 lowered_in-returns-in-Variable-clause-follows t c =
-    ok-map c.variable_of.result (λ made follows values reads.
+    ok-map c.variable_of.result (λ expression follows values reads.
     let vars = variable_terms reads values c.args.variables.now in
     let given = term_loads reads values c.args.variables.now in
     let within = inside (algebra c.args.callees.now.corners.now values reads) (flagged c.args.callees.now.flags.now) c.args.callees.now.funcs.now
     c.args.callees.now.count in
-    variable_arm c.args.callees.now.corners.now values reads given within vars c.args.expr.now made c.in-Variable.own c.in-Variable.is
+    variable_arm c.args.callees.now.corners.now values reads given within vars c.args.expr.now expression c.in-Variable.own c.in-Variable.is
     (follows c.args.callees.now.corners.now values reads))
     c.variable_of.ensures.follows
 
-pub lowered_in-returns-in_ok-made-in-Binary-clause-follows : goal.lowered_in-returns-in_ok-made-in-Binary-clause-follows
-lowered_in-returns-in_ok-made-in-Binary-clause-follows t c = λ values reads.
+pub lowered_in-returns-in_ok-expression-in-Binary-clause-follows :
+    goal.lowered_in-returns-in_ok-expression-in-Binary-clause-follows
+lowered_in-returns-in_ok-expression-in-Binary-clause-follows t c = λ values reads.
     let vars = variable_terms reads values c.args.variables.now in
     let given = term_loads reads values c.args.variables.now in
     let within = inside (algebra c.args.callees.now.corners.now values reads) (flagged c.args.callees.now.flags.now) c.args.callees.now.funcs.now
     c.args.callees.now.count in
-    binary_arm c.args.callees.now.corners.now values reads given within vars c.args.expr.now c.in_ok-made-in-Binary.made
+    binary_arm c.args.callees.now.corners.now values reads given within vars c.args.expr.now
+    c.in_ok-expression-in-Binary.expression
     c.in-Binary.operation c.in-Binary.a c.in-Binary.b c.get.result.now c.get-in-Binary.result.now c.in_ok-a-in-Binary.a c.in_ok-b-in-Binary.b c.in-Binary.is
     c.get.ensures c.get-in-Binary.ensures (c.in_ok-a-in-Binary.ensures.follows values reads) (c.in_ok-b-in-Binary.ensures.follows values reads)
-    (c.in_ok-made-in-Binary.ensures.follows c.args.callees.now.corners.now values reads given)
+    (c.in_ok-expression-in-Binary.ensures.follows c.args.callees.now.corners.now values reads given)
 
-pub lowered_in-returns-in_ok-made-in-Divide-clause-follows : goal.lowered_in-returns-in_ok-made-in-Divide-clause-follows
-lowered_in-returns-in_ok-made-in-Divide-clause-follows t c = λ values reads.
+pub lowered_in-returns-in_ok-expression-in-Divide-clause-follows :
+    goal.lowered_in-returns-in_ok-expression-in-Divide-clause-follows
+lowered_in-returns-in_ok-expression-in-Divide-clause-follows t c = λ values reads.
     let vars = variable_terms reads values c.args.variables.now in
     let given = term_loads reads values c.args.variables.now in
     let within = inside (algebra c.args.callees.now.corners.now values reads) (flagged c.args.callees.now.flags.now) c.args.callees.now.funcs.now
     c.args.callees.now.count in
-    divide_arm c.args.callees.now.corners.now values reads given within vars c.args.expr.now c.in_ok-made-in-Divide.made
+    divide_arm c.args.callees.now.corners.now values reads given within vars c.args.expr.now
+    c.in_ok-expression-in-Divide.expression
     c.in-Divide.a c.get-in-Divide.result.now c.in-Divide.divisor c.in_ok-a-in-Divide.a c.in-Divide.is c.get-in-Divide.ensures
     (c.in_ok-a-in-Divide.ensures.follows values reads)
-    (c.in_ok-made-in-Divide.ensures.follows c.args.callees.now.corners.now values reads given)
+    (c.in_ok-expression-in-Divide.ensures.follows c.args.callees.now.corners.now values reads given)
 
-pub lowered_in-returns-in_ok-made-in-Remainder-clause-follows : goal.lowered_in-returns-in_ok-made-in-Remainder-clause-follows
-lowered_in-returns-in_ok-made-in-Remainder-clause-follows t c = λ values reads.
+pub lowered_in-returns-in_ok-expression-in-Remainder-clause-follows : goal.lowered_in-returns-in_ok-expression-in-Remainder-clause-follows
+lowered_in-returns-in_ok-expression-in-Remainder-clause-follows t c = λ values reads.
     let vars = variable_terms reads values c.args.variables.now in
     let given = term_loads reads values c.args.variables.now in
     let within = inside (algebra c.args.callees.now.corners.now values reads) (flagged c.args.callees.now.flags.now) c.args.callees.now.funcs.now
     c.args.callees.now.count in
-    remainder_arm c.args.callees.now.corners.now values reads given within vars c.args.expr.now c.in_ok-made-in-Remainder.made
+    remainder_arm c.args.callees.now.corners.now values reads given within vars c.args.expr.now c.in_ok-expression-in-Remainder.expression
     c.in-Remainder.a c.get-in-Remainder.result.now c.in-Remainder.divisor c.in_ok-a-in-Remainder.a c.in-Remainder.is c.get-in-Remainder.ensures
     (c.in_ok-a-in-Remainder.ensures.follows values reads)
-    (c.in_ok-made-in-Remainder.ensures.follows c.args.callees.now.corners.now values reads given)
+    (c.in_ok-expression-in-Remainder.ensures.follows c.args.callees.now.corners.now values reads given)
 
-pub lowered_in-returns-in_ok-made-in-Select-clause-follows : goal.lowered_in-returns-in_ok-made-in-Select-clause-follows
-lowered_in-returns-in_ok-made-in-Select-clause-follows t c = λ values reads.
+pub lowered_in-returns-in_ok-expression-in-Select-clause-follows :
+    goal.lowered_in-returns-in_ok-expression-in-Select-clause-follows
+lowered_in-returns-in_ok-expression-in-Select-clause-follows t c = λ values reads.
     let vars = variable_terms reads values c.args.variables.now in
     let given = term_loads reads values c.args.variables.now in
     let within = inside (algebra c.args.callees.now.corners.now values reads) (flagged c.args.callees.now.flags.now) c.args.callees.now.funcs.now
     c.args.callees.now.count in
-    select_arm c.args.callees.now.corners.now values reads given within vars c.args.expr.now c.in_ok-made-in-Select.made
+    select_arm c.args.callees.now.corners.now values reads given within vars c.args.expr.now
+    c.in_ok-expression-in-Select.expression
     c.in-Select.c c.in-Select.a c.in-Select.b c.get-in-Select.result.now c.get-in-Select-2.result.now c.get-in-Select-3.result.now c.in_ok-c-in-Select.c
     c.in_ok-a-in-Select.a c.in_ok-b-in-Select.b c.in-Select.is c.get-in-Select.ensures c.get-in-Select-2.ensures c.get-in-Select-3.ensures
     (c.in_ok-c-in-Select.ensures.follows values reads) (c.in_ok-a-in-Select.ensures.follows values reads) (c.in_ok-b-in-Select.ensures.follows values reads)
-    (c.in_ok-made-in-Select.ensures.follows c.args.callees.now.corners.now values reads given)
+    (c.in_ok-expression-in-Select.ensures.follows c.args.callees.now.corners.now values reads given)
 
-pub lowered_in-returns-in_ok-made-in-Call1-clause-follows : goal.lowered_in-returns-in_ok-made-in-Call1-clause-follows
-lowered_in-returns-in_ok-made-in-Call1-clause-follows t c = λ values reads.
+pub lowered_in-returns-in_ok-expression-in-Call1-clause-follows :
+    goal.lowered_in-returns-in_ok-expression-in-Call1-clause-follows
+lowered_in-returns-in_ok-expression-in-Call1-clause-follows t c = λ values reads.
     let vars = variable_terms reads values c.args.variables.now in
     let given = term_loads reads values c.args.variables.now in
     let within = inside (algebra c.args.callees.now.corners.now values reads) (flagged c.args.callees.now.flags.now) c.args.callees.now.funcs.now
     c.args.callees.now.count in
     call1_arm c.args.callees.now.corners.now values reads given (flagged c.args.callees.now.flags.now) c.args.callees.now.funcs.now c.args.callees.now.count
-    vars c.args.expr.now c.in_ok-made-in-Call1.made
+    vars c.args.expr.now c.in_ok-expression-in-Call1.expression
     c.in-Call1.source c.in-Call1.x c.get-in-Call1.result.now c.in_ok-x-in-Call1.x c.number-in-Call1.result c.in-Call1.is c.get-in-Call1.ensures
     (c.in_ok-x-in-Call1.ensures.follows values reads) (c.number-in-Call1.ensures.follows c.args.callees.now.corners.now values reads given)
-    (c.in_ok-made-in-Call1.ensures.follows values reads given)
+    (c.in_ok-expression-in-Call1.ensures.follows values reads given)
 
-pub lowered_in-returns-in_ok-made-in-Call2-clause-follows : goal.lowered_in-returns-in_ok-made-in-Call2-clause-follows
-lowered_in-returns-in_ok-made-in-Call2-clause-follows t c = λ values reads.
+pub lowered_in-returns-in_ok-expression-in-Call2-clause-follows :
+    goal.lowered_in-returns-in_ok-expression-in-Call2-clause-follows
+lowered_in-returns-in_ok-expression-in-Call2-clause-follows t c = λ values reads.
     let vars = variable_terms reads values c.args.variables.now in
     let given = term_loads reads values c.args.variables.now in
     let within = inside (algebra c.args.callees.now.corners.now values reads) (flagged c.args.callees.now.flags.now) c.args.callees.now.funcs.now
     c.args.callees.now.count in
-    call2_arm c.args.callees.now.corners.now values reads given within vars c.args.expr.now c.in_ok-made-in-Call2.made
+    call2_arm c.args.callees.now.corners.now values reads given within vars c.args.expr.now
+    c.in_ok-expression-in-Call2.expression
     c.in-Call2.source c.in-Call2.x c.in-Call2.y c.get-in-Call2.result.now c.get-in-Call2-2.result.now c.in_ok-x-in-Call2.x c.in_ok-y-in-Call2.y c.in-Call2.is
     c.get-in-Call2.ensures c.get-in-Call2-2.ensures (c.in_ok-x-in-Call2.ensures.follows values reads) (c.in_ok-y-in-Call2.ensures.follows values reads)
-    (c.in_ok-made-in-Call2.ensures.follows values reads given)
+    (c.in_ok-expression-in-Call2.ensures.follows values reads given)
 
 pub called-lowered_in-requires : goal.called-lowered_in-requires
 called-lowered_in-requires t c =
@@ -223,38 +232,39 @@ called-lowered_in-requires t c =
       tt,
     )
 
-pub called-returns-in_ok-made-in-Input-clause-follows : goal.called-returns-in_ok-made-in-Input-clause-follows
-called-returns-in_ok-made-in-Input-clause-follows t c = λ values reads given left right fl fr.
+pub called-returns-in_ok-expression-in-Input-clause-follows :
+    goal.called-returns-in_ok-expression-in-Input-clause-follows
+called-returns-in_ok-expression-in-Input-clause-follows t c = λ values reads given left right fl fr.
     let alg = algebra c.args.callees.now.corners.now values reads in
-    subst (Follows c.args.callees.now.corners.now values reads given c.in_ok-made-in-Input.made)
+    subst (Follows c.args.callees.now.corners.now values reads given c.in_ok-expression-in-Input.expression)
     (input c.args.callees.now.corners.now values reads (flagged c.args.callees.now.flags.now) c.args.callees.now.funcs.now c.args.callees.now.count
     _ c.args.source (alg.level (layer.Call2 c.args.source left right)) left (Some right) c.in-Input.is)
-    (c.in_ok-made-in-Input.ensures.follows values reads given left right fl fr)
+    (c.in_ok-expression-in-Input.ensures.follows values reads given left right fl fr)
 
-pub called-returns-in_ok-made-in-None-clause-follows : goal.called-returns-in_ok-made-in-None-clause-follows
-called-returns-in_ok-made-in-None-clause-follows t c = λ values reads given left right fl fr.
+pub called-returns-in_ok-expression-in-None-clause-follows : goal.called-returns-in_ok-expression-in-None-clause-follows
+called-returns-in_ok-expression-in-None-clause-follows t c = λ values reads given left right fl fr.
     let alg = algebra c.args.callees.now.corners.now values reads in
     let found : func_in c.args.callees.now.funcs.now (flagged c.args.callees.now.flags.now) c.args.callees.now.count c.in-Func.place ≡ None =
     sym c.inlined_func.ensures ∙ ap option_copied c.in-None.is in
-    subst (Follows c.args.callees.now.corners.now values reads given c.in_ok-made-in-None.made)
+    subst (Follows c.args.callees.now.corners.now values reads given c.in_ok-expression-in-None.expression)
     (not_inlined c.args.callees.now.corners.now values reads (flagged c.args.callees.now.flags.now) c.args.callees.now.funcs.now c.args.callees.now.count
     c.in-Func.place c.args.source (alg.level (layer.Call2 c.args.source left right)) left (Some right) c.in-Func.is found)
-    (subst (λ (s : Source). Follows c.args.callees.now.corners.now values reads given c.in_ok-made-in-None.made (alg.level (layer.Call2 s left right)))
+    (subst (λ (s : Source). Follows c.args.callees.now.corners.now values reads given c.in_ok-expression-in-None.expression (alg.level (layer.Call2 s left right)))
     (sym c.in-Func.is)
-    (c.in_ok-made-in-None.ensures.follows values reads given left right fl fr))
+    (c.in_ok-expression-in-None.ensures.follows values reads given left right fl fr))
 
-pub called-returns-in_ok-made-in-Some-clause-follows : goal.called-returns-in_ok-made-in-Some-clause-follows
-called-returns-in_ok-made-in-Some-clause-follows t c = λ values reads given left right fl fr.
+pub called-returns-in_ok-expression-in-Some-clause-follows : goal.called-returns-in_ok-expression-in-Some-clause-follows
+called-returns-in_ok-expression-in-Some-clause-follows t c = λ values reads given left right fl fr.
     let alg = algebra c.args.callees.now.corners.now values reads in
     let flags = flagged c.args.callees.now.flags.now in
     let found : func_in c.args.callees.now.funcs.now (flagged c.args.callees.now.flags.now) c.args.callees.now.count c.in-Func.place ≡ Some c.in-Some.func.now =
     sym c.inlined_func.ensures ∙ ap option_copied c.in-Some.is in
-    subst (Follows c.args.callees.now.corners.now values reads given c.in_ok-made-in-Some.made)
+    subst (Follows c.args.callees.now.corners.now values reads given c.in_ok-expression-in-Some.expression)
     (is_made c.args.callees.now.corners.now values reads flags c.args.callees.now.funcs.now c.args.callees.now.count c.in-Func.place c.args.source
     c.in-Some.func.now (alg.level (layer.Call2 c.args.source left right)) left (Some right) c.in-Func.is found)
     (made_follows c.args.callees.now.corners.now values reads (inside alg flags c.args.callees.now.funcs.now c.in-Func.place) c.in-Some.func.now c.args.x
-    c.args.y c.number-zero.result c.in_ok-made-in-Some.made given left right
-    fl fr (c.number-zero.ensures.follows c.args.callees.now.corners.now values reads given) (c.in_ok-made-in-Some.ensures.follows values reads))
+    c.args.y c.number-zero.result c.in_ok-expression-in-Some.expression given left right
+    fl fr (c.number-zero.ensures.follows c.args.callees.now.corners.now values reads given) (c.in_ok-expression-in-Some.ensures.follows values reads))
 
 pub lowered_in-returns-in-Number-clause-needs : goal.lowered_in-returns-in-Number-clause-needs
 lowered_in-returns-in-Number-clause-needs t c = λ most few.
@@ -263,74 +273,79 @@ lowered_in-returns-in-Number-clause-needs t c = λ most few.
 
 pub lowered_in-returns-in-Variable-clause-needs : goal.lowered_in-returns-in-Variable-clause-needs
 lowered_in-returns-in-Variable-clause-needs t c =
-    ok-map c.variable_of.result (λ made i most few.
+    ok-map c.variable_of.result (λ expression i most few.
     let l = few c.in-Variable.own in
-    taken.variable_arm (inside taking (flagged c.args.callees.now.flags.now) c.args.callees.now.funcs.now c.args.callees.now.count) most c.args.expr.now made
+    taken.variable_arm (inside taking (flagged c.args.callees.now.flags.now) c.args.callees.now.funcs.now c.args.callees.now.count) most c.args.expr.now expression
     c.in-Variable.own c.in-Variable.is (omega (arith, l, i)))
     c.variable_of.ensures.needs
 
-pub lowered_in-returns-in_ok-made-in-Binary-clause-needs : goal.lowered_in-returns-in_ok-made-in-Binary-clause-needs
-lowered_in-returns-in_ok-made-in-Binary-clause-needs t c = λ most few.
+pub lowered_in-returns-in_ok-expression-in-Binary-clause-needs :
+    goal.lowered_in-returns-in_ok-expression-in-Binary-clause-needs
+lowered_in-returns-in_ok-expression-in-Binary-clause-needs t c = λ most few.
     taken.binary_arm (inside taking (flagged c.args.callees.now.flags.now) c.args.callees.now.funcs.now c.args.callees.now.count) most c.args.expr.now
-    c.in_ok-made-in-Binary.made c.in-Binary.operation c.in-Binary.a c.in-Binary.b c.get.result.now c.get-in-Binary.result.now c.in_ok-a-in-Binary.a
+    c.in_ok-expression-in-Binary.expression c.in-Binary.operation c.in-Binary.a c.in-Binary.b c.get.result.now c.get-in-Binary.result.now c.in_ok-a-in-Binary.a
     c.in_ok-b-in-Binary.b
     c.in-Binary.is c.get.ensures c.get-in-Binary.ensures (c.in_ok-a-in-Binary.ensures.needs most few) (c.in_ok-b-in-Binary.ensures.needs most few)
-    c.in_ok-made-in-Binary.ensures.needs
+    c.in_ok-expression-in-Binary.ensures.needs
 
-pub lowered_in-returns-in_ok-made-in-Divide-clause-needs : goal.lowered_in-returns-in_ok-made-in-Divide-clause-needs
-lowered_in-returns-in_ok-made-in-Divide-clause-needs t c = λ most few.
+pub lowered_in-returns-in_ok-expression-in-Divide-clause-needs :
+    goal.lowered_in-returns-in_ok-expression-in-Divide-clause-needs
+lowered_in-returns-in_ok-expression-in-Divide-clause-needs t c = λ most few.
     taken.divide_arm (inside taking (flagged c.args.callees.now.flags.now) c.args.callees.now.funcs.now c.args.callees.now.count) most c.args.expr.now
-    c.in_ok-made-in-Divide.made c.in-Divide.a c.get-in-Divide.result.now c.in-Divide.divisor c.in_ok-a-in-Divide.a c.in-Divide.is c.get-in-Divide.ensures
-    (c.in_ok-a-in-Divide.ensures.needs most few) c.in_ok-made-in-Divide.ensures.needs
+    c.in_ok-expression-in-Divide.expression c.in-Divide.a c.get-in-Divide.result.now c.in-Divide.divisor c.in_ok-a-in-Divide.a c.in-Divide.is c.get-in-Divide.ensures
+    (c.in_ok-a-in-Divide.ensures.needs most few) c.in_ok-expression-in-Divide.ensures.needs
 
-pub lowered_in-returns-in_ok-made-in-Remainder-clause-needs : goal.lowered_in-returns-in_ok-made-in-Remainder-clause-needs
-lowered_in-returns-in_ok-made-in-Remainder-clause-needs t c = λ most few.
+pub lowered_in-returns-in_ok-expression-in-Remainder-clause-needs : goal.lowered_in-returns-in_ok-expression-in-Remainder-clause-needs
+lowered_in-returns-in_ok-expression-in-Remainder-clause-needs t c = λ most few.
     taken.remainder_arm (inside taking (flagged c.args.callees.now.flags.now) c.args.callees.now.funcs.now c.args.callees.now.count) most c.args.expr.now
-    c.in_ok-made-in-Remainder.made c.in-Remainder.a c.get-in-Remainder.result.now c.in-Remainder.divisor c.in_ok-a-in-Remainder.a c.in-Remainder.is
+    c.in_ok-expression-in-Remainder.expression c.in-Remainder.a c.get-in-Remainder.result.now c.in-Remainder.divisor c.in_ok-a-in-Remainder.a c.in-Remainder.is
     c.get-in-Remainder.ensures
-    (c.in_ok-a-in-Remainder.ensures.needs most few) c.in_ok-made-in-Remainder.ensures.needs
+    (c.in_ok-a-in-Remainder.ensures.needs most few) c.in_ok-expression-in-Remainder.ensures.needs
 
-pub lowered_in-returns-in_ok-made-in-Select-clause-needs : goal.lowered_in-returns-in_ok-made-in-Select-clause-needs
-lowered_in-returns-in_ok-made-in-Select-clause-needs t c = λ most few.
+pub lowered_in-returns-in_ok-expression-in-Select-clause-needs :
+    goal.lowered_in-returns-in_ok-expression-in-Select-clause-needs
+lowered_in-returns-in_ok-expression-in-Select-clause-needs t c = λ most few.
     taken.select_arm (inside taking (flagged c.args.callees.now.flags.now) c.args.callees.now.funcs.now c.args.callees.now.count) most c.args.expr.now
-    c.in_ok-made-in-Select.made c.in-Select.c c.in-Select.a c.in-Select.b c.get-in-Select.result.now c.get-in-Select-2.result.now
+    c.in_ok-expression-in-Select.expression c.in-Select.c c.in-Select.a c.in-Select.b c.get-in-Select.result.now c.get-in-Select-2.result.now
     c.get-in-Select-3.result.now
     c.in_ok-c-in-Select.c c.in_ok-a-in-Select.a c.in_ok-b-in-Select.b c.in-Select.is c.get-in-Select.ensures c.get-in-Select-2.ensures c.get-in-Select-3.ensures
     (c.in_ok-c-in-Select.ensures.needs most few) (c.in_ok-a-in-Select.ensures.needs most few) (c.in_ok-b-in-Select.ensures.needs most few)
-    c.in_ok-made-in-Select.ensures.needs
+    c.in_ok-expression-in-Select.ensures.needs
 
-pub lowered_in-returns-in_ok-made-in-Call1-clause-needs : goal.lowered_in-returns-in_ok-made-in-Call1-clause-needs
-lowered_in-returns-in_ok-made-in-Call1-clause-needs t c = λ most few.
+pub lowered_in-returns-in_ok-expression-in-Call1-clause-needs :
+    goal.lowered_in-returns-in_ok-expression-in-Call1-clause-needs
+lowered_in-returns-in_ok-expression-in-Call1-clause-needs t c = λ most few.
     taken.call1_arm (inside taking (flagged c.args.callees.now.flags.now) c.args.callees.now.funcs.now c.args.callees.now.count) most c.args.expr.now
-    c.in_ok-made-in-Call1.made c.in-Call1.source c.in-Call1.x c.get-in-Call1.result.now c.in_ok-x-in-Call1.x c.number-in-Call1.result c.in-Call1.is
+    c.in_ok-expression-in-Call1.expression c.in-Call1.source c.in-Call1.x c.get-in-Call1.result.now c.in_ok-x-in-Call1.x c.number-in-Call1.result c.in-Call1.is
     c.get-in-Call1.ensures
-    (c.in_ok-x-in-Call1.ensures.needs most few) c.number-in-Call1.ensures.is c.in_ok-made-in-Call1.ensures.needs
+    (c.in_ok-x-in-Call1.ensures.needs most few) c.number-in-Call1.ensures.is c.in_ok-expression-in-Call1.ensures.needs
 
-pub lowered_in-returns-in_ok-made-in-Call2-clause-needs : goal.lowered_in-returns-in_ok-made-in-Call2-clause-needs
-lowered_in-returns-in_ok-made-in-Call2-clause-needs t c = λ most few.
+pub lowered_in-returns-in_ok-expression-in-Call2-clause-needs :
+    goal.lowered_in-returns-in_ok-expression-in-Call2-clause-needs
+lowered_in-returns-in_ok-expression-in-Call2-clause-needs t c = λ most few.
     taken.call2_arm (inside taking (flagged c.args.callees.now.flags.now) c.args.callees.now.funcs.now c.args.callees.now.count) most c.args.expr.now
-    c.in_ok-made-in-Call2.made c.in-Call2.source c.in-Call2.x c.in-Call2.y c.get-in-Call2.result.now c.get-in-Call2-2.result.now c.in_ok-x-in-Call2.x
+    c.in_ok-expression-in-Call2.expression c.in-Call2.source c.in-Call2.x c.in-Call2.y c.get-in-Call2.result.now c.get-in-Call2-2.result.now c.in_ok-x-in-Call2.x
     c.in_ok-y-in-Call2.y
     c.in-Call2.is c.get-in-Call2.ensures c.get-in-Call2-2.ensures (c.in_ok-x-in-Call2.ensures.needs most few) (c.in_ok-y-in-Call2.ensures.needs most few)
-    c.in_ok-made-in-Call2.ensures.needs
+    c.in_ok-expression-in-Call2.ensures.needs
 
-pub called-returns-in_ok-made-in-None-clause-needs : goal.called-returns-in_ok-made-in-None-clause-needs
-called-returns-in_ok-made-in-None-clause-needs t c = λ left right fl fr.
+pub called-returns-in_ok-expression-in-None-clause-needs : goal.called-returns-in_ok-expression-in-None-clause-needs
+called-returns-in_ok-expression-in-None-clause-needs t c = λ left right fl fr.
     let found : func_in c.args.callees.now.funcs.now (flagged c.args.callees.now.flags.now) c.args.callees.now.count c.in-Func.place ≡ None =
     sym c.inlined_func.ensures ∙ ap option_copied c.in-None.is in
-    subst (λ (n : ℕ). need c.in_ok-made-in-None.made ≤ n)
+    subst (λ (n : ℕ). need c.in_ok-expression-in-None.expression ≤ n)
     (taken.not_inlined (flagged c.args.callees.now.flags.now) c.args.callees.now.funcs.now c.args.callees.now.count c.in-Func.place c.args.source
     (call_need left right) left right c.in-Func.is found)
-    (taken.call_few c.in_ok-made-in-None.made c.args.x c.args.y left right c.in_ok-made-in-None.ensures.needs c.in_ok-made-in-None.ensures.alone fl fr)
+    (taken.call_few c.in_ok-expression-in-None.expression c.args.x c.args.y left right c.in_ok-expression-in-None.ensures.needs c.in_ok-expression-in-None.ensures.alone fl fr)
 
-pub called-returns-in_ok-made-in-Some-clause-needs : goal.called-returns-in_ok-made-in-Some-clause-needs
-called-returns-in_ok-made-in-Some-clause-needs t c = λ left right fl fr.
+pub called-returns-in_ok-expression-in-Some-clause-needs : goal.called-returns-in_ok-expression-in-Some-clause-needs
+called-returns-in_ok-expression-in-Some-clause-needs t c = λ left right fl fr.
     let found : func_in c.args.callees.now.funcs.now (flagged c.args.callees.now.flags.now) c.args.callees.now.count c.in-Func.place ≡ Some c.in-Some.func.now =
     sym c.inlined_func.ensures ∙ ap option_copied c.in-Some.is in
     let zero = taken.number_need c.number-zero.result 0 c.number-zero.ensures.is in
     taken.made_few (flagged c.args.callees.now.flags.now) c.args.callees.now.funcs.now c.args.callees.now.count c.in-Func.place c.args.source c.in-Some.func.now
-    c.in_ok-made-in-Some.made c.args.x c.args.y _ left right c.in-Func.is found
-    fl fr refl refl zero zero c.in_ok-made-in-Some.ensures.needs
+    c.in_ok-expression-in-Some.expression c.args.x c.args.y _ left right c.in-Func.is found
+    fl fr refl refl zero zero c.in_ok-expression-in-Some.ensures.needs
 
 pub lowered_in-returns-in-Number-clause-sizes : goal.lowered_in-returns-in-Number-clause-sizes
 lowered_in-returns-in-Number-clause-sizes t c = λ short nodes few.
@@ -339,71 +354,76 @@ lowered_in-returns-in-Number-clause-sizes t c = λ short nodes few.
 
 pub lowered_in-returns-in-Variable-clause-sizes : goal.lowered_in-returns-in-Variable-clause-sizes
 lowered_in-returns-in-Variable-clause-sizes t c =
-    ok-map c.variable_of.result (λ made i short nodes few.
+    ok-map c.variable_of.result (λ expression i short nodes few.
     let l = few c.in-Variable.own in
-    sized.variable_arm (inside counting (flagged c.args.callees.now.flags.now) c.args.callees.now.funcs.now c.args.callees.now.count) nodes c.args.expr.now made
+    sized.variable_arm (inside counting (flagged c.args.callees.now.flags.now) c.args.callees.now.funcs.now c.args.callees.now.count) nodes c.args.expr.now expression
     c.in-Variable.own c.in-Variable.is (omega (arith, l, i)))
     c.variable_of.ensures.sizes
 
-pub lowered_in-returns-in_ok-made-in-Binary-clause-sizes : goal.lowered_in-returns-in_ok-made-in-Binary-clause-sizes
-lowered_in-returns-in_ok-made-in-Binary-clause-sizes t c = λ short nodes few.
+pub lowered_in-returns-in_ok-expression-in-Binary-clause-sizes :
+    goal.lowered_in-returns-in_ok-expression-in-Binary-clause-sizes
+lowered_in-returns-in_ok-expression-in-Binary-clause-sizes t c = λ short nodes few.
     sized.binary_arm (inside counting (flagged c.args.callees.now.flags.now) c.args.callees.now.funcs.now c.args.callees.now.count) nodes c.args.expr.now
-    c.in_ok-made-in-Binary.made c.in-Binary.operation c.in-Binary.a c.in-Binary.b c.get.result.now c.get-in-Binary.result.now c.in_ok-a-in-Binary.a
+    c.in_ok-expression-in-Binary.expression c.in-Binary.operation c.in-Binary.a c.in-Binary.b c.get.result.now c.get-in-Binary.result.now c.in_ok-a-in-Binary.a
     c.in_ok-b-in-Binary.b
     c.in-Binary.is c.get.ensures c.get-in-Binary.ensures (c.in_ok-a-in-Binary.ensures.sizes short nodes few) (c.in_ok-b-in-Binary.ensures.sizes short nodes few)
-    c.in_ok-made-in-Binary.ensures.sizes
+    c.in_ok-expression-in-Binary.ensures.sizes
 
-pub lowered_in-returns-in_ok-made-in-Divide-clause-sizes : goal.lowered_in-returns-in_ok-made-in-Divide-clause-sizes
-lowered_in-returns-in_ok-made-in-Divide-clause-sizes t c = λ short nodes few.
+pub lowered_in-returns-in_ok-expression-in-Divide-clause-sizes :
+    goal.lowered_in-returns-in_ok-expression-in-Divide-clause-sizes
+lowered_in-returns-in_ok-expression-in-Divide-clause-sizes t c = λ short nodes few.
     sized.divide_arm (inside counting (flagged c.args.callees.now.flags.now) c.args.callees.now.funcs.now c.args.callees.now.count) nodes c.args.expr.now
-    c.in_ok-made-in-Divide.made c.in-Divide.a c.get-in-Divide.result.now c.in-Divide.divisor c.in_ok-a-in-Divide.a c.in-Divide.is c.get-in-Divide.ensures
-    (c.in_ok-a-in-Divide.ensures.sizes short nodes few) c.in_ok-made-in-Divide.ensures.sizes
+    c.in_ok-expression-in-Divide.expression c.in-Divide.a c.get-in-Divide.result.now c.in-Divide.divisor c.in_ok-a-in-Divide.a c.in-Divide.is c.get-in-Divide.ensures
+    (c.in_ok-a-in-Divide.ensures.sizes short nodes few) c.in_ok-expression-in-Divide.ensures.sizes
 
-pub lowered_in-returns-in_ok-made-in-Remainder-clause-sizes : goal.lowered_in-returns-in_ok-made-in-Remainder-clause-sizes
-lowered_in-returns-in_ok-made-in-Remainder-clause-sizes t c = λ short nodes few.
+pub lowered_in-returns-in_ok-expression-in-Remainder-clause-sizes : goal.lowered_in-returns-in_ok-expression-in-Remainder-clause-sizes
+lowered_in-returns-in_ok-expression-in-Remainder-clause-sizes t c = λ short nodes few.
     sized.remainder_arm (inside counting (flagged c.args.callees.now.flags.now) c.args.callees.now.funcs.now c.args.callees.now.count) nodes c.args.expr.now
-    c.in_ok-made-in-Remainder.made c.in-Remainder.a c.get-in-Remainder.result.now c.in-Remainder.divisor c.in_ok-a-in-Remainder.a c.in-Remainder.is
+    c.in_ok-expression-in-Remainder.expression c.in-Remainder.a c.get-in-Remainder.result.now c.in-Remainder.divisor c.in_ok-a-in-Remainder.a c.in-Remainder.is
     c.get-in-Remainder.ensures
-    (c.in_ok-a-in-Remainder.ensures.sizes short nodes few) c.in_ok-made-in-Remainder.ensures.sizes
+    (c.in_ok-a-in-Remainder.ensures.sizes short nodes few) c.in_ok-expression-in-Remainder.ensures.sizes
 
-pub lowered_in-returns-in_ok-made-in-Select-clause-sizes : goal.lowered_in-returns-in_ok-made-in-Select-clause-sizes
-lowered_in-returns-in_ok-made-in-Select-clause-sizes t c = λ short nodes few.
+pub lowered_in-returns-in_ok-expression-in-Select-clause-sizes :
+    goal.lowered_in-returns-in_ok-expression-in-Select-clause-sizes
+lowered_in-returns-in_ok-expression-in-Select-clause-sizes t c = λ short nodes few.
     sized.select_arm (inside counting (flagged c.args.callees.now.flags.now) c.args.callees.now.funcs.now c.args.callees.now.count) nodes c.args.expr.now
-    c.in_ok-made-in-Select.made c.in-Select.c c.in-Select.a c.in-Select.b c.get-in-Select.result.now c.get-in-Select-2.result.now
+    c.in_ok-expression-in-Select.expression c.in-Select.c c.in-Select.a c.in-Select.b c.get-in-Select.result.now c.get-in-Select-2.result.now
     c.get-in-Select-3.result.now
     c.in_ok-c-in-Select.c c.in_ok-a-in-Select.a c.in_ok-b-in-Select.b c.in-Select.is c.get-in-Select.ensures c.get-in-Select-2.ensures c.get-in-Select-3.ensures
     (c.in_ok-c-in-Select.ensures.sizes short nodes few) (c.in_ok-a-in-Select.ensures.sizes short nodes few) (c.in_ok-b-in-Select.ensures.sizes short nodes few)
-    c.in_ok-made-in-Select.ensures.sizes
+    c.in_ok-expression-in-Select.ensures.sizes
 
-pub lowered_in-returns-in_ok-made-in-Call1-clause-sizes : goal.lowered_in-returns-in_ok-made-in-Call1-clause-sizes
-lowered_in-returns-in_ok-made-in-Call1-clause-sizes t c = λ short nodes few.
+pub lowered_in-returns-in_ok-expression-in-Call1-clause-sizes :
+    goal.lowered_in-returns-in_ok-expression-in-Call1-clause-sizes
+lowered_in-returns-in_ok-expression-in-Call1-clause-sizes t c = λ short nodes few.
     sized.call1_arm (inside counting (flagged c.args.callees.now.flags.now) c.args.callees.now.funcs.now c.args.callees.now.count) nodes c.args.expr.now
-    c.in_ok-made-in-Call1.made c.in-Call1.source c.in-Call1.x c.get-in-Call1.result.now c.in_ok-x-in-Call1.x c.number-in-Call1.result c.in-Call1.is
+    c.in_ok-expression-in-Call1.expression c.in-Call1.source c.in-Call1.x c.get-in-Call1.result.now c.in_ok-x-in-Call1.x c.number-in-Call1.result c.in-Call1.is
     c.get-in-Call1.ensures
-    (c.in_ok-x-in-Call1.ensures.sizes short nodes few) c.number-in-Call1.ensures.is (c.in_ok-made-in-Call1.ensures.sizes short)
+    (c.in_ok-x-in-Call1.ensures.sizes short nodes few) c.number-in-Call1.ensures.is (c.in_ok-expression-in-Call1.ensures.sizes short)
 
-pub lowered_in-returns-in_ok-made-in-Call2-clause-sizes : goal.lowered_in-returns-in_ok-made-in-Call2-clause-sizes
-lowered_in-returns-in_ok-made-in-Call2-clause-sizes t c = λ short nodes few.
+pub lowered_in-returns-in_ok-expression-in-Call2-clause-sizes :
+    goal.lowered_in-returns-in_ok-expression-in-Call2-clause-sizes
+lowered_in-returns-in_ok-expression-in-Call2-clause-sizes t c = λ short nodes few.
     sized.call2_arm (inside counting (flagged c.args.callees.now.flags.now) c.args.callees.now.funcs.now c.args.callees.now.count) nodes c.args.expr.now
-    c.in_ok-made-in-Call2.made c.in-Call2.source c.in-Call2.x c.in-Call2.y c.get-in-Call2.result.now c.get-in-Call2-2.result.now c.in_ok-x-in-Call2.x
+    c.in_ok-expression-in-Call2.expression c.in-Call2.source c.in-Call2.x c.in-Call2.y c.get-in-Call2.result.now c.get-in-Call2-2.result.now c.in_ok-x-in-Call2.x
     c.in_ok-y-in-Call2.y
     c.in-Call2.is c.get-in-Call2.ensures c.get-in-Call2-2.ensures (c.in_ok-x-in-Call2.ensures.sizes short nodes few) (c.in_ok-y-in-Call2.ensures.sizes short
-    nodes few) (c.in_ok-made-in-Call2.ensures.sizes short)
+    nodes few) (c.in_ok-expression-in-Call2.ensures.sizes short)
 
-pub called-returns-in_ok-made-in-None-clause-sizes : goal.called-returns-in_ok-made-in-None-clause-sizes
-called-returns-in_ok-made-in-None-clause-sizes t c = λ short left right fl fr.
+pub called-returns-in_ok-expression-in-None-clause-sizes : goal.called-returns-in_ok-expression-in-None-clause-sizes
+called-returns-in_ok-expression-in-None-clause-sizes t c = λ short left right fl fr.
     let found : func_in c.args.callees.now.funcs.now (flagged c.args.callees.now.flags.now) c.args.callees.now.count c.in-Func.place ≡ None =
     sym c.inlined_func.ensures ∙ ap option_copied c.in-None.is in
-    subst (IsGiven (size c.in_ok-made-in-None.made))
+    subst (IsGiven (size c.in_ok-expression-in-None.expression))
     (sized.not_inlined (flagged c.args.callees.now.flags.now) c.args.callees.now.funcs.now c.args.callees.now.count c.in-Func.place c.args.source
     (call_nodes left right) left right c.in-Func.is found)
-    (c.in_ok-made-in-None.ensures.sizes short left right fl fr)
+    (c.in_ok-expression-in-None.ensures.sizes short left right fl fr)
 
-pub called-returns-in_ok-made-in-Some-clause-sizes : goal.called-returns-in_ok-made-in-Some-clause-sizes
-called-returns-in_ok-made-in-Some-clause-sizes t c = λ short left right fl fr.
+pub called-returns-in_ok-expression-in-Some-clause-sizes : goal.called-returns-in_ok-expression-in-Some-clause-sizes
+called-returns-in_ok-expression-in-Some-clause-sizes t c = λ short left right fl fr.
     let found : func_in c.args.callees.now.funcs.now (flagged c.args.callees.now.flags.now) c.args.callees.now.count c.in-Func.place ≡ Some c.in-Some.func.now =
     sym c.inlined_func.ensures ∙ ap option_copied c.in-Some.is in
     let zero = sized.number_size c.number-zero.result 0 c.number-zero.ensures.is in
     sized.made_given (flagged c.args.callees.now.flags.now) c.args.callees.now.funcs.now c.args.callees.now.count c.in-Func.place c.args.source
-    c.in-Some.func.now c.in_ok-made-in-Some.made c.args.x c.args.y _ left right c.in-Func.is found
-    fl fr refl refl zero zero (c.in_ok-made-in-Some.ensures.sizes short)
+    c.in-Some.func.now c.in_ok-expression-in-Some.expression c.args.x c.args.y _ left right c.in-Func.is found
+    fl fr refl refl zero zero (c.in_ok-expression-in-Some.ensures.sizes short)

@@ -13,8 +13,8 @@ returns-clause-value c = λ reads values.
     (c.terms_of-standing.ensures.first_argument ∙ c.in_ok-sums.ensures.first_argument) (c.terms_of-standing.ensures.second_argument
     ∙ c.in_ok-sums.ensures.second_argument) (c.terms_of-standing.ensures.first_reduction ∙ c.in_ok-sums.ensures.first_reduction)
     (c.terms_of-standing.ensures.second_reduction ∙ c.in_ok-sums.ensures.second_reduction) (flagged c.args.callees.now.flags.now)
-    c.args.callees.now.funcs.now c.args.callees.now.count c.args.expr.now c.in_ok-made.made
-    (c.in_ok-made.ensures.follows values reads)
+    c.args.callees.now.funcs.now c.args.callees.now.count c.args.expr.now c.in_ok-expression.expression
+    (c.in_ok-expression.ensures.follows values reads)
 
 pub returns-clause-loads : goal.returns-clause-loads
 returns-clause-loads c = λ reads values.
@@ -24,12 +24,12 @@ returns-clause-loads c = λ reads values.
     (c.terms_of-standing.ensures.first_argument ∙ c.in_ok-sums.ensures.first_argument) (c.terms_of-standing.ensures.second_argument
     ∙ c.in_ok-sums.ensures.second_argument) (c.terms_of-standing.ensures.first_reduction ∙ c.in_ok-sums.ensures.first_reduction)
     (c.terms_of-standing.ensures.second_reduction ∙ c.in_ok-sums.ensures.second_reduction) (flagged c.args.callees.now.flags.now)
-    c.args.callees.now.funcs.now c.args.callees.now.count c.args.expr.now c.in_ok-made.made
-    (c.in_ok-made.ensures.follows values reads)
+    c.args.callees.now.funcs.now c.args.callees.now.count c.args.expr.now c.in_ok-expression.expression
+    (c.in_ok-expression.ensures.follows values reads)
 
 pub returns-clause-needs : goal.returns-clause-needs
 returns-clause-needs c =
-    c.in_ok-made.ensures.needs (λ v. 1)
+    c.in_ok-expression.ensures.needs (λ v. 1)
     (all_ones _ (sum_need _ _ (c.terms_of-standing.ensures.first_argument ∙ c.in_ok-sums.ensures.first_argument))
     (sum_need _ _ (c.terms_of-standing.ensures.second_argument ∙ c.in_ok-sums.ensures.second_argument))
     (sum_need _ _ (c.terms_of-standing.ensures.first_reduction ∙ c.in_ok-sums.ensures.first_reduction))
@@ -37,7 +37,7 @@ returns-clause-needs c =
 
 pub returns-clause-sizes : goal.returns-clause-sizes
 returns-clause-sizes c = λ short few.
-    c.in_ok-made.ensures.sizes short (λ v. 1)
+    c.in_ok-expression.ensures.sizes short (λ v. 1)
     (all_short _ (sum_short _ _ (c.terms_of-standing.ensures.first_argument ∙ c.in_ok-sums.ensures.first_argument) few.0)
     (sum_short _ _ (c.terms_of-standing.ensures.second_argument ∙ c.in_ok-sums.ensures.second_argument) few.1.0)
     (sum_short _ _ (c.terms_of-standing.ensures.first_reduction ∙ c.in_ok-sums.ensures.first_reduction) few.1.1.0)

@@ -9,18 +9,18 @@ use Rattle.lowering_expressions.proofs.Sizing.{remainder_size}
 use Rattle.lowering_expressions.proofs.parts.remainder.Goals as goal
 
 pub returns-clause-follows : goal.returns-clause-follows
-returns-clause-follows c = λ corners values reads given own fa.
-    remainder_follows corners values reads given c.in_ok-own.own c.args.divisor own (subst (λ (m : Expr). Follows corners values reads given m own)
-    (sym c.in_ok-own.ensures) fa)
+returns-clause-follows c = λ corners values reads given seen fa.
+    remainder_follows corners values reads given c.in_ok-seen.seen c.args.divisor seen (subst (λ (m : Expr). Follows corners values reads given m seen)
+    (sym c.in_ok-seen.ensures) fa)
 
 pub returns-clause-needs : goal.returns-clause-needs
 returns-clause-needs c =
-    let i = remainder_need _ c.in_ok-own.own c.args.divisor refl in
-    let j : need c.in_ok-own.own ≡ need c.args.a = ap need c.in_ok-own.ensures in
+    let i = remainder_need _ c.in_ok-seen.seen c.args.divisor refl in
+    let j : need c.in_ok-seen.seen ≡ need c.args.a = ap need c.in_ok-seen.ensures in
     omega (arith, i, j)
 
 pub returns-clause-sizes : goal.returns-clause-sizes
 returns-clause-sizes c =
-    let i = remainder_size _ c.in_ok-own.own c.args.divisor refl in
-    let j : size c.in_ok-own.own ≡ size c.args.a = ap size c.in_ok-own.ensures in
+    let i = remainder_size _ c.in_ok-seen.seen c.args.divisor refl in
+    let j : size c.in_ok-seen.seen ≡ size c.args.a = ap size c.in_ok-seen.ensures in
     omega (arith, i, j)

@@ -8,15 +8,17 @@ use Rattle.lowering_nests.proofs.loops.+in_order.Goals as goal
 pub in_order-requires : goal.in_order-requires
 in_order-requires t c = (
   rw c.decreases at (subst (λ n. depth c.into_inner.result < n) c.in_ok-first.ensures.depth
-      (less_deep c.in-Bind.own c.in-Bind.whole c.in-Bind.extent c.in_ok-first.first c.in-Bind.inside c.into_inner.result
+      (less_deep c.in-Bind.stage_loop c.in-Bind.whole c.in-Bind.extent c.in_ok-first.first c.in-Bind.inside
+      c.into_inner.result
       (c.into_parts.ensures ∙ ap statement_of c.in-Bind.is) c.into_inner.ensures)),
   tt,
 )
 
-pub returns-then-is_steady : goal.returns-then-is_steady
-returns-then-is_steady t c =
+pub returns-then-is_loop_invariant : goal.returns-then-is_loop_invariant
+returns-then-is_loop_invariant t c =
     loops_alike c.args.counter c.args.count c.args.body c.in_ok-first.first _ c.in_ok-first.ensures
-    (tested_loop c.in-Bind.own c.in-Bind.whole c.in-Bind.extent c.in_ok-first.first c.in-Bind.inside c.into_inner.result
+    (tested_loop c.in-Bind.stage_loop c.in-Bind.whole c.in-Bind.extent c.in_ok-first.first c.in-Bind.inside
+    c.into_inner.result
     (c.into_parts.ensures ∙ ap statement_of c.in-Bind.is) c.into_inner.ensures
-    c.args.counter c.args.count (sym c.is_steady.ensures ∙ c.if-is_steady.true) c.in_ok-made-in-Bind.made c.in_ok-made-in-Bind-2.made
-    c.in_ok-made-in-Bind.ensures c.in_ok-made-in-Bind-2.ensures)
+    c.args.counter c.args.count (sym c.is_loop_invariant.ensures ∙ c.if-is_loop_invariant.true) c.in_ok-statement-in-Bind.statement c.in_ok-statement-in-Bind-2.statement
+    c.in_ok-statement-in-Bind.ensures c.in_ok-statement-in-Bind-2.ensures)

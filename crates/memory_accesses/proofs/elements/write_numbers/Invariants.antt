@@ -4,7 +4,7 @@ use Rattle.memory.specs.Access.{put, Writes, first_fault, spread, touched}
 use Rattle.memory_accesses.specs.Elements.{accesses_at}
 use Rattle.memory_accesses.proofs.elements.write_numbers.Given as goal
 
--- those that are left, put into what stands now, give what all give
+-- those that are left, put into what is now, give what all give
 abbrev pub invariant-loop-addresses : goal.invariant-loop-addresses
 invariant-loop-addresses g l =
     let before = g.M.Bytes.memory l.fn.memory in

@@ -10,7 +10,7 @@ use Rattle.multi_hart.proofs.Resting.{run-same-more}
 use Rattle.multi_hart.proofs.Stepping.{runs-after}
 use Rattle.multi_hart.proofs.machines.run_down.Goals as goal
 
--- one turn more than so many
+-- one turn more than this many
 more : (start : State) (before made : ℕ) → before + 1 ≡ made → turn (run start (replicate before 0)) 0 ≡ run start (replicate made 0)
 more start before made one = sym (run-same-more start 0 before) ∙ ap (λ (n : ℕ). run start (replicate n 0)) one
 

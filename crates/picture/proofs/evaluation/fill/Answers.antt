@@ -21,7 +21,7 @@ returns g c =
     let whole : bounds.height - 0 ≡ bounds.height = omega arith in
     let ends = c.into_par_iter.ensures in
     let chain = c.in_ok-rows.ensures.1 in
-    let R : ℕ → Vec ℕ Global → Type 0 = λ number row. IsNumberedRow (plane_of c.args.scene.now c.args.place) bounds.left bounds.top bounds.width number
+    let R : ℕ → Vec ℕ Global → Type 0 = λ number row. IsNumberedRow (plane_of c.args.scene.now c.args.func_index) bounds.left bounds.top bounds.width number
     row.items in
     let zip = subst (λ (f : Scene × ℕ × TableBounds). AllZip (λ number r. IfOk r (λ row. IsNumberedRow (plane_of f.0 f.1) f.2.left f.2.top f.2.width number
     row.items)) chain.0 c.in_ok-rows.ensures.0) c.map.ensures.f chain.2 in

@@ -7,7 +7,7 @@ use Rattle.picture.proofs.evaluation.tabulate.Goals as goal
 
 pub returns-clause-table : goal.returns-clause-table
 returns-clause-table g c =
-    let plane = plane_of c.args.scene.now c.args.place in
+    let plane = plane_of c.args.scene.now c.args.func_index in
     let own = c.args.bounds in
     let zip = subst (λ (rows : List (Vec ℕ Global)). AllZip (λ number row. IsNumberedRow plane own.left own.top own.width number row.items)
     (range_with_len 0 own.height) rows) (sym c.deref.ensures.value) c.in_ok-rows.ensures in

@@ -5,5 +5,5 @@ use Rattle.picture_rows.proofs.InPlace.{Changed}
 use Rattle.picture.proofs.in_place.stages_one_by_one.Given as goal
 
 abbrev pub invariant-loop-at : goal.invariant-loop-at
-invariant-loop-at l = Changed l.at l.initial.pixels.items l.pixels.items (λ k. stage l.fn.own l.fn.func (inputs_of l.fn.scene) (earlier_of l.fn.scene l.fn.own)
+invariant-loop-at l = Changed l.at l.initial.pixels.items l.pixels.items (λ k. stage l.fn.func_index l.fn.func (inputs_of l.fn.scene) (earlier_of l.fn.scene l.fn.func_index)
     l.fn.updates (word.add l.left k) l.y)

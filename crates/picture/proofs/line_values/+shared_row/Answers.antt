@@ -12,7 +12,7 @@ shared_row-returns-in-Variable-clause-len t c = (c.variable_along.ensures c.args
 
 pub shared_row-returns-in-Variable-clause-values : goal.shared_row-returns-in-Variable-clause-values
 shared_row-returns-in-Variable-clause-values t c =
-    of-row c.args.line _ _ _ (c.variable_along.ensures c.args.line.width) (λ plane at. value-variable (reads_with c.args.scene.now c.args.own plane)
+    of-row c.args.line _ _ _ (c.variable_along.ensures c.args.line.width) (λ plane at. value-variable (reads_with c.args.scene.now c.args.func_index plane)
     (line_point c.args.line.along c.args.line.start at) c.args.expr.now c.in-Variable.own_variable c.in-Variable.is)
 
 pub shared_row-shared_binary-requires : goal.shared_row-shared_binary-requires
@@ -65,50 +65,50 @@ shared_row-shared_call2-requires t c =
 
 pub shared_binary-returns-clause-len : goal.shared_binary-returns-clause-len
 shared_binary-returns-clause-len t c = answer-long c.args.line _ c.shared_both.result (c.shared_both.ensures
-    (value_along c.args.scene.now c.args.own c.args.line c.args.a.now) (value_along c.args.scene.now c.args.own c.args.line c.args.b.now) c.in_ok-a.ensures.values c.in_ok-b.ensures.values)
+    (value_along c.args.scene.now c.args.func_index c.args.line c.args.a.now) (value_along c.args.scene.now c.args.func_index c.args.line c.args.b.now) c.in_ok-a.ensures.values c.in_ok-b.ensures.values)
 
 pub shared_binary-returns-clause-values : goal.shared_binary-returns-clause-values
 shared_binary-returns-clause-values t c = c.shared_both.ensures
-    (value_along c.args.scene.now c.args.own c.args.line c.args.a.now) (value_along c.args.scene.now c.args.own c.args.line c.args.b.now) c.in_ok-a.ensures.values c.in_ok-b.ensures.values
+    (value_along c.args.scene.now c.args.func_index c.args.line c.args.a.now) (value_along c.args.scene.now c.args.func_index c.args.line c.args.b.now) c.in_ok-a.ensures.values c.in_ok-b.ensures.values
 
 -- ---- shared_divide
 
 pub shared_divide-returns-clause-len : goal.shared_divide-returns-clause-len
 shared_divide-returns-clause-len t c = answer-long c.args.line _ c.shared_quotients.result (c.shared_quotients.ensures
-    (value_along c.args.scene.now c.args.own c.args.line c.args.a.now) c.in_ok-a.ensures.values)
+    (value_along c.args.scene.now c.args.func_index c.args.line c.args.a.now) c.in_ok-a.ensures.values)
 
 -- ---- shared_remainder
 
 pub shared_remainder-returns-clause-len : goal.shared_remainder-returns-clause-len
 shared_remainder-returns-clause-len t c = answer-long c.args.line _ c.shared_remainders.result (c.shared_remainders.ensures
-    (value_along c.args.scene.now c.args.own c.args.line c.args.a.now) c.in_ok-a.ensures.values)
+    (value_along c.args.scene.now c.args.func_index c.args.line c.args.a.now) c.in_ok-a.ensures.values)
 
 -- ---- shared_select
 
 pub shared_select-returns-clause-len : goal.shared_select-returns-clause-len
 shared_select-returns-clause-len t c = answer-long c.args.line _ c.shared_choice.result (c.shared_choice.ensures
-    (value_along c.args.scene.now c.args.own c.args.line c.args.condition.now) (value_along c.args.scene.now c.args.own c.args.line c.args.a.now) (value_along c.args.scene.now c.args.own c.args.line c.args.b.now) c.in_ok-condition.ensures.values c.in_ok-a.ensures.values c.in_ok-b.ensures.values)
+    (value_along c.args.scene.now c.args.func_index c.args.line c.args.condition.now) (value_along c.args.scene.now c.args.func_index c.args.line c.args.a.now) (value_along c.args.scene.now c.args.func_index c.args.line c.args.b.now) c.in_ok-condition.ensures.values c.in_ok-a.ensures.values c.in_ok-b.ensures.values)
 
 pub shared_select-returns-clause-values : goal.shared_select-returns-clause-values
 shared_select-returns-clause-values t c = c.shared_choice.ensures
-    (value_along c.args.scene.now c.args.own c.args.line c.args.condition.now) (value_along c.args.scene.now c.args.own c.args.line c.args.a.now) (value_along c.args.scene.now c.args.own c.args.line c.args.b.now) c.in_ok-condition.ensures.values c.in_ok-a.ensures.values c.in_ok-b.ensures.values
+    (value_along c.args.scene.now c.args.func_index c.args.line c.args.condition.now) (value_along c.args.scene.now c.args.func_index c.args.line c.args.a.now) (value_along c.args.scene.now c.args.func_index c.args.line c.args.b.now) c.in_ok-condition.ensures.values c.in_ok-a.ensures.values c.in_ok-b.ensures.values
 
 -- ---- shared_call1
 
 pub shared_call1-returns-clause-len : goal.shared_call1-returns-clause-len
 shared_call1-returns-clause-len t c = answer-long c.args.line _ c.shared_read.result (c.shared_read.ensures
-    (value_along c.args.scene.now c.args.own c.args.line c.args.x.now) (λ plane at. 0) c.in_ok-x.ensures.values (record { len = tt; each = λ plane fits at less. refl }))
+    (value_along c.args.scene.now c.args.func_index c.args.line c.args.x.now) (λ plane at. 0) c.in_ok-x.ensures.values (record { len = tt; each = λ plane fits at less. refl }))
 
 pub shared_call1-returns-clause-values : goal.shared_call1-returns-clause-values
 shared_call1-returns-clause-values t c = c.shared_read.ensures
-    (value_along c.args.scene.now c.args.own c.args.line c.args.x.now) (λ plane at. 0) c.in_ok-x.ensures.values (record { len = tt; each = λ plane fits at less. refl })
+    (value_along c.args.scene.now c.args.func_index c.args.line c.args.x.now) (λ plane at. 0) c.in_ok-x.ensures.values (record { len = tt; each = λ plane fits at less. refl })
 
 -- ---- shared_call2
 
 pub shared_call2-returns-clause-len : goal.shared_call2-returns-clause-len
 shared_call2-returns-clause-len t c = answer-long c.args.line _ c.shared_read.result (c.shared_read.ensures
-    (value_along c.args.scene.now c.args.own c.args.line c.args.x.now) (value_along c.args.scene.now c.args.own c.args.line c.args.y.now) c.in_ok-x.ensures.values c.in_ok-y.ensures.values)
+    (value_along c.args.scene.now c.args.func_index c.args.line c.args.x.now) (value_along c.args.scene.now c.args.func_index c.args.line c.args.y.now) c.in_ok-x.ensures.values c.in_ok-y.ensures.values)
 
 pub shared_call2-returns-clause-values : goal.shared_call2-returns-clause-values
 shared_call2-returns-clause-values t c = c.shared_read.ensures
-    (value_along c.args.scene.now c.args.own c.args.line c.args.x.now) (value_along c.args.scene.now c.args.own c.args.line c.args.y.now) c.in_ok-x.ensures.values c.in_ok-y.ensures.values
+    (value_along c.args.scene.now c.args.func_index c.args.line c.args.x.now) (value_along c.args.scene.now c.args.func_index c.args.line c.args.y.now) c.in_ok-x.ensures.values c.in_ok-y.ensures.values

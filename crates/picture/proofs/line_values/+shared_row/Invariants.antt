@@ -1,4 +1,4 @@
--- The size of the expression; a kind's own function stands between that and its parts.
+-- The size of the expression; a kind's own function is between that and its parts.
 use Rattle.std.proofs.Common.{◌+◌, ◌*◌}
 use Rattle.halide_pipeline.specs.Expressions.{nodes}
 use Rattle.picture.proofs.line_values.+shared_row.Given as goal

@@ -18,14 +18,14 @@ pub value-value-requires : goal.value-value-requires
 value-value-requires t c =
     let n = nodes-Binary c.args.expr.now c.in-Binary.operation c.in-Binary.a c.in-Binary.b c.in-Binary.is in
     let part : nodes c.get.result.now ≡ nodes c.in-Binary.a = ap nodes c.get.ensures in
-    let less = less_in_state c.args.scene.now c.args.own c.args.state (nodes c.get.result.now + 6) (nodes c.args.expr.now + 6) (omega (arith, n, part)) in
+    let less = less_in_state c.args.scene.now c.args.func_index c.args.state (nodes c.get.result.now + 6) (nodes c.args.expr.now + 6) (omega (arith, n, part)) in
     (rw c.decreases at less, (c.requires.tables, (c.requires.state, omega (arith, n, part))))
 
 pub value-value-requires-in-Binary : goal.value-value-requires-in-Binary
 value-value-requires-in-Binary t c =
     let n = nodes-Binary c.args.expr.now c.in-Binary.operation c.in-Binary.a c.in-Binary.b c.in-Binary.is in
     let part : nodes c.get-in-Binary.result.now ≡ nodes c.in-Binary.b = ap nodes c.get-in-Binary.ensures in
-    let less = less_in_state c.args.scene.now c.args.own c.args.state (nodes c.get-in-Binary.result.now + 6) (nodes c.args.expr.now + 6)
+    let less = less_in_state c.args.scene.now c.args.func_index c.args.state (nodes c.get-in-Binary.result.now + 6) (nodes c.args.expr.now + 6)
     (omega (arith, n, part)) in
     (rw c.decreases at less, (c.requires.tables, (c.requires.state, omega (arith, n, part))))
 
@@ -33,7 +33,7 @@ pub value-value-requires-in-Divide : goal.value-value-requires-in-Divide
 value-value-requires-in-Divide t c =
     let n = nodes-Divide c.args.expr.now c.in-Divide.a c.in-Divide.divisor c.in-Divide.is in
     let part : nodes c.get-in-Divide.result.now ≡ nodes c.in-Divide.a = ap nodes c.get-in-Divide.ensures in
-    let less = less_in_state c.args.scene.now c.args.own c.args.state (nodes c.get-in-Divide.result.now + 6) (nodes c.args.expr.now + 6)
+    let less = less_in_state c.args.scene.now c.args.func_index c.args.state (nodes c.get-in-Divide.result.now + 6) (nodes c.args.expr.now + 6)
     (omega (arith, n, part)) in
     (rw c.decreases at less, (c.requires.tables, (c.requires.state, omega (arith, n, part))))
 
@@ -41,7 +41,7 @@ pub value-value-requires-in-Remainder : goal.value-value-requires-in-Remainder
 value-value-requires-in-Remainder t c =
     let n = nodes-Remainder c.args.expr.now c.in-Remainder.a c.in-Remainder.divisor c.in-Remainder.is in
     let part : nodes c.get-in-Remainder.result.now ≡ nodes c.in-Remainder.a = ap nodes c.get-in-Remainder.ensures in
-    let less = less_in_state c.args.scene.now c.args.own c.args.state (nodes c.get-in-Remainder.result.now + 6) (nodes c.args.expr.now + 6)
+    let less = less_in_state c.args.scene.now c.args.func_index c.args.state (nodes c.get-in-Remainder.result.now + 6) (nodes c.args.expr.now + 6)
     (omega (arith, n, part)) in
     (rw c.decreases at less, (c.requires.tables, (c.requires.state, omega (arith, n, part))))
 
@@ -49,7 +49,7 @@ pub value-value-requires-in-Select : goal.value-value-requires-in-Select
 value-value-requires-in-Select t c =
     let n = nodes-Select c.args.expr.now c.in-Select.condition c.in-Select.a c.in-Select.b c.in-Select.is in
     let part : nodes c.get-in-Select.result.now ≡ nodes c.in-Select.condition = ap nodes c.get-in-Select.ensures in
-    let less = less_in_state c.args.scene.now c.args.own c.args.state (nodes c.get-in-Select.result.now + 6) (nodes c.args.expr.now + 6)
+    let less = less_in_state c.args.scene.now c.args.func_index c.args.state (nodes c.get-in-Select.result.now + 6) (nodes c.args.expr.now + 6)
     (omega (arith, n, part)) in
     (rw c.decreases at less, (c.requires.tables, (c.requires.state, omega (arith, n, part))))
 
@@ -61,7 +61,7 @@ value-value-requires-in-Select-2 t c =
       | value-then-condition-eq0 w ↦ omega (arith, n, ap (λ chosen. nodes chosen.now) w.chosen-is)
       | value-else-condition-eq0 w ↦ omega (arith, n, ap (λ chosen. nodes chosen.now) w.chosen-is)
     ] in
-    let less = less_in_state c.args.scene.now c.args.own c.args.state (nodes c.get-in-Select-2.result.now + 6) (nodes c.args.expr.now + 6)
+    let less = less_in_state c.args.scene.now c.args.func_index c.args.state (nodes c.get-in-Select-2.result.now + 6) (nodes c.args.expr.now + 6)
     (omega (arith, fewer, part)) in
     (rw c.decreases at less, (c.requires.tables, (c.requires.state, omega (arith, fewer, part))))
 
@@ -69,13 +69,13 @@ pub value-value-requires-in-Call1 : goal.value-value-requires-in-Call1
 value-value-requires-in-Call1 t c =
     let n = nodes-Call1 c.args.expr.now c.in-Call1.source c.in-Call1.x c.in-Call1.is in
     let part : nodes c.get-in-Call1.result.now ≡ nodes c.in-Call1.x = ap nodes c.get-in-Call1.ensures in
-    let less = less_in_state c.args.scene.now c.args.own c.args.state (nodes c.get-in-Call1.result.now + 6) (nodes c.args.expr.now + 6) (omega (arith, n, part))
+    let less = less_in_state c.args.scene.now c.args.func_index c.args.state (nodes c.get-in-Call1.result.now + 6) (nodes c.args.expr.now + 6) (omega (arith, n, part))
     in
     (rw c.decreases at less, (c.requires.tables, (c.requires.state, omega (arith, n, part))))
 
 pub value-read-requires : goal.value-read-requires
 value-read-requires t c = (
-  rw c.decreases at (less_in_state c.args.scene.now c.args.own c.args.state 5 (nodes c.args.expr.now + 6) (omega arith)),
+  rw c.decreases at (less_in_state c.args.scene.now c.args.func_index c.args.state 5 (nodes c.args.expr.now + 6) (omega arith)),
   (c.requires.tables, c.requires.state),
 )
 
@@ -83,7 +83,7 @@ pub value-value-requires-in-Call2 : goal.value-value-requires-in-Call2
 value-value-requires-in-Call2 t c =
     let n = nodes-Call2 c.args.expr.now c.in-Call2.source c.in-Call2.x c.in-Call2.y c.in-Call2.is in
     let part : nodes c.get-in-Call2.result.now ≡ nodes c.in-Call2.x = ap nodes c.get-in-Call2.ensures in
-    let less = less_in_state c.args.scene.now c.args.own c.args.state (nodes c.get-in-Call2.result.now + 6) (nodes c.args.expr.now + 6) (omega (arith, n, part))
+    let less = less_in_state c.args.scene.now c.args.func_index c.args.state (nodes c.get-in-Call2.result.now + 6) (nodes c.args.expr.now + 6) (omega (arith, n, part))
     in
     (rw c.decreases at less, (c.requires.tables, (c.requires.state, omega (arith, n, part))))
 
@@ -91,13 +91,13 @@ pub value-value-requires-in-Call2-2 : goal.value-value-requires-in-Call2-2
 value-value-requires-in-Call2-2 t c =
     let n = nodes-Call2 c.args.expr.now c.in-Call2.source c.in-Call2.x c.in-Call2.y c.in-Call2.is in
     let part : nodes c.get-in-Call2-2.result.now ≡ nodes c.in-Call2.y = ap nodes c.get-in-Call2-2.ensures in
-    let less = less_in_state c.args.scene.now c.args.own c.args.state (nodes c.get-in-Call2-2.result.now + 6) (nodes c.args.expr.now + 6)
+    let less = less_in_state c.args.scene.now c.args.func_index c.args.state (nodes c.get-in-Call2-2.result.now + 6) (nodes c.args.expr.now + 6)
     (omega (arith, n, part)) in
     (rw c.decreases at less, (c.requires.tables, (c.requires.state, omega (arith, n, part))))
 
 pub value-read-requires-in-Call2 : goal.value-read-requires-in-Call2
 value-read-requires-in-Call2 t c = (
-  rw c.decreases at (less_in_state c.args.scene.now c.args.own c.args.state 5 (nodes c.args.expr.now + 6) (omega arith)),
+  rw c.decreases at (less_in_state c.args.scene.now c.args.func_index c.args.state 5 (nodes c.args.expr.now + 6) (omega arith)),
   (c.requires.tables, c.requires.state),
 )
 
@@ -105,46 +105,47 @@ value-read-requires-in-Call2 t c = (
 
 pub read-earlier_pixel-requires : goal.read-earlier_pixel-requires
 read-earlier_pixel-requires t c =
-    let less = subst (λ state. measure c.args.scene.now c.args.own 0 0 3 < state_measure c.args.scene.now c.args.own state 5) (sym c.in-Earlier.is)
-    (less_size c.args.scene.now c.args.own 0 0 3 5 (omega arith)) in
+    let less = subst (λ state. measure c.args.scene.now c.args.func_index 0 0 3 < state_measure c.args.scene.now c.args.func_index state 5) (sym c.in-Earlier.is)
+    (less_size c.args.scene.now c.args.func_index 0 0 3 5 (omega arith)) in
     (rw c.decreases at less, c.requires.tables)
 
-pub read-earlier_pixel-requires-then-place-own : goal.read-earlier_pixel-requires-then-place-own
-read-earlier_pixel-requires-then-place-own t c =
-    let less = subst (λ state. measure c.args.scene.now c.args.own 0 0 3 < state_measure c.args.scene.now c.args.own state 5) (sym c.in-After.is)
-    (less_updates c.args.scene.now c.args.own 0 (c.in-After.updates + 1) 0 c.in-After.number 3 5 (omega arith) (omega arith) (omega arith)) in
+pub read-earlier_pixel-requires-then-source_index-func_index :
+    goal.read-earlier_pixel-requires-then-source_index-func_index
+read-earlier_pixel-requires-then-source_index-func_index t c =
+    let less = subst (λ state. measure c.args.scene.now c.args.func_index 0 0 3 < state_measure c.args.scene.now c.args.func_index state 5) (sym c.in-After.is)
+    (less_updates c.args.scene.now c.args.func_index 0 (c.in-After.updates + 1) 0 c.in-After.number 3 5 (omega arith) (omega arith) (omega arith)) in
     (rw c.decreases at less, c.requires.tables)
 
 pub read-after_of-requires : goal.read-after_of-requires
 read-after_of-requires t c =
-    let less = subst (λ state. measure c.args.scene.now c.args.own (c.in-After.updates + 1) c.in-After.number 2 < state_measure c.args.scene.now c.args.own
+    let less = subst (λ state. measure c.args.scene.now c.args.func_index (c.in-After.updates + 1) c.in-After.number 2 < state_measure c.args.scene.now c.args.func_index
     state 5) (sym c.in-After.is)
-    (less_size c.args.scene.now c.args.own (c.in-After.updates + 1) c.in-After.number 2 5 (omega arith)) in
+    (less_size c.args.scene.now c.args.func_index (c.in-After.updates + 1) c.in-After.number 2 5 (omega arith)) in
     (rw c.decreases at less, c.requires.tables)
 
 -- ---- earlier_pixel
 
-pub earlier_pixel-returns-then-place-own : goal.earlier_pixel-returns-then-place-own
-earlier_pixel-returns-then-place-own t c =
-    sym (pixels-past c.args.scene.now.funcs.now (inputs_of c.args.scene.now) c.args.own c.args.place c.args.x c.args.y c.if-place-own.true)
+pub earlier_pixel-returns-then-source_index-func_index : goal.earlier_pixel-returns-then-source_index-func_index
+earlier_pixel-returns-then-source_index-func_index t c =
+    sym (pixels-past c.args.scene.now.funcs.now (inputs_of c.args.scene.now) c.args.func_index c.args.source_index c.args.x c.args.y c.if-source_index-func_index.true)
 
 pub earlier_pixel-pixel-requires : goal.earlier_pixel-pixel-requires
 earlier_pixel-pixel-requires t c =
-    let less = less_own c.args.scene.now c.args.place c.args.own (all_updates c.args.scene.now.funcs.now + 1) 0 0 0 0 3 (omega arith) (omega arith)
+    let less = less_own c.args.scene.now c.args.source_index c.args.func_index (all_updates c.args.scene.now.funcs.now + 1) 0 0 0 0 3 (omega arith) (omega arith)
     (omega arith) (omega arith) in
     (rw c.decreases at less, c.requires.tables)
 
 pub earlier_pixel-returns : goal.earlier_pixel-returns
 earlier_pixel-returns t c =
-    c.in_ok-pixel.ensures ∙ sym (pixels-before c.args.scene.now.funcs.now (inputs_of c.args.scene.now) c.args.own c.args.place c.args.x c.args.y (omega arith))
+    c.in_ok-pixel.ensures ∙ sym (pixels-before c.args.scene.now.funcs.now (inputs_of c.args.scene.now) c.args.func_index c.args.source_index c.args.x c.args.y (omega arith))
 
 -- ---- pixel
 
 pub pixel-stage-requires : goal.pixel-stage-requires
 pixel-stage-requires t c =
-    let is : slice_get c.args.scene.now.funcs.now c.args.place ≡ Some c.in-Some-func_at.func.now = sym c.in-Some-func_at.ensures in
-    let few = length-updates c.args.scene.now.funcs.now c.args.place c.in-Some-func_at.func.now is in
-    let less = less_updates c.args.scene.now c.args.place c.len.result (all_updates c.args.scene.now.funcs.now + 1) (2 ^ 64) 0 0 0
+    let is : slice_get c.args.scene.now.funcs.now c.args.func_index ≡ Some c.in-Some-func_at.func.now = sym c.in-Some-func_at.ensures in
+    let few = length-updates c.args.scene.now.funcs.now c.args.func_index c.in-Some-func_at.func.now is in
+    let less = less_updates c.args.scene.now c.args.func_index c.len.result (all_updates c.args.scene.now.funcs.now + 1) (2 ^ 64) 0 0 0
     (omega (arith, few, c.len.ensures)) (omega arith) (omega arith) in
     (rw c.decreases at less, (c.requires.tables, is))
 
@@ -152,23 +153,23 @@ pixel-stage-requires t c =
 
 pub stage-value-requires : goal.stage-value-requires
 stage-value-requires t c =
-    let size = pure_nodes c.args.scene.now.funcs.now c.args.own c.args.func.now c.requires.is in
-    let less : measure c.args.scene.now c.args.own 0 0 (nodes c.args.func.now.pure + 6) < measure c.args.scene.now c.args.own 0 (2 ^ 64) 0 =
-    less_number c.args.scene.now c.args.own 0 0 (2 ^ 64) (nodes c.args.func.now.pure + 6) 0 (omega arith) (omega (arith, size)) in
-    let first : measure c.args.scene.now c.args.own 0 (2 ^ 64) 0 ≡ t = ap (λ updates. measure c.args.scene.now c.args.own updates (2 ^ 64) 0)
+    let size = pure_nodes c.args.scene.now.funcs.now c.args.func_index c.args.func.now c.requires.is in
+    let less : measure c.args.scene.now c.args.func_index 0 0 (nodes c.args.func.now.pure + 6) < measure c.args.scene.now c.args.func_index 0 (2 ^ 64) 0 =
+    less_number c.args.scene.now c.args.func_index 0 0 (2 ^ 64) (nodes c.args.func.now.pure + 6) 0 (omega arith) (omega (arith, size)) in
+    let first : measure c.args.scene.now c.args.func_index 0 (2 ^ 64) 0 ≡ t = ap (λ updates. measure c.args.scene.now c.args.func_index updates (2 ^ 64) 0)
     (sym c.if-updates-eq0.true) ∙ c.decreases in
     (rw first at less, (c.requires.tables, (tt, size)))
 
 pub stage-stage-requires : goal.stage-stage-requires
 stage-stage-requires t c =
-    let less = less_updates c.args.scene.now c.args.own (c.args.updates - 1) c.args.updates (2 ^ 64) (2 ^ 64) 0 0 (omega arith) (omega arith) (omega arith) in
+    let less = less_updates c.args.scene.now c.args.func_index (c.args.updates - 1) c.args.updates (2 ^ 64) (2 ^ 64) 0 0 (omega arith) (omega arith) (omega arith) in
     (rw c.decreases at less, (c.requires.tables, c.requires.is))
 
 pub stage-after-requires : goal.stage-after-requires
 stage-after-requires t c =
     let same : c.args.updates - 1 + 1 ≡ c.args.updates = omega arith in
-    let less = less_number c.args.scene.now c.args.own c.args.updates c.points.result (2 ^ 64) 1 0 (omega (arith, c.points.ensures.few)) (omega arith) in
-    let less' = subst (λ updates. measure c.args.scene.now c.args.own updates c.points.result 1 < measure c.args.scene.now c.args.own c.args.updates (2 ^ 64) 0)
+    let less = less_number c.args.scene.now c.args.func_index c.args.updates c.points.result (2 ^ 64) 1 0 (omega (arith, c.points.ensures.few)) (omega arith) in
+    let less' = subst (λ updates. measure c.args.scene.now c.args.func_index updates c.points.result 1 < measure c.args.scene.now c.args.func_index c.args.updates (2 ^ 64) 0)
     (sym same) less in
     (rw c.decreases at less', (c.requires.tables, record { is = c.requires.is; next = sym c.in-Some-get.ensures.value }))
 
@@ -176,13 +177,13 @@ stage-after-requires t c =
 
 pub after_of-stage-requires : goal.after_of-stage-requires
 after_of-stage-requires t c =
-    let less = less_updates c.args.scene.now c.args.own c.args.updates (c.args.updates + 1) (2 ^ 64) c.args.number 0 2 (omega arith) (omega arith) (omega arith)
+    let less = less_updates c.args.scene.now c.args.func_index c.args.updates (c.args.updates + 1) (2 ^ 64) c.args.number 0 2 (omega arith) (omega arith) (omega arith)
     in
     (rw c.decreases at less, (c.requires.tables, sym c.in-Some.ensures))
 
 pub after_of-after-requires : goal.after_of-after-requires
 after_of-after-requires t c =
-    let less = less_size c.args.scene.now c.args.own (c.args.updates + 1) c.args.number 1 2 (omega arith) in
+    let less = less_size c.args.scene.now c.args.func_index (c.args.updates + 1) c.args.number 1 2 (omega arith) in
     (rw c.decreases at less, (c.requires.tables, record { is = sym c.in-Some.ensures; next = sym c.in-Some-get.ensures.value }))
 
 -- ---- after
@@ -234,40 +235,42 @@ after-after-requires t c =
 
 pub is_hit-value-requires : goal.is_hit-value-requires
 is_hit-value-requires t c =
-    let less = less_size c.args.scene.now c.args.own 0 0 (nodes c.args.update.now.left_x + 6) (all_nodes c.args.scene.now.funcs.now + 7)
+    let less = less_size c.args.scene.now c.args.func_index 0 0 (nodes c.args.update.now.left_x + 6) (all_nodes c.args.scene.now.funcs.now + 7)
     (omega (arith, c.requires.short)) in
     (rw c.decreases at less, (c.requires.tables, (tt, omega (arith, c.requires.short))))
 
 pub is_hit-value-requires-in-Some : goal.is_hit-value-requires-in-Some
 is_hit-value-requires-in-Some t c =
     let part : index_nodes c.args.update.now.left_y ≡ nodes c.in-Some.left_y = ap index_nodes c.in-Some.is in
-    let less = less_size c.args.scene.now c.args.own 0 0 (nodes c.in-Some.left_y + 6) (all_nodes c.args.scene.now.funcs.now + 7)
+    let less = less_size c.args.scene.now c.args.func_index 0 0 (nodes c.in-Some.left_y + 6) (all_nodes c.args.scene.now.funcs.now + 7)
     (omega (arith, c.requires.short, part)) in
     (rw c.decreases at less, (c.requires.tables, (tt, omega (arith, c.requires.short, part))))
 
 -- ---- forward_pixel
 
-pub read-earlier_pixel-requires-then-place-own-2 : goal.read-earlier_pixel-requires-then-place-own-2
-read-earlier_pixel-requires-then-place-own-2 t c =
-    let less = subst (λ state. measure c.args.scene.now c.args.own 0 0 3 < state_measure c.args.scene.now c.args.own state 5) (sym c.in-Forward.is)
-    (less_updates c.args.scene.now c.args.own 0 (c.in-Forward.updates + 1) 0 c.in-Forward.number 3 5 (omega arith) (omega arith) (omega arith)) in
+pub read-earlier_pixel-requires-then-source_index-func_index-2 :
+    goal.read-earlier_pixel-requires-then-source_index-func_index-2
+read-earlier_pixel-requires-then-source_index-func_index-2 t c =
+    let less = subst (λ state. measure c.args.scene.now c.args.func_index 0 0 3 < state_measure c.args.scene.now c.args.func_index state 5) (sym c.in-Forward.is)
+    (less_updates c.args.scene.now c.args.func_index 0 (c.in-Forward.updates + 1) 0 c.in-Forward.number 3 5 (omega arith) (omega arith) (omega arith)) in
     (rw c.decreases at less, c.requires.tables)
 
 pub read-forward_pixel-requires : goal.read-forward_pixel-requires
 read-forward_pixel-requires t c =
-    let less = subst (λ state. measure c.args.scene.now c.args.own (c.in-Forward.updates + 1) c.in-Forward.number 4 < state_measure c.args.scene.now c.args.own
+    let less = subst (λ state. measure c.args.scene.now c.args.func_index (c.in-Forward.updates + 1) c.in-Forward.number 4 < state_measure c.args.scene.now c.args.func_index
     state 5) (sym c.in-Forward.is)
-    (less_size c.args.scene.now c.args.own (c.in-Forward.updates + 1) c.in-Forward.number 4 5 (omega arith)) in
-    (rw c.decreases at less, (c.requires.tables, subst (λ state. IsState c.args.scene.now c.args.own state) c.in-Forward.is c.requires.state))
+    (less_size c.args.scene.now c.args.func_index (c.in-Forward.updates + 1) c.in-Forward.number 4 5 (omega arith)) in
+    (rw c.decreases at less, (c.requires.tables, subst (λ state. IsState c.args.scene.now c.args.func_index state) c.in-Forward.is c.requires.state))
 
 pub forward_pixel-after_of-requires : goal.forward_pixel-after_of-requires
 forward_pixel-after_of-requires t c =
-    let less = less_size c.args.scene.now c.args.own (c.args.updates + 1) c.args.progress.points 2 4 (omega arith) in
+    let less = less_size c.args.scene.now c.args.func_index (c.args.updates + 1) c.args.progress.points 2 4
+    (omega arith) in
     (rw c.decreases at less, c.requires.tables)
 
 pub forward_pixel-stage_of-requires : goal.forward_pixel-stage_of-requires
 forward_pixel-stage_of-requires t c =
-    let less = less_updates c.args.scene.now c.args.own c.args.updates (c.args.updates + 1) (2 ^ 64) c.args.progress.points 1 4 (omega arith) (omega arith)
+    let less = less_updates c.args.scene.now c.args.func_index c.args.updates (c.args.updates + 1) (2 ^ 64) c.args.progress.points 1 4 (omega arith) (omega arith)
     (omega arith) in
     (rw c.decreases at less, c.requires.tables)
 
@@ -275,7 +278,7 @@ forward_pixel-stage_of-requires t c =
 
 pub stage_of-stage-requires : goal.stage_of-stage-requires
 stage_of-stage-requires t c =
-    let less = less_size c.args.scene.now c.args.own c.args.updates (2 ^ 64) 0 1 (omega arith) in
+    let less = less_size c.args.scene.now c.args.func_index c.args.updates (2 ^ 64) 0 1 (omega arith) in
     (rw c.decreases at less, (c.requires.tables, sym c.in-Some.ensures))
 
 -- ---- run_forward
@@ -290,8 +293,8 @@ run_forward-returns-clause-run t c =
 pub stage-over_forward-requires : goal.stage-over_forward-requires
 stage-over_forward-requires t c =
     let same : c.args.updates - 1 + 1 ≡ c.args.updates = omega arith in
-    let less = less_number c.args.scene.now c.args.own c.args.updates (2 ^ 64 - 1) (2 ^ 64) 1 0 (omega arith) (omega arith) in
-    let less' = subst (λ updates. measure c.args.scene.now c.args.own updates (2 ^ 64 - 1) 1 < measure c.args.scene.now c.args.own c.args.updates (2 ^ 64) 0)
+    let less = less_number c.args.scene.now c.args.func_index c.args.updates (2 ^ 64 - 1) (2 ^ 64) 1 0 (omega arith) (omega arith) in
+    let less' = subst (λ updates. measure c.args.scene.now c.args.func_index updates (2 ^ 64 - 1) 1 < measure c.args.scene.now c.args.func_index c.args.updates (2 ^ 64) 0)
     (sym same) less in
     (rw c.decreases at less', (c.requires.tables, (record { is = c.requires.is; next = sym c.in-Some-get.ensures.value }, sym c.if-is_forward.ensures)))
 
@@ -419,7 +422,7 @@ run_forward-value-requires-in-loop-number t c =
 pub index_value-value-requires : goal.index_value-value-requires
 index_value-value-requires t c =
     let part : index_nodes c.args.index.now ≡ nodes c.in-Some.index = ap index_nodes c.in-Some.is in
-    let less = less_size c.args.scene.now c.args.own 0 0 (nodes c.in-Some.index + 6) (all_nodes c.args.scene.now.funcs.now + 7)
+    let less = less_size c.args.scene.now c.args.func_index 0 0 (nodes c.in-Some.index + 6) (all_nodes c.args.scene.now.funcs.now + 7)
     (omega (arith, c.requires.short, part)) in
     (rw c.decreases at less, (c.requires.tables, (tt, omega (arith, c.requires.short, part))))
 

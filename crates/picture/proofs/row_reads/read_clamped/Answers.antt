@@ -8,7 +8,7 @@ use Rattle.picture.proofs.row_reads.read_clamped.Goals as goal
 
 pub returns-in-Some : goal.returns-in-Some
 returns-in-Some c =
-    let says : ℕ → ℕ = λ x. reads_in c.args.scene.now c.args.own states.Earlier c.args.source x c.args.y in
+    let says : ℕ → ℕ = λ x. reads_in c.args.scene.now c.args.func_index states.Earlier c.args.source x c.args.y in
     let found = c.in_ok-values.ensures says c.window-known.ensures in
-    written-row _ _ _ _ refl (subst (λ (own : Option (Vec ℕ Global)). IfSome own (λ values. AreValues c.args.width (λ at. says (clamped c.args.clamp at))
+    written-row _ _ _ _ refl (subst (λ (func_index : Option (Vec ℕ Global)). IfSome func_index (λ values. AreValues c.args.width (λ at. says (clamped c.args.clamp at))
     values.items)) c.in-Some.is found)

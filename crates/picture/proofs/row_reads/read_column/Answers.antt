@@ -3,4 +3,4 @@ use Rattle.picture.specs.declared.scenes.FuncState.TheVariants as states
 use Rattle.picture.proofs.row_reads.read_column.Goals as goal
 
 pub returns-in-Some : goal.returns-in-Some
-returns-in-Some c = c.in-Some.ensures (λ x. reads_in c.args.scene.now c.args.own states.Earlier c.args.source x c.args.y) c.requires.known
+returns-in-Some c = c.in-Some.ensures (λ x. reads_in c.args.scene.now c.args.func_index states.Earlier c.args.source x c.args.y) c.requires.known

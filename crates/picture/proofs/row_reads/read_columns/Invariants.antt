@@ -6,4 +6,4 @@ use Rattle.picture.proofs.row_reads.read_columns.Given as goal
 
 abbrev pub invariant-loop-at : goal.invariant-loop-at
 invariant-loop-at l =
-    Changed l.at l.initial.values.items l.values.items (λ k. reads_in l.fn.scene l.fn.own states.Earlier l.fn.source (value_at l.fn.x k) l.fn.y)
+    Changed l.at l.initial.values.items l.values.items (λ k. reads_in l.fn.scene l.fn.func_index states.Earlier l.fn.source (value_at l.fn.x k) l.fn.y)

@@ -5,4 +5,4 @@ use Rattle.picture.proofs.row_reads.read_inputs.Given as goal
 
 abbrev pub invariant-loop-at : goal.invariant-loop-at
 invariant-loop-at l =
-    Changed l.at l.initial.values.items l.values.items (λ k. input_planes l.fn.scene.pictures.now l.fn.place (value_at l.fn.x k) (value_at l.fn.y k))
+    Changed l.at l.initial.values.items l.values.items (λ k. input_planes l.fn.scene.pictures.now l.fn.source_index (value_at l.fn.x k) (value_at l.fn.y k))

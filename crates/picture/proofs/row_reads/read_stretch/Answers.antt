@@ -6,4 +6,4 @@ use Rattle.picture.proofs.row_reads.read_stretch.Goals as goal
 pub returns-in-Some : goal.returns-in-Some
 returns-in-Some c =
     written-row _ _ _ _ c.in_ok-values.ensures.items
-    (c.in-Some.ensures (λ x. reads_in c.args.scene.now c.args.own states.Earlier c.args.source x c.args.y) c.window.ensures)
+    (c.in-Some.ensures (λ x. reads_in c.args.scene.now c.args.func_index states.Earlier c.args.source x c.args.y) c.window.ensures)

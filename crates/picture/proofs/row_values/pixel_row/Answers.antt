@@ -7,7 +7,7 @@ use Rattle.picture.proofs.row_values.pixel_row.Goals as goal
 
 pub loop-number-preserved : goal.loop-number-preserved
 loop-number-preserved c =
-    let plane = plane_of c.args.scene.now c.args.place in
+    let plane = plane_of c.args.scene.now c.args.func_index in
     let from = c.loop-number.number * 4096 in
     let low : from ≤ c.args.width = omega arith in
     let here : min from c.args.width ≡ from = omega (arith, low) in

@@ -5,6 +5,6 @@ use Rattle.picture.proofs.update_rows.first_of.Goals as goal
 
 pub returns : goal.returns
 returns c =
-    first-right c.args.width c.args.start.now (λ plane at. value (reads_with c.args.scene.now c.args.own plane) (row_point c.args.start.now at)
-    c.args.sides.now.a.now) (λ plane at. value (reads_with c.args.scene.now c.args.own plane) (row_point c.args.start.now at) c.args.sides.now.b.now)
+    first-right c.args.width c.args.start.now (λ plane at. value (reads_with c.args.scene.now c.args.func_index plane) (row_point c.args.start.now at)
+    c.args.sides.now.a.now) (λ plane at. value (reads_with c.args.scene.now c.args.func_index plane) (row_point c.args.start.now at) c.args.sides.now.b.now)
     c.args.sides.now.operation c.in-Some.indices c.in-Some-2.row (rw c.in-Some.is at c.in_ok-indices.ensures) (rw c.in-Some-2.is at c.in_ok-row.ensures)

@@ -1,22 +1,23 @@
 use Rattle.std.proofs.Common.{subst}
 use Rattle.std.specs.Prelude.{IfSome}
 use Rattle.task_code_values.specs.Operands.{IsSum}
-use Rattle.task_code_lane_values.proofs.Arms.{steady-as, two-next, second-arm, first-arm, divide-arm, shift-arm, point-arm, remainder-arm}
+use Rattle.task_code_lane_values.proofs.Arms.{loop_invariant-as, two-next, second-arm, first-arm, divide-arm, shift-arm, point-arm, remainder-arm}
 use Rattle.task_code_lane_values.proofs.Arms.{swapped-next, condition-next, one-next, other-next}
 use Rattle.task_code_lane_values.proofs.values.+values.Goals as goal
 
-pub emit_at-returns-then-known_steady : goal.emit_at-returns-then-known_steady
-emit_at-returns-then-known_steady t c =
-    steady-as c.args.site.now.places.now c.args.site.now.scope.now c.args.site.now.lanes c.args.spot.k c.requires c.args.e.now c.in_ok-s.s _ _ _ _
-    (c.known_steady.ensures c.if-known_steady.true) c.slot.ensures.0
+pub emit_at-returns-then-is_invariant_scalar : goal.emit_at-returns-then-is_invariant_scalar
+emit_at-returns-then-is_invariant_scalar t c =
+    loop_invariant-as c.args.site.now.places.now c.args.site.now.scope.now c.args.site.now.lanes c.args.spot.k c.requires c.args.e.now c.in_ok-s.s _ _ _ _
+    (c.is_invariant_scalar.ensures c.if-is_invariant_scalar.true) c.slot.ensures.0
     c.in_ok-s.ensures c.in_ok-spread.ensures
 
-pub emit_results-returns-then-known_steady : goal.emit_results-returns-then-known_steady
-emit_results-returns-then-known_steady t c =
+pub emit_results-returns-then-is_invariant_scalar : goal.emit_results-returns-then-is_invariant_scalar
+emit_results-returns-then-is_invariant_scalar t c =
     second-arm c.args.site.now.places.now c.args.site.now.scope.now c.args.site.now.lanes c.args.spot.k c.requires c.args.e.now c.in-Binary.a c.in-Binary.b _ _
     c.in-Binary.operation
     c.in_ok-s.s _ _ _ _
-    c.in-Binary.is c.get-first.ensures c.get-second.ensures (c.known_steady.ensures c.if-known_steady.true)
+    c.in-Binary.is c.get-first.ensures c.get-second.ensures (c.is_invariant_scalar.ensures
+    c.if-is_invariant_scalar.true)
     c.in_ok-emit_at.ensures c.in_ok-s.ensures c.in_ok-emit_by.ensures
 
 pub emit_results-returns-then-first_stays : goal.emit_results-returns-then-first_stays
@@ -24,7 +25,7 @@ emit_results-returns-then-first_stays t c =
     first-arm c.args.site.now.places.now c.args.site.now.scope.now c.args.site.now.lanes c.args.spot.k c.requires c.args.e.now c.in-Binary.a c.in-Binary.b _ _
     c.in-Binary.operation
     c.in_ok-s-2.s _ _ _ _
-    c.in-Binary.is c.get-first.ensures c.get-second.ensures (c.known_steady-first_stays.ensures c.if-first_stays.true) c.in_ok-emit_at-2.ensures
+    c.in-Binary.is c.get-first.ensures c.get-second.ensures (c.is_invariant_scalar-first_stays.ensures c.if-first_stays.true) c.in_ok-emit_at-2.ensures
     c.in_ok-s-2.ensures c.in_ok-emit_swapped.ensures
 
 pub emit_both-returns-then-is_swapped : goal.emit_both-returns-then-is_swapped

@@ -7,7 +7,7 @@ pub returns : goal.returns
 returns c =
     let row = c.multiply-row.result in
     let bytes = c.bytes_of-bytes.result in
-    point-is c.args.place.now c.args.x.now c.args.y.now _ bytes row c.multiply-rows.result c.multiply-columns.result c.add-far.result
+    point-is c.args.layout.now c.args.x.now c.args.y.now _ bytes row c.multiply-rows.result c.multiply-columns.result c.add-far.result
     c.bytes_of-bytes.ensures c.multiply-row.ensures
     (
     c.in_ok-add_times-2.ensures

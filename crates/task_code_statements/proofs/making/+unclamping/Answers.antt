@@ -19,8 +19,8 @@ unclamped-returns-in_ok-sum-in-Linear t c = record {
   ranged = c.of_linear.ensures c.args.places.now;
 }
 
-pub unclamped-returns-in_ok-made-in-Binary : goal.unclamped-returns-in_ok-made-in-Binary
-unclamped-returns-in_ok-made-in-Binary t c =
+pub unclamped-returns-in_ok-new_ranged-in-Binary : goal.unclamped-returns-in_ok-new_ranged-in-Binary
+unclamped-returns-in_ok-new_ranged-in-Binary t c =
     let one = c.in_ok-first-in-Binary.ensures in
     let two = c.in_ok-second-in-Binary.ensures in
     record {
@@ -28,7 +28,7 @@ unclamped-returns-in_ok-made-in-Binary t c =
       by_others =
           alike-binary (AreKnown c.args.known.now) c.args.e.now c.in-Binary.operation c.in-Binary.a c.in-Binary.b c.get.result.now
           c.get-in-Binary.result.now one.middle two.middle c.in-Binary.is c.get.ensures c.get-in-Binary.ensures one.by_others two.by_others;
-      ranged = c.in_ok-made-in-Binary.ensures c.args.places.now one.middle two.middle one.ranged two.ranged;
+      ranged = c.in_ok-new_ranged-in-Binary.ensures c.args.places.now one.middle two.middle one.ranged two.ranged;
     }
 
 pub unclamped-returns-in_ok-first-in-Divide : goal.unclamped-returns-in_ok-first-in-Divide

@@ -15,5 +15,6 @@ returns-in-Some c = λ places x y rx ry.
     (λ reads values. is.loads_are reads values ∙ sym (loads_binary reads values c.args.operation c.args.a.e c.args.b.e))
     (c.of_linear.ensures places)
 
-pub returns-in_ok-made-in-None : goal.returns-in_ok-made-in-None
-returns-in_ok-made-in-None c = λ places x y rx ry. c.in_ok-made-in-None.ensures places c.args.bounds.now x y rx ry
+pub returns-in_ok-new_ranged-in-None : goal.returns-in_ok-new_ranged-in-None
+returns-in_ok-new_ranged-in-None c = λ places x y rx ry. c.in_ok-new_ranged-in-None.ensures places c.args.bounds.now x y
+    rx ry

@@ -10,11 +10,11 @@ pub by_other_variables-returns-in_ok-sum-in-Linear : goal.by_other_variables-ret
 by_other_variables-returns-in_ok-sum-in-Linear t c =
     alike-linear (AreKnown c.args.known.now) c.args.e.now c.in-Linear.own c.in_ok-sum-in-Linear.sum c.in-Linear.is c.in_ok-sum-in-Linear.ensures
 
-pub by_other_variables-returns-in_ok-made-in-Binary : goal.by_other_variables-returns-in_ok-made-in-Binary
-by_other_variables-returns-in_ok-made-in-Binary t c =
+pub by_other_variables-returns-in_ok-expression-in-Binary : goal.by_other_variables-returns-in_ok-expression-in-Binary
+by_other_variables-returns-in_ok-expression-in-Binary t c =
     same-made c.args.known.now c.args.e.now c.in-Binary.operation c.in-Binary.a c.in-Binary.b c.get.result.now c.get-in-Binary.result.now
-    c.in_ok-first-in-Binary.first c.in_ok-second-in-Binary.second c.in_ok-made-in-Binary.made c.in-Binary.is c.get.ensures c.get-in-Binary.ensures
-    c.in_ok-first-in-Binary.ensures c.in_ok-second-in-Binary.ensures c.in_ok-made-in-Binary.ensures
+    c.in_ok-first-in-Binary.first c.in_ok-second-in-Binary.second c.in_ok-expression-in-Binary.expression c.in-Binary.is c.get.ensures c.get-in-Binary.ensures
+    c.in_ok-first-in-Binary.ensures c.in_ok-second-in-Binary.ensures c.in_ok-expression-in-Binary.ensures
 
 pub by_other_variables-returns-in_ok-first-in-Divide : goal.by_other_variables-returns-in_ok-first-in-Divide
 by_other_variables-returns-in_ok-first-in-Divide t c =

@@ -54,37 +54,37 @@ emit_statement-returns-in_ok-emit_split-in-Bind t c =
     bind-arm c.args.site.now.places.now c.args.site.now.scope.now (Meets c.args.context.now) c.args.statement.now c.in-Bind.counter c.in-Bind.whole
     c.in-Bind.extent c.in-Bind.body c.get-in-Bind.result.now _ _ c.in-Bind.is c.get-in-Bind.ensures c.in_ok-emit_split-in-Bind.ensures
 
-pub emit_loop-returns-then-own-eq0 : goal.emit_loop-returns-then-own-eq0
-emit_loop-returns-then-own-eq0 t c = λ kind plain.
-    none-emits c.args.site.now.places.now c.args.site.now.scope.now (Meets c.args.context.now) c.args.own.counter c.args.own.count kind c.args.body.now _
-    c.if-own-eq0.true
+pub emit_loop-returns-then-bound-eq0 : goal.emit_loop-returns-then-bound-eq0
+emit_loop-returns-then-bound-eq0 t c = λ kind plain.
+    none-emits c.args.site.now.places.now c.args.site.now.scope.now (Meets c.args.context.now) c.args.bound.counter c.args.bound.count kind c.args.body.now _
+    c.if-bound-eq0.true
 
 pub emit_loop-returns-in-None : goal.emit_loop-returns-in-None
 emit_loop-returns-in-None t c =
-    loop-alone c.args.site.now.places.now c.args.site.now.scope.now (Meets c.args.context.now) c.args.own.counter c.args.own.count c.args.body.now
+    loop-alone c.args.site.now.places.now c.args.site.now.scope.now (Meets c.args.context.now) c.args.bound.counter c.args.bound.count c.args.body.now
     c.args.code.now.words.items c.emit_before.new.code.items _
     (none-given c.args.site.now.places.now c.args.site.now.scope.now c.args.context.now c.in_ok-before.before.naming c.args.code.now.words.items
     c.emit_before.new.code.items c.in-None.is c.in_ok-before.ensures) c.in_ok-emit_iterations-in-None.ensures
 
 pub emit_loop-returns : goal.emit_loop-returns
 emit_loop-returns t c =
-    loop-behind c.args.site.now.places.now c.args.site.now.scope.now c.as_slice.result.now c.args.context.now c.in-Some.naming c.args.own.counter
-    c.args.own.count c.args.body.now c.args.code.now.words.items c.emit_before.new.code.items _
+    loop-behind c.args.site.now.places.now c.args.site.now.scope.now c.as_slice.result.now c.args.context.now c.in-Some.naming c.args.bound.counter
+    c.args.bound.count c.args.body.now c.args.code.now.words.items c.emit_before.new.code.items _
     (some-given c.args.site.now.places.now c.args.site.now.scope.now c.args.context.now c.in-Some.naming c.in_ok-before.before.naming
     c.args.code.now.words.items c.emit_before.new.code.items c.in-Some.is c.in_ok-before.ensures) c.as_slice.ensures.value
     c.in_ok-emit_iterations-in-Some.ensures
 
 pub emit_once-returns-in-None : goal.emit_once-returns-in-None
 emit_once-returns-in-None t c =
-    loop-alone c.args.site.now.places.now c.args.site.now.scope.now (Meets c.args.context.now) c.args.own.counter c.args.own.count c.args.body.now
+    loop-alone c.args.site.now.places.now c.args.site.now.scope.now (Meets c.args.context.now) c.args.bound.counter c.args.bound.count c.args.body.now
     c.args.code.now.words.items c.emit_before.new.code.items _
     (none-given c.args.site.now.places.now c.args.site.now.scope.now c.args.context.now c.in_ok-before.before.naming c.args.code.now.words.items
     c.emit_before.new.code.items c.in-None.is c.in_ok-before.ensures) c.in_ok-emit_laid_out-in-None.ensures
 
 pub emit_once-returns : goal.emit_once-returns
 emit_once-returns t c =
-    loop-behind c.args.site.now.places.now c.args.site.now.scope.now c.as_slice.result.now c.args.context.now c.in-Some.naming c.args.own.counter
-    c.args.own.count c.args.body.now c.args.code.now.words.items c.emit_before.new.code.items _
+    loop-behind c.args.site.now.places.now c.args.site.now.scope.now c.as_slice.result.now c.args.context.now c.in-Some.naming c.args.bound.counter
+    c.args.bound.count c.args.body.now c.args.code.now.words.items c.emit_before.new.code.items _
     (some-given c.args.site.now.places.now c.args.site.now.scope.now c.args.context.now c.in-Some.naming c.in_ok-before.before.naming
     c.args.code.now.words.items c.emit_before.new.code.items c.in-Some.is c.in_ok-before.ensures) c.as_slice.ensures.value
     c.in_ok-emit_laid_out-in-Some.ensures
@@ -94,12 +94,12 @@ emit_iterations-returns t c = λ kind plain.
     let own = c.args.iterations.now.own in
     loop-arm c.args.site.now.places.now c.args.site.now.scope.now (Meets c.args.context.now) (Meets c.in_ok-inner.inner) own.counter own.count
     kind c.args.iterations.now.body.now c.in_ok-begun.begun c.as_slice.result.now _ _ c.len-start.result _ _ _ _ plain c.in_ok-inner.ensures.meets
-    c.in_ok-begun.ensures.steady c.in_ok-begun.ensures.begins c.as_slice.ensures.value (c.len-start.ensures ∙ c.begin_iterations.new.code.ok.0)
+    c.in_ok-begun.ensures.loop_invariant c.in_ok-begun.ensures.begins c.as_slice.ensures.value (c.len-start.ensures ∙ c.begin_iterations.new.code.ok.0)
     c.in_ok-emit_statement.ensures c.in_ok-end_loop.ensures.ok
 
 pub emit_laid_out-loop-iteration-init : goal.emit_laid_out-loop-iteration-init
 emit_laid_out-loop-iteration-init t c =
-    none-laid c.args.site.now.places.now c.args.site.now.scope.now (Meets c.args.context.now) c.args.own.counter c.args.body.now _
+    none-laid c.args.site.now.places.now c.args.site.now.scope.now (Meets c.args.context.now) c.args.bound.counter c.args.body.now _
 
 pub emit_laid_out-loop-iteration-preserved : goal.emit_laid_out-loop-iteration-preserved
 emit_laid_out-loop-iteration-preserved t c =
@@ -108,19 +108,19 @@ emit_laid_out-loop-iteration-preserved t c =
     let small : k < 2 ^ 32 = omega arith in
     let so = Meets c.args.context.now in
     subst (λ n. LaysOut c.args.code.now.words.items c.emit_unless_idle.new.code.words.items c.args.site.now.places.now c.args.site.now.scope.now so
-    c.args.own.counter c.args.body.now n) more
-    (one-laid c.args.site.now.places.now c.args.site.now.scope.now so c.args.own.counter c.args.body.now k (Meets c.in_ok-inner.inner) _ _ _
+    c.args.bound.counter c.args.body.now n) more
+    (one-laid c.args.site.now.places.now c.args.site.now.scope.now so c.args.bound.counter c.args.body.now k (Meets c.in_ok-inner.inner) _ _ _
     (sym c.mentions.ensures ∙ c.if-mentions.false)
-    (number-enters c.args.context.now c.in_ok-inner.inner c.args.own.counter k c.of_number-number.result small c.of_number-number.ensures.value
+    (number-enters c.args.context.now c.in_ok-inner.inner c.args.bound.counter k c.of_number-number.result small c.of_number-number.ensures.value
     c.in_ok-inner.ensures) c.loop-iteration.invariant c.in_ok-emit_unless_idle.ensures)
 
 pub emit_laid_out-returns : goal.emit_laid_out-returns
 emit_laid_out-returns t c = λ kind plain.
-    let all : c.loop-iteration.iteration ≡ c.args.own.count = omega arith in
+    let all : c.loop-iteration.iteration ≡ c.args.bound.count = omega arith in
     let so = Meets c.args.context.now in
-    laid-emits c.args.site.now.places.now c.args.site.now.scope.now so c.args.own.counter c.args.body.now c.args.own.count kind _ _ plain
+    laid-emits c.args.site.now.places.now c.args.site.now.scope.now so c.args.bound.counter c.args.body.now c.args.bound.count kind _ _ plain
     (subst (λ n. LaysOut c.args.code.now.words.items c.loop-iteration.code.words.items c.args.site.now.places.now c.args.site.now.scope.now so
-    c.args.own.counter c.args.body.now n) all c.loop-iteration.invariant)
+    c.args.bound.counter c.args.body.now n) all c.loop-iteration.invariant)
 
 pub emit_parted-loop-iteration-init : goal.emit_parted-loop-iteration-init
 emit_parted-loop-iteration-init t c = c.in_ok-emit_loop.ensures
@@ -131,16 +131,16 @@ emit_parted-loop-iteration-preserved t c =
     let more : suc k ≡ k + 1 = omega arith in
     let small : k < 2 ^ 32 = omega arith in
     subst (λ n. EmitsLoop c.args.code.now.words.items c.emit_unless_idle.new.code.words.items c.args.site.now.places.now c.args.site.now.scope.now
-    (Meets c.args.context.now) c.args.own.counter n c.args.body.now) more
-    (parted-arm c.args.site.now.places.now c.args.site.now.scope.now c.args.context.now c.in_ok-inner.inner c.args.own.counter k c.args.body.now
+    (Meets c.args.context.now) c.args.bound.counter n c.args.body.now) more
+    (parted-arm c.args.site.now.places.now c.args.site.now.scope.now c.args.context.now c.in_ok-inner.inner c.args.bound.counter k c.args.body.now
     c.of_number-number.result _ _ _ small (sym c.mentions.ensures ∙ c.if-mentions.false) c.of_number-number.ensures.value c.in_ok-inner.ensures
     c.loop-iteration.invariant c.in_ok-emit_unless_idle.ensures)
 
 pub emit_parted-returns : goal.emit_parted-returns
 emit_parted-returns t c =
-    let all : c.loop-iteration.iteration ≡ c.args.own.count = omega arith in
+    let all : c.loop-iteration.iteration ≡ c.args.bound.count = omega arith in
     subst (λ n. EmitsLoop c.args.code.now.words.items c.loop-iteration.code.words.items c.args.site.now.places.now c.args.site.now.scope.now
-    (Meets c.args.context.now) c.args.own.counter n c.args.body.now) all c.loop-iteration.invariant
+    (Meets c.args.context.now) c.args.bound.counter n c.args.body.now) all c.loop-iteration.invariant
 
 pub emit_unless_idle-returns-then-branch : goal.emit_unless_idle-returns-then-branch
 emit_unless_idle-returns-then-branch t c =

@@ -38,8 +38,8 @@ decreases-emit_entered l = suc (5 * goal.size-emit_entered l)
 
 abbrev pub invariant-emit_laid_out-loop-iteration : goal.invariant-emit_laid_out-loop-iteration
 invariant-emit_laid_out-loop-iteration l =
-    LaysOut l.fn.code.words.items l.code.words.items l.site.places.now l.site.scope.now (Meets l.context) l.own.counter l.body l.iteration
+    LaysOut l.fn.code.words.items l.code.words.items l.site.places.now l.site.scope.now (Meets l.context) l.bound.counter l.body l.iteration
 
 abbrev pub invariant-emit_parted-loop-iteration : goal.invariant-emit_parted-loop-iteration
 invariant-emit_parted-loop-iteration l =
-    EmitsLoop l.fn.code.words.items l.code.words.items l.site.places.now l.site.scope.now (Meets l.context) l.fn.own.counter l.iteration l.body
+    EmitsLoop l.fn.code.words.items l.code.words.items l.site.places.now l.site.scope.now (Meets l.context) l.fn.bound.counter l.iteration l.body

@@ -5,5 +5,5 @@ returns c = record {
   wanted = c.as_slice.result.now;
   reserved = c.reserve-reserved.result;
   begins = c.in_ok-begun.ensures.ok;
-  steady = c.in_ok-begun.ensures.steady;
+  loop_invariant = c.in_ok-begun.ensures.loop_invariant;
 }

@@ -5,6 +5,6 @@ use Rattle.task_code_statements.proofs.vectorizing.lanes_for.Goals as goal
 pub returns-in-Some : goal.returns-in-Some
 returns-in-Some c = record {
   counter_is = refl;
-  count_is = group-count c.args.own.count c.in-Some.group (sym c.of_lanes.ensures ∙ c.in-Some.is);
-  steady = sym c.mentions.ensures ∙ c.if-mentions.false;
+  count_is = group-count c.args.bound.count c.in-Some.group (sym c.of_lanes.ensures ∙ c.in-Some.is);
+  loop_invariant = sym c.mentions.ensures ∙ c.if-mentions.false;
 }

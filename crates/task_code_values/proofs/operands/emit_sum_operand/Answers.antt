@@ -11,15 +11,15 @@ use Rattle.task_code_values.proofs.operands.emit_sum_operand.Goals as goal
 pub returns-then-found-eq0-clause-ok : goal.returns-then-found-eq0-clause-ok
 returns-then-found-eq0-clause-ok c =
     held-near c.args.scope.now (record { sum = c.in_ok-sum.sum; per_hart = 0 }) c.args.r c.in-Some.found.register c.in-Some.found.number _ _
-    (λ hart values. linear_value values c.args.own.now)
+    (λ hart values. linear_value values c.args.new_sum.now)
     (subst (λ o. IfSome o (λ at. IsNear c.args.scope.now (record { sum = c.in_ok-sum.sum; per_hart = 0 }) at.register at.number)) c.in-Some.is
     c.find.ensures.near)
     c.if-found-eq0.true
-    (λ hart values. form-alone hart values (record { sum = c.in_ok-sum.sum; per_hart = 0 }) c.args.own.now refl c.in_ok-sum.ensures)
+    (λ hart values. form-alone hart values (record { sum = c.in_ok-sum.sum; per_hart = 0 }) c.args.new_sum.now refl c.in_ok-sum.ensures)
 
 pub returns-clause-ok : goal.returns-clause-ok
 returns-clause-ok c =
-    sum-made c.args.scope.now (record { sum = c.in_ok-sum.sum; per_hart = 0 }) c.args.own.now c.args.r _ _ c.requires refl c.in_ok-sum.ensures
+    sum-made c.args.scope.now (record { sum = c.in_ok-sum.sum; per_hart = 0 }) c.args.new_sum.now c.args.r _ _ c.requires refl c.in_ok-sum.ensures
     c.in_ok-emit_reached.ensures.ok
 
 pub returns-in_err-emit_reached-clause-err : goal.returns-in_err-emit_reached-clause-err

@@ -67,54 +67,55 @@ emit_statement-returns-in_err-emit_split-in-Bind-clause-err t c =
 
 pub emit_loop-returns-in_ok-emit_iterations-in-None-clause-ok : goal.emit_loop-returns-in_ok-emit_iterations-in-None-clause-ok
 emit_loop-returns-in_ok-emit_iterations-in-None-clause-ok t c =
-    in-iteration c.args.site.now.places.now c.args.site.now.scope.now c.args.around.now c.args.own.counter c.args.own.count c.args.own.kind c.args.body.now _ _
+    in-iteration c.args.site.now.places.now c.args.site.now.scope.now c.args.around.now c.args.loop_head.counter c.args.loop_head.count c.args.loop_head.kind c.args.body.now _ _
     (sym c.group_collected.ensures ∙ c.in-None.is) c.in_ok-emit_iterations-in-None.ensures.ok
 
 pub emit_loop-returns-in_err-emit_iterations-in-None-clause-err : goal.emit_loop-returns-in_err-emit_iterations-in-None-clause-err
 emit_loop-returns-in_err-emit_iterations-in-None-clause-err t c =
     passed-on _ c.from_residual.result c.in_err-emit_iterations-in-None.field-0.0 c.from_residual.ensures.1
-    (any-faulty c.args.site.now.places.now c.args.site.now.scope.now c.args.own.counter c.args.own.count c.args.own.kind c.args.body.now _)
+    (any-faulty c.args.site.now.places.now c.args.site.now.scope.now c.args.loop_head.counter c.args.loop_head.count c.args.loop_head.kind c.args.body.now _)
     c.in_err-emit_iterations-in-None.ensures.err
 
 pub emit_loop-emit_collected-requires-clause-one : goal.emit_loop-emit_collected-requires-clause-one
 emit_loop-emit_collected-requires-clause-one t c =
-    collected-one c.args.own.count c.args.own.kind c.args.body.now c.group_collected.result c.in-Some.group c.group_collected.ensures c.in-Some.is
+    collected-one c.args.loop_head.count c.args.loop_head.kind c.args.body.now c.group_collected.result c.in-Some.group c.group_collected.ensures c.in-Some.is
 
 pub emit_loop-returns-in_ok-emit_collected-in-Some-clause-ok : goal.emit_loop-returns-in_ok-emit_collected-in-Some-clause-ok
 emit_loop-returns-in_ok-emit_collected-in-Some-clause-ok t c =
-    collected c.args.site.now.places.now c.args.site.now.scope.now c.args.around.now c.args.own.counter c.args.own.count c.args.own.kind c.args.body.now
+    collected c.args.site.now.places.now c.args.site.now.scope.now c.args.around.now c.args.loop_head.counter c.args.loop_head.count c.args.loop_head.kind c.args.body.now
     c.in-Some.group _ _ (sym c.group_collected.ensures ∙ c.in-Some.is) c.in_ok-emit_collected-in-Some.ensures.ok
 
 pub emit_loop-returns-in_err-emit_collected-in-Some-clause-err : goal.emit_loop-returns-in_err-emit_collected-in-Some-clause-err
 emit_loop-returns-in_err-emit_collected-in-Some-clause-err t c =
-    let k = is-collected c.args.own.count c.args.own.kind c.args.body.now c.in-Some.group (sym c.group_collected.ensures ∙ c.in-Some.is) in
+    let k = is-collected c.args.loop_head.count c.args.loop_head.kind c.args.body.now c.in-Some.group (sym c.group_collected.ensures ∙ c.in-Some.is) in
     passed-on _ c.from_residual-in_err-emit_collected-in-Some.result c.in_err-emit_collected-in-Some.field-0.0
     c.from_residual-in_err-emit_collected-in-Some.ensures.1
-    (collected-faulty c.args.site.now.places.now c.args.site.now.scope.now c.args.own.counter c.args.own.count _ c.args.own.kind _ c.args.body.now _
+    (collected-faulty c.args.site.now.places.now c.args.site.now.scope.now c.args.loop_head.counter c.args.loop_head.count _ c.args.loop_head.kind _ c.args.body.now _
     k.count_is k.kind_is) c.in_err-emit_collected-in-Some.ensures.err
 
-pub emit_iterations-returns-then-own-eq0-clause-ok : goal.emit_iterations-returns-then-own-eq0-clause-ok
-emit_iterations-returns-then-own-eq0-clause-ok t c = λ kind plain.
-    none-appends c.args.site.now.places.now c.args.site.now.scope.now c.args.around.now c.args.own.counter c.args.own.count kind c.args.body.now _
-    c.if-own-eq0.true
+pub emit_iterations-returns-then-bound-eq0-clause-ok : goal.emit_iterations-returns-then-bound-eq0-clause-ok
+emit_iterations-returns-then-bound-eq0-clause-ok t c = λ kind plain.
+    none-appends c.args.site.now.places.now c.args.site.now.scope.now c.args.around.now c.args.bound.counter c.args.bound.count kind c.args.body.now _
+    c.if-bound-eq0.true
 
 pub emit_iterations-returns-clause-ok : goal.emit_iterations-returns-clause-ok
 emit_iterations-returns-clause-ok t c =
-    loop-appended c.args.site.now.scope.now c.args.around.now c.as_slice-2.result.now c.args.own.counter c.numbered.result c.args.own.count c.depth.result _
+    loop-appended c.args.site.now.scope.now c.args.around.now c.as_slice-2.result.now c.args.bound.counter c.numbered.result c.args.bound.count c.depth.result _
     c.in_ok-begun.begun c.as_slice.result.now _ _ c.requires c.numbered.ensures c.in_ok-begun.ensures.ok
     (c.in_ok-begun.ensures.plain refl) c.as_slice.ensures.value (c.as_slice-2.ensures.value ∙ c.in_ok-inner.ensures) c.args.site.now.places.now
     c.args.body.now c.len-start.result _ _ (omega arith) refl (c.len-start.ensures ∙ c.begin_loop.new.code.ok.0) c.in_ok-emit_statement.ensures.ok
     c.in_ok-end_loop.ensures.ok
 
-pub emit_iterations-begin_loop-requires-clause-steady : goal.emit_iterations-begin_loop-requires-clause-steady
-emit_iterations-begin_loop-requires-clause-steady t c =
-    ap (λ own. mentions own c.args.site.now.scope.now) c.numbered.ensures
+pub emit_iterations-begin_loop-requires-clause-loop_invariant :
+    goal.emit_iterations-begin_loop-requires-clause-loop_invariant
+emit_iterations-begin_loop-requires-clause-loop_invariant t c =
+    ap (λ bound. mentions bound c.args.site.now.scope.now) c.numbered.ensures
     ∙ c.requires.lack (length c.args.around.now) (omega arith)
 
 pub emit_iterations-emit_statement-requires : goal.emit_iterations-emit_statement-requires
 emit_iterations-emit_statement-requires t c = (
   omega (arith, c.decreases),
-  loop-holds c.args.site.now.scope.now c.args.around.now c.as_slice-2.result.now c.args.own.counter c.numbered.result c.args.own.count c.depth.result _
+  loop-holds c.args.site.now.scope.now c.args.around.now c.as_slice-2.result.now c.args.bound.counter c.numbered.result c.args.bound.count c.depth.result _
       c.in_ok-begun.begun c.as_slice.result.now _ _ c.requires c.numbered.ensures c.in_ok-begun.ensures.ok
       (c.in_ok-begun.ensures.plain refl) c.as_slice.ensures.value (c.as_slice-2.ensures.value ∙ c.in_ok-inner.ensures),
 )
@@ -122,20 +123,20 @@ emit_iterations-emit_statement-requires t c = (
 pub emit_iterations-returns-in_err-begun-clause-err : goal.emit_iterations-returns-in_err-begun-clause-err
 emit_iterations-returns-in_err-begun-clause-err t c =
     passed-on _ c.from_residual.result c.in_err-begun.field-0.0 c.from_residual.ensures.1
-    (loop-full c.args.site.now.places.now c.args.site.now.scope.now c.args.own.counter c.args.own.count c.depth.result c.args.body.now _ c.depth.ensures)
+    (loop-full c.args.site.now.places.now c.args.site.now.scope.now c.args.bound.counter c.args.bound.count c.depth.result c.args.body.now _ c.depth.ensures)
     c.in_err-begun.ensures.err
 
 pub emit_iterations-returns-in_err-emit_statement-clause-err : goal.emit_iterations-returns-in_err-emit_statement-clause-err
 emit_iterations-returns-in_err-emit_statement-clause-err t c =
     passed-on _ c.from_residual-in_err-emit_statement.result c.in_err-emit_statement.field-0.0 c.from_residual-in_err-emit_statement.ensures.1
-    (loop-faulty c.args.site.now.places.now c.args.site.now.scope.now c.args.own.counter c.args.own.count c.depth.result c.args.body.now
+    (loop-faulty c.args.site.now.places.now c.args.site.now.scope.now c.args.bound.counter c.args.bound.count c.depth.result c.args.body.now
     c.in_ok-begun.begun.inner.items c.as_slice.result.now _ (omega arith) c.depth.ensures c.in_ok-begun.ensures.ok.left c.as_slice.ensures.value)
     c.in_err-emit_statement.ensures.err
 
 pub emit_iterations-returns-in_err-end_loop-clause-err : goal.emit_iterations-returns-in_err-end_loop-clause-err
 emit_iterations-returns-in_err-end_loop-clause-err t c =
     passed-on _ c.from_residual-in_err-end_loop.result c.in_err-end_loop.field-0.0 c.from_residual-in_err-end_loop.ensures.1
-    (loop-late c.args.site.now.scope.now c.args.around.now c.as_slice-2.result.now c.args.own.counter c.numbered.result c.args.own.count c.depth.result _
+    (loop-late c.args.site.now.scope.now c.args.around.now c.as_slice-2.result.now c.args.bound.counter c.numbered.result c.args.bound.count c.depth.result _
     c.in_ok-begun.begun c.as_slice.result.now _ _ c.requires c.numbered.ensures c.in_ok-begun.ensures.ok
     (c.in_ok-begun.ensures.plain refl) c.as_slice.ensures.value (c.as_slice-2.ensures.value ∙ c.in_ok-inner.ensures) c.args.site.now.places.now
     c.args.body.now c.len-start.result _ _ (omega arith) (c.len-start.ensures ∙ c.begin_loop.new.code.ok.0) c.in_ok-emit_statement.ensures.ok)

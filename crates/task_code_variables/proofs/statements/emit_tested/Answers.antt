@@ -14,5 +14,5 @@ returns-clause-ok c =
 pub returns-in_err-emit_guarded-clause-err : goal.returns-in_err-emit_guarded-clause-err
 returns-in_err-emit_guarded-clause-err c =
     passed-on _ c.from_residual-in_err-emit_guarded.result c.in_err-emit_guarded.field-0.0 c.from_residual-in_err-emit_guarded.ensures.1
-    (tested-faulty c.args.scope.now c.args.counter c.in_ok-form.form c.args.made.now.words.items c.as_slice-words.result.now _
+    (tested-faulty c.args.scope.now c.args.counter c.in_ok-form.form c.args.new_code.now.words.items c.as_slice-words.result.now _
     c.as_slice-words.ensures.value c.in_ok-form.ensures) c.in_err-emit_guarded.ensures.err

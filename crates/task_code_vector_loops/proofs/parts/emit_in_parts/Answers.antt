@@ -11,7 +11,7 @@ emit_parts-done-requires-clause-ready c = record {
   inner_is = c.as_slice.ensures.value ∙ c.in_ok-inner.ensures
       ∙ ap (λ form. record { register = c.in-Some-free_register.register; form = form } ∷ c.args.site.now.scope.now) c.in_ok-form.ensures;
   lacks = sym c.mentions.ensures ∙ c.if-mentions.false;
-  steady = sym c.mentions-else-mentions.ensures ∙ c.if-mentions-2.false;
+  loop_invariant = sym c.mentions-else-mentions.ensures ∙ c.if-mentions-2.false;
   apart = sym c.same_counter.ensures ∙ c.if-same_counter.false;
 }
 

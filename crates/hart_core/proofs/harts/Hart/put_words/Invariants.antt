@@ -5,7 +5,7 @@ use Rattle.vector_unit.specs.Accesses.{filled_from}
 use Rattle.hart_core.specs.HartState.{vectors_of, with_vectors}
 use Rattle.hart_core.proofs.harts.Hart.put_words.Given as goal
 
--- so many registers have their words
+-- this many registers have their words
 abbrev pub invariant-loop-part : goal.invariant-loop-part
 invariant-loop-part l = record {
   end : l.part-end ≡ group (vectors_of l.fn.self);

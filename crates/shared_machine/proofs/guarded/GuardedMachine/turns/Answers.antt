@@ -13,7 +13,7 @@ use Rattle.shared_machine.proofs.Eight.{read-each, write-each}
 use Rattle.shared_machine.proofs.Passing.{passed}
 use Rattle.shared_machine.proofs.guarded.GuardedMachine.turns.Goals as goal
 
--- turns are refused as spent exactly where so many were made
+-- turns are refused as spent exactly where this many were made
 abbrev SpentAt : Result Batch TurnRefusal → ℕ → Type 0
 SpentAt result number = (result ≡ Err TurnsSpent → most_turns ≤ number) × (most_turns ≤ number → result ≡ Err TurnsSpent)
 
