@@ -6,6 +6,7 @@ ghost use Rattle.task_code.specs.Tasks.{task_size};
 
 use loop_ir::expressions::Expr;
 use loop_ir::statements::{LoopKind, Phase, Stmt, Store};
+use task_code_values::needs::is_leaf;
 
 fn plus(a: u32, b: u32) -> u32
     requires { (a ≤ 2 ^ 18) × (b ≤ 2 ^ 18) }
@@ -32,21 +33,6 @@ fn kept(second_is_leaf: bool, more: u32) -> u32
     ensures { (result ≤ 200) × (result ≡ (if second_is_leaf then 0 else 15) + more) }
 {
     if second_is_leaf { more } else { 15 + more }
-}
-
-#[tactic(auto, unfolding(loop_ir::specs::Sizes::size_of))]
-fn is_leaf(e: &Expr) -> bool
-    ensures { result ≡ (spec.size_of e.now).is_leaf }
-{
-    match e {
-        Expr::Number(_) => true,
-        Expr::Linear(_) => true,
-        Expr::Binary(_, _, _) => false,
-        Expr::Divide(_, _) => false,
-        Expr::Remainder(_, _) => false,
-        Expr::Select(_, _, _) => false,
-        Expr::Load(_, _, _) => false,
-    }
 }
 
 fn size(e: &Expr) -> u32

@@ -6,15 +6,14 @@ use Rattle.std.proofs.lemmas.List.{append-nil}
 use Rattle.halide_pipeline.specs.declared.expressions.Operation.{Operation}
 use Rattle.halide_pipeline.specs.declared.expressions.Source.{Source}
 use Rattle.halide_pipeline.specs.Pixel.{Reads}
-use Rattle.halide_pipeline.specs.Points.{Point, Seen}
+use Rattle.halide_pipeline.specs.Points.{Point}
 use Rattle.halide_pipeline.specs.Words as word
 use Rattle.halide_pipeline.proofs.Seeing.{all_parts}
 use Rattle.loop_ir.specs.declared.expressions.Expr.{Expr}
 use Rattle.loop_ir.specs.declared.expressions.Expr.TheVariants as e
 use Rattle.loop_ir.specs.declared.expressions.Linear.{Linear}
 use Rattle.loop_ir.specs.Counters.{Values}
-use Rattle.loop_ir.specs.Expressions.{linear_value, value, loads, seen, seen_at}
-use Rattle.loop_ir.proofs.Folds.{at_number, at_linear}
+use Rattle.loop_ir.specs.Expressions.{linear_value, value, loads}
 use Rattle.task_code_scalar.specs.declared.layouts.Places.{Places}
 use Rattle.task_code_loops.specs.declared.bounds.Bound.{Bound}
 use Rattle.task_code_loops.specs.Bounds.{AreBelow}
@@ -26,21 +25,6 @@ use Rattle.task_code_clamps.specs.Clamps.{AreBytesAt, IsSame, IsRanged}
 use Rattle.task_code_clamps.specs.Ranges.{IsByte, LiesIn}
 use Rattle.task_code_clamps.specs.Steps.{IsTested}
 use Rattle.task_code_clamps.proofs.Lying.{sum-word}
-
--- a number and a sum load nothing
-no-loads-number : (reads : Reads) (values : Values) (n : ℕ) → loads reads values (e.Number n) ≡ []
-unfolding seen
-no-loads-number reads values n = ap (λ (s : Seen). s.points) (at_number Seen (seen_at reads values) n)
-
-no-loads-linear : (reads : Reads) (values : Values) (new_sum : Linear) → loads reads values (e.Linear new_sum) ≡ []
-unfolding seen
-no-loads-linear reads values new_sum = ap (λ (s : Seen). s.points) (at_linear Seen (seen_at reads values) new_sum)
-
-pub leaf-number : (expression : Expr) (n : ℕ) → expression ≡ e.Number n → (reads : Reads) (values : Values) → loads reads values expression ≡ []
-leaf-number expression n is reads values = ap (λ x. loads reads values x) is ∙ no-loads-number reads values n
-
-pub leaf-linear : (expression : Expr) (sum : Linear) → expression ≡ e.Linear sum → (reads : Reads) (values : Values) → loads reads values expression ≡ []
-leaf-linear expression sum is reads values = ap (λ x. loads reads values x) is ∙ no-loads-linear reads values sum
 
 module _ (places : Places) (bounds : List Bound) where
   -- ---- leaves

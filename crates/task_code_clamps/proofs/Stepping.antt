@@ -16,7 +16,7 @@ use Rattle.task_code_clamps.specs.declared.ranges.LevelRange.{LevelRange}
 use Rattle.task_code_clamps.specs.Ranges.{level, LiesIn}
 use Rattle.task_code_clamps.specs.Steps.{IsGreater, IsLesser, IsMore, IsSteppedDown, IsSteppedUp, IsTested}
 use Rattle.task_code_clamps.proofs.Lying.{sum-word}
-use Rattle.task_code_clamps.proofs.Same.{leaf-number, leaf-linear}
+use Rattle.task_code_values.proofs.Leaves.{leaf-number, leaf-linear}
 
 -- ---- words
 

@@ -1,10 +1,7 @@
 //! What expressions are without clamps that cut nothing off, part by part.
 
-ghost use Rattle.std.specs.Prelude.{◌&&◌, ◌<◌, ◌^◌, ◌≡◌, ℕ, List, IfOk, [], false, true};
+ghost use Rattle.std.specs.Prelude.{◌&&◌, ◌<◌, ◌^◌, ◌≡◌, ℕ, List, IfOk, false, true};
 ghost use Rattle.halide_pipeline.specs.Words as word;
-ghost use Rattle.halide_pipeline.specs.Pixel.{Reads};
-ghost use Rattle.loop_ir.specs.Counters.{Values};
-ghost use Rattle.loop_ir.specs.Expressions.{loads};
 ghost use Rattle.loop_ir.specs.declared.expressions.Expr.TheVariants as expressions;
 ghost use Rattle.task_code_clamps.specs.Clamps.{IsRanged, IsSame};
 ghost use Rattle.task_code_loops.specs.declared.bounds.Bound.{Bound};
@@ -22,6 +19,7 @@ use sqlite_items::Boxed;
 use std::alloc::{AllocError, Global};
 use task_code_loops::bounds::Bound;
 use task_code_scalar::layouts::Places;
+use task_code_values::needs::is_leaf;
 
 /// An expression, between which numbers its value lies, and whether it is known that it is below 2^32.
 #[derive(Debug, Drop)]
@@ -37,21 +35,6 @@ enum TakenOperand {
     First,
     Second,
     Either,
-}
-
-/// Whether an expression is a number or a sum, so that it loads nothing.
-fn is_leaf(e: &Expr) -> bool
-    ensures { result ≡ true → (reads : Reads) (values : Values) → loads reads values e.now ≡ [] }
-{
-    match e {
-        Expr::Number(_) => true,
-        Expr::Linear(_) => true,
-        Expr::Binary(_, _, _) => false,
-        Expr::Divide(_, _) => false,
-        Expr::Remainder(_, _) => false,
-        Expr::Select(_, _, _) => false,
-        Expr::Load(_, _, _) => false,
-    }
 }
 
 /// Whether a range is that of 0 alone.

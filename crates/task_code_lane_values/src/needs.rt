@@ -17,14 +17,10 @@ struct Taking {
 
 // ---- orders
 
-fn larger(a: u8, b: u8) -> u8 {
-    if a < b { b } else { a }
-}
-
 /// How many groups three values take that are made in this order, each in the group after that of the one before it.
 fn in_order(first: u8, second: u8, third: u8) -> u8 {
-    let others = larger(second.saturating_add(1), third.saturating_add(2));
-    larger(first, others)
+    let others = second.saturating_add(1).max(third.saturating_add(2));
+    first.max(others)
 }
 
 /// How many groups two values take, where the one that takes more is made first.

@@ -4,6 +4,7 @@ pub mod Deepening
 pub mod Dividing
 pub mod Evaluating
 pub mod FirstOperands
+pub mod Leaves
 pub mod Literals
 pub mod Operating
 pub mod Parked

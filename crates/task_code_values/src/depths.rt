@@ -5,7 +5,7 @@ ghost use Rattle.std.specs.Prelude.{◌≡◌, ◌+◌, ◌<◌, ◌≤◌, ◌�
 ghost use Rattle.loop_ir.specs.Needs as needs;
 ghost use Rattle.task_code_values.specs.Depths as spec;
 
-use crate::needs::is_leaf;
+use crate::needs::{is_leaf, larger};
 use loop_ir::expressions::Expr;
 
 /// How many registers the stack has.
@@ -14,12 +14,6 @@ pub const STACK: u32 = 12;
 const OVER: u32 = 13;
 /// First operands are counted up to this.
 const MOST: u32 = 1_000_000;
-
-fn larger(a: u32, b: u32) -> u32
-    ensures { result ≡ max a b }
-{
-    if a < b { b } else { a }
-}
 
 // ---- how high the stack grows, counted up to one more than it has registers
 

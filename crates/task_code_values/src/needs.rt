@@ -1,14 +1,18 @@
 //! How many registers of the stack an expression needs.
 
-ghost use Rattle.std.specs.Prelude.{◌≡◌, ◌+◌, ◌≤◌, ℕ, if◌then◌else◌, max, min};
+ghost use Rattle.std.specs.Prelude.{◌≡◌, ◌+◌, ◌≤◌, ℕ, [], if◌then◌else◌, max, min, true};
+ghost use Rattle.halide_pipeline.specs.Pixel.{Reads};
+ghost use Rattle.loop_ir.specs.Counters.{Values};
+ghost use Rattle.loop_ir.specs.Expressions.{loads};
 ghost use Rattle.loop_ir.specs.Needs as spec;
+ghost use Rattle.loop_ir.specs.Sizes as sizes;
 
 use loop_ir::expressions::Expr;
 
 /// Needs are counted up to this: a frame has fewer words.
 const MOST: u32 = 2000;
 
-fn larger(a: u32, b: u32) -> u32
+pub(crate) fn larger(a: u32, b: u32) -> u32
     ensures { result ≡ max a b }
 {
     if a < b { b } else { a }
@@ -52,10 +56,12 @@ fn triple_need(first: u32, second: u32, third: u32) -> u32
     larger(first, larger(beside(second, 1), beside(third, 2)))
 }
 
-/// Whether an expression is a number or a sum.
-#[tactic(auto, unfolding(loop_ir::specs::Needs::need_of))]
+/// Whether an expression is a number or a sum, so that it loads nothing.
+#[tactic(auto, unfolding(loop_ir::specs::Needs::need_of, loop_ir::specs::Sizes::size_of))]
 pub fn is_leaf(e: &Expr) -> bool
-    ensures { result ≡ (spec.need_of e.now).is_leaf }
+    ensures need { result ≡ (spec.need_of e.now).is_leaf }
+    ensures size { result ≡ (sizes.size_of e.now).is_leaf }
+    ensures blind { result ≡ true → (reads : Reads) (values : Values) → loads reads values e.now ≡ [] }
 {
     match e {
         Expr::Number(_) => true,

@@ -18,7 +18,7 @@ returns-in-Binary t c = (
   binary-sized c.args.e.now c.in-Binary.a c.in-Binary.b c.get.result.now c.get-in-Binary.result.now c.get-in-Binary-2.result.now c.in-Binary.field-0
       c.size.result c.size-in-Binary.result c.plus.result c.kept.result c.plus-in-Binary.result
       c.is_leaf.result c.in-Binary.is c.get.ensures c.get-in-Binary.ensures c.get-in-Binary-2.ensures c.size.ensures.1 c.size-in-Binary.ensures.1
-      c.is_leaf.ensures c.kept.ensures.1 c.plus.ensures.1 c.plus-in-Binary.ensures.1,
+      c.is_leaf.ensures.size c.kept.ensures.1 c.plus.ensures.1 c.plus-in-Binary.ensures.1,
 )
 
 pub returns-in-Divide : goal.returns-in-Divide
@@ -52,6 +52,6 @@ returns-in-Load t c = (
   load-sized c.args.e.now c.in-Load.x c.in-Load.y c.get-in-Load.result.now c.get-in-Load-2.result.now c.get-in-Load-3.result.now c.in-Load.field-0
       c.size-in-Load.result c.size-in-Load-2.result c.plus-in-Load.result c.kept-in-Load.result
       c.plus-in-Load-2.result c.is_leaf-in-Load.result c.in-Load.is c.get-in-Load.ensures c.get-in-Load-2.ensures c.get-in-Load-3.ensures
-      c.size-in-Load.ensures.1 c.size-in-Load-2.ensures.1 c.is_leaf-in-Load.ensures c.kept-in-Load.ensures.1
+      c.size-in-Load.ensures.1 c.size-in-Load-2.ensures.1 c.is_leaf-in-Load.ensures.size c.kept-in-Load.ensures.1
       c.plus-in-Load.ensures.1 c.plus-in-Load-2.ensures.1,
 )

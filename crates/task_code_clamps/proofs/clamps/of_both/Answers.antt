@@ -8,12 +8,12 @@ pub returns-then-second_is_leaf : goal.returns-then-second_is_leaf
 returns-then-second_is_leaf c = λ places bounds x y rx ry.
     taken-first places bounds c.args.operation x y c.args.a c.args.b rx ry
     (λ v w la lb words. c.taken_of-own.ensures.first v w la lb (λ t. words (sym c.both-are_words.ensures ∙ t)) c.in-First.is)
-    (c.is_leaf-second_is_leaf.ensures c.if-second_is_leaf.true)
+    (c.is_leaf-second_is_leaf.ensures.blind c.if-second_is_leaf.true)
 
 pub returns-then-first_is_leaf : goal.returns-then-first_is_leaf
 returns-then-first_is_leaf c = λ places bounds x y rx ry.
     taken-second places bounds c.args.operation x y c.args.a c.args.b rx ry (λ v w la lb. c.taken_of-own.ensures.second v w la lb c.in-Second.is)
-    (c.is_leaf-first_is_leaf.ensures c.if-first_is_leaf.true)
+    (c.is_leaf-first_is_leaf.ensures.blind c.if-first_is_leaf.true)
 
 pub returns : goal.returns
 returns c = λ places bounds x y rx ry.

@@ -7,7 +7,7 @@ returns-then-taken-ge-STACK t c = none-left c.args.e.now c.args.taken c.if-taken
 pub returns-in-Binary : goal.returns-in-Binary
 returns-in-Binary t c =
     binary-height c.args.e.now _ c.in-Binary.a c.in-Binary.b _ _ _ c.args.taken _ _ c.pair_height.result _ c.in-Binary.is c.get.ensures
-    c.get-in-Binary.ensures c.get-in-Binary-2.ensures c.height-first.ensures c.height-second.ensures c.is_leaf.ensures c.pair_height.ensures
+    c.get-in-Binary.ensures c.get-in-Binary-2.ensures c.height-first.ensures c.height-second.ensures c.is_leaf.ensures.need c.pair_height.ensures
 
 pub returns-in-Divide : goal.returns-in-Divide
 returns-in-Divide t c =
@@ -28,5 +28,5 @@ returns-in-Select t c =
 pub returns-in-Load : goal.returns-in-Load
 returns-in-Load t c =
     load-height c.args.e.now _ c.in-Load.x c.in-Load.y _ _ _ c.args.taken _ _ c.pair_height-in-Load.result _ c.in-Load.is c.get-in-Load.ensures
-    c.get-in-Load-2.ensures c.get-in-Load-3.ensures c.height-first-in-Load.ensures c.height-second-in-Load.ensures c.is_leaf-in-Load.ensures
+    c.get-in-Load-2.ensures c.get-in-Load-3.ensures c.height-first-in-Load.ensures c.height-second-in-Load.ensures c.is_leaf-in-Load.ensures.need
     c.pair_height-in-Load.ensures

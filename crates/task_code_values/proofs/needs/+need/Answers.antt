@@ -5,7 +5,7 @@ pub returns-in-Binary : goal.returns-in-Binary
 returns-in-Binary t c =
     binary-counted c.args.e.now _ c.in-Binary.a c.in-Binary.b _ _ _ _ _ c.pair_need.result _ c.in-Binary.is c.get.ensures c.get-in-Binary.ensures
     c.get-in-Binary-2.ensures
-    c.need.ensures c.is_leaf.ensures c.need-in-Binary.ensures c.pair_need.ensures
+    c.need.ensures c.is_leaf.ensures.need c.need-in-Binary.ensures c.pair_need.ensures
 
 pub returns-in-Divide : goal.returns-in-Divide
 returns-in-Divide t c =
@@ -27,4 +27,4 @@ pub returns-in-Load : goal.returns-in-Load
 returns-in-Load t c =
     load-counted c.args.e.now _ c.in-Load.x c.in-Load.y _ _ _ _ _ c.pair_need-in-Load.result _ c.in-Load.is c.get-in-Load.ensures
     c.get-in-Load-2.ensures c.get-in-Load-3.ensures
-    c.need-in-Load.ensures c.is_leaf-in-Load.ensures c.need-in-Load-2.ensures c.pair_need-in-Load.ensures
+    c.need-in-Load.ensures c.is_leaf-in-Load.ensures.need c.need-in-Load-2.ensures c.pair_need-in-Load.ensures

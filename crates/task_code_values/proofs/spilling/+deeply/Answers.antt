@@ -346,7 +346,7 @@ emit_beside-returns-in_err-second-clause-err t c =
 
 pub emit_beside-returns-clause-ok : goal.emit_beside-returns-clause-ok
 emit_beside-returns-clause-ok t c =
-    both-paired c.args.site.now.places.now c.args.site.now.scope.now c.args.e.now c.args.word c.args.first _ _ (waits c.args.e.now (sym c.is_leaf.ensures
+    both-paired c.args.site.now.places.now c.args.site.now.scope.now c.args.e.now c.args.word c.args.first _ _ (waits c.args.e.now (sym c.is_leaf.ensures.need
     ∙ c.if-is_leaf.false)) c.in_ok-emit_pair.ensures.ok
 
 pub emit_beside-returns-in_err-emit_pair-clause-err : goal.emit_beside-returns-in_err-emit_pair-clause-err
@@ -360,11 +360,11 @@ emit_beside-emit_operand-requires-clause-leaf t c =
 
 pub emit_beside-emit_operand-requires-clause-fits : goal.emit_beside-emit_operand-requires-clause-fits
 emit_beside-emit_operand-requires-clause-fits t c =
-    λ leaf. absurd (true≢false (sym c.if-is_leaf.true ∙ c.is_leaf.ensures ∙ leaf))
+    λ leaf. absurd (true≢false (sym c.if-is_leaf.true ∙ c.is_leaf.ensures.need ∙ leaf))
 
 pub emit_beside-emit_pair-requires : goal.emit_beside-emit_pair-requires
 emit_beside-emit_pair-requires t c =
-    (own-beside (size-Expr c.args.e.now) t c.decreases, (c.requires.fits (sym c.is_leaf.ensures ∙ c.if-is_leaf.false), c.requires.first))
+    (own-beside (size-Expr c.args.e.now) t c.decreases, (c.requires.fits (sym c.is_leaf.ensures.need ∙ c.if-is_leaf.false), c.requires.first))
 
 pub emit_row-returns-in-Some-clause-ok : goal.emit_row-returns-in-Some-clause-ok
 emit_row-returns-in-Some-clause-ok t c =
