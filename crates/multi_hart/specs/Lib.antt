@@ -3,3 +3,4 @@ pub mod Run
 pub mod Snapshots
 pub mod TurnsInARow
 pub mod inner
+pub use Rattle.rv_encoding.specs.Decoding

@@ -3,7 +3,7 @@ use Rattle.std.proofs.Common.{◌≡◌, ℕ, suc, ◌+◌, ◌*◌, ◌%◌, Li
 use Rattle.std.specs.Prelude.{◌-◌, ◌/◌, ◌||◌, slice_get, nat_lt, cond, Some}
 use Rattle.std.proofs.lemmas.Bool.Decides.{nat_tests}
 use Rattle.rv_insn.specs.declared.instructions.Insn.{Insn}
-use Rattle.rv_encoding.specs.Decoding.{decoded}
+use Rattle.multi_hart.specs.Decoding.{decoded}
 use Rattle.memory.specs.Access.{text_start, fetched, touched, read_by, written_by}
 use Rattle.hart_core.specs.declared.harts.Status.TheVariants.{Running}
 use Rattle.hart_core.specs.HartState.{HartState}

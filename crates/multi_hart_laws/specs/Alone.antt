@@ -2,7 +2,7 @@
 -- many turns. Nothing of other harts enters here. This project's own.
 use Rattle.std.specs.Prelude.{◌≡◌, ◌⊎◌, ℕ, zero, suc, ◌||◌, Bool, true, false, List, Some}
 use Rattle.rv_insn.specs.declared.instructions.Insn.{Insn}
-use Rattle.rv_encoding.specs.Decoding.{decoded}
+use Rattle.multi_hart.specs.Decoding.{decoded}
 use Rattle.memory.specs.Access.{fetched}
 use Rattle.hart_core.specs.HartState.{HartState}
 use Rattle.hart_core.specs.Turn.{Does, next_of, step}

@@ -37,7 +37,7 @@ ghost use Rattle.rv_insn.specs.declared.operations.AluOp.{AluOp};
 ghost use Rattle.rv_insn.specs.declared.operations.BranchOp.{BranchOp};
 ghost use Rattle.rv_insn.specs.declared.operations.LoadOp.{LoadOp};
 ghost use Rattle.rv_insn.specs.declared.operations.StoreOp.{StoreOp};
-ghost use Rattle.rv_encoding.specs.Decoding.{decoded};
+ghost use Rattle.multi_hart.specs.Decoding.{decoded};
 ghost use Rattle.memory.specs.Access.{text_start};
 ghost use Rattle.memory.specs.Access.{Byte, Word, touched, number_in};
 ghost use Rattle.hart_core.specs.Scalar.{one_if, extended, plus, computed, computed_with_immediate, shifted, is_taken};

@@ -37,7 +37,7 @@ use Rattle.task_code_scalar.proofs.Tracing.{hit-store}
 use Rattle.task_code_scalar.proofs.Values.{Sets, alu-sets, imm-sets, shift-sets}
 use Rattle.task_code_registers.proofs.Going.{Does}
 use Rattle.task_code_values.proofs.Saving.{equal-parts, is-single, saved}
-use Rattle.task_code_vector_loops.specs.AtOnce.{AtOnceIn}
+use Rattle.task_code_statements.specs.AtOnce.{AtOnceIn}
 use Rattle.task_code_statements.specs.Tasks.{EachTaskEnds, restored}
 use Rattle.task_code_statements.proofs.Tasking.{restores}
 use Rattle.task_code.specs.Example.{example_counter, counted, example_store, example_phase, example_place, example_places, example_ticket, example_text}

@@ -24,7 +24,7 @@ use Rattle.task_code_scalar.specs.declared.layouts.Pixels.TheVariants as pixels
 use Rattle.task_code_scalar.specs.declared.layouts.BufferLayout.{BufferLayout}
 use Rattle.task_code_scalar.specs.declared.layouts.Places.{Places}
 use Rattle.task_code_scalar.specs.Doing.{Setting, IsSetting, SoundIn, RunsIn, HoldsFuncs}
-use Rattle.task_code_vector_loops.specs.AtOnce.{AtOnceIn}
+use Rattle.task_code_statements.specs.AtOnce.{AtOnceIn}
 use Rattle.task_code_statements.specs.Tasks.{HasDrawn}
 
 -- ---- the phase

@@ -7,7 +7,7 @@ use Rattle.std.proofs.lemmas.Bool.Decides.{nat_tests}
 use Rattle.rv_insn.specs.declared.instructions.Insn.{Insn}
 use Rattle.rv_insn.specs.declared.instructions.Insn.TheVariants.{Branch}
 use Rattle.rv_insn.specs.declared.operations.BranchOp.{BranchOp}
-use Rattle.hart_core.specs.Scalar.{is_taken}
+use Rattle.multi_hart_laws.specs.Scalar.{is_taken}
 use Rattle.halide_pipeline.specs.Pixel.{Planes}
 use Rattle.loop_ir.specs.Running.{iterated}
 use Rattle.multi_hart_laws.specs.Alone.{World}

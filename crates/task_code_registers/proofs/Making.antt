@@ -10,7 +10,7 @@ use Rattle.rv_insn.specs.declared.operations.AluImmOp.TheVariants as alu_imms
 use Rattle.rv_insn.specs.declared.operations.ShiftOp.TheVariants as shifts
 use Rattle.rv_insn.specs.declared.operations.AluOp.TheVariants as alus
 use Rattle.halide_pipeline.specs.Words as words
-use Rattle.hart_core.specs.Scalar.{extended}
+use Rattle.multi_hart_laws.specs.Scalar.{extended}
 use Rattle.lanes.specs.Words as lanes
 use Rattle.multi_hart_laws.specs.Alone.{World}
 use Rattle.multi_hart_laws.specs.Paths.{update}

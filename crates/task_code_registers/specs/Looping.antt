@@ -4,7 +4,7 @@ use Rattle.rv_insn.specs.declared.instructions.Insn.{Insn}
 use Rattle.rv_insn.specs.declared.instructions.Insn.TheVariants.{Branch}
 use Rattle.rv_insn.specs.declared.operations.BranchOp.{BranchOp}
 use Rattle.rv_insn.specs.declared.operations.BranchOp.TheVariants as branches
-use Rattle.hart_core.specs.Scalar.{is_taken}
+use Rattle.multi_hart_laws.specs.Scalar.{is_taken}
 use Rattle.halide_pipeline.specs.Pixel.{Planes}
 use Rattle.loop_ir.specs.declared.expressions.Counter.{Counter}
 use Rattle.loop_ir.specs.Buffers.{Points}

@@ -3,8 +3,8 @@ use Rattle.std.proofs.Common.{◌≡◌, ℕ, ◌+◌, ◌<◌, ◌≤◌, List,
 use Rattle.std.specs.Prelude.{◌⊎◌, ◌==◌, if◌then◌else◌}
 use Rattle.std.proofs.lemmas.Bool.Decides.{nat_tests}
 use Rattle.memory.specs.Access.{Word, touched}
-use Rattle.hart_core.specs.Scalar.{one_access}
-use Rattle.multi_hart.specs.Run.{Within, is_in}
+use Rattle.multi_hart_laws.specs.Scalar.{one_access}
+use Rattle.multi_hart_laws.specs.Run.{Within, is_in}
 use Rattle.multi_hart_laws.specs.Uses.{Use, Owned, Private, Job, Task, MayRead, MayWrite}
 use Rattle.multi_hart_laws.specs.Alone.{World}
 use Rattle.halide_pipeline.specs.Points.{Point}

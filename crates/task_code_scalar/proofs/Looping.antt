@@ -6,7 +6,7 @@ use Rattle.std.proofs.lemmas.Bool.{and_parts, cases_lt}
 use Rattle.loop_ir.specs.Soundness.{every}
 use Rattle.std.proofs.Math.IntN.{pos-*ℤ-pos, pos-*ℤ-negsuc, neg_ℤ}
 use Rattle.rv_insn.specs.declared.instructions.Insn.{Insn}
-use Rattle.hart_core.specs.Scalar.{plus, offset_from}
+use Rattle.multi_hart_laws.specs.Scalar.{plus, offset_from}
 use Rattle.multi_hart_laws.specs.Paths.{end}
 use Rattle.task_code_scalar.specs.Code.{forth, back}
 

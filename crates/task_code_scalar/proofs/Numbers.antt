@@ -4,7 +4,7 @@ use Rattle.std.specs.Prelude.{◌≢◌, ◌==◌, if◌then◌else◌, nat_lt, 
 use Rattle.std.proofs.lemmas.Bool.Decides.{nat_tests}
 use Rattle.std.proofs.lemmas.Bool.{cases_lt}
 use Rattle.lanes.specs.Words as lanes
-use Rattle.hart_core.specs.Scalar.{one_if, extended}
+use Rattle.multi_hart_laws.specs.Scalar.{one_if, extended}
 use Rattle.halide_pipeline.specs.Words as word
 use Rattle.task_code_scalar.specs.Code.{upper, lower}
 

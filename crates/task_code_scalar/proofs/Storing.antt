@@ -9,14 +9,14 @@ use Rattle.memory.specs.Access.{byte_at, put, NotIn, AreBytes, Byte, Word, numbe
 use Rattle.memory.proofs.Putting.{length-put, byte-put}
 use Rattle.memory.proofs.StaysBytes.{put-bytes, number-bytes}
 use Rattle.memory.proofs.Words.{word-put, word-other}
-use Rattle.hart_core.specs.Scalar.{load_size, one_access}
+use Rattle.multi_hart_laws.specs.Scalar.{load_size, one_access}
 use Rattle.halide_pipeline.specs.declared.expressions.Source.{Source}
 use Rattle.halide_pipeline.specs.declared.expressions.Source.TheVariants as sources
 use Rattle.halide_pipeline.specs.Pixel.{Planes, reads_of}
 use Rattle.halide_pipeline.specs.Points.{Point}
 use Rattle.loop_ir.specs.Buffers.{Points, put as put_point}
 use Rattle.multi_hart_laws.specs.Alone.{World}
-use Rattle.multi_hart.specs.Run.{is_in}
+use Rattle.multi_hart_laws.specs.Run.{is_in}
 use Rattle.multi_hart_laws.specs.Paths.{stored_at}
 use Rattle.task_code_scalar.specs.declared.layouts.Pixels.{Pixels}
 use Rattle.task_code_scalar.specs.declared.layouts.Pixels.TheVariants as pixels

@@ -7,7 +7,7 @@ use Rattle.rv_insn.specs.declared.operations.AluImmOp.{AluImmOp}
 use Rattle.rv_insn.specs.declared.operations.AluImmOp.TheVariants as alu_imms
 use Rattle.rv_insn.specs.declared.operations.ShiftOp.{ShiftOp}
 use Rattle.rv_insn.specs.declared.operations.AluOp.{AluOp}
-use Rattle.hart_core.specs.Scalar.{extended, computed, computed_with_immediate, shifted}
+use Rattle.multi_hart_laws.specs.Scalar.{extended, computed, computed_with_immediate, shifted}
 use Rattle.lanes.specs.Words as lanes
 use Rattle.multi_hart_laws.specs.Alone.{World}
 use Rattle.multi_hart_laws.specs.Paths.{update, Line}

@@ -3,7 +3,7 @@ use Rattle.std.specs.Prelude.{◌≡◌, ◌<◌, ℕ, ◌*◌, ◌/◌, ◌^◌
 use Rattle.memory.specs.Access.{Word, number_in, AreBytes}
 use Rattle.rv_insn.specs.declared.operations.LoadOp.{LoadOp}
 use Rattle.rv_insn.specs.declared.operations.LoadOp.TheVariants as load_ops
-use Rattle.hart_core.specs.Scalar.{load_size}
+use Rattle.multi_hart_laws.specs.Scalar.{load_size}
 use Rattle.halide_pipeline.specs.declared.expressions.Source.{Source}
 use Rattle.halide_pipeline.specs.Pixel.{Reads}
 use Rattle.halide_pipeline.specs.Points.{Point}

@@ -1,7 +1,7 @@
 -- Buffers in memory: where the points lie that code may write or load, and what memory holds there. This project's own.
 use Rattle.std.specs.Prelude.{◌≡◌, ◌<◌, ◌≤◌, ◌⊎◌, ℕ, ◌+◌, ◌*◌, ◌%◌, ◌^◌, Bool, true, List}
 use Rattle.memory.specs.Access.{Size, Word, number_in, data_start}
-use Rattle.hart_core.specs.Scalar.{load_size}
+use Rattle.multi_hart_laws.specs.Scalar.{load_size}
 use Rattle.halide_pipeline.specs.declared.expressions.Source.TheVariants as sources
 use Rattle.halide_pipeline.specs.Pixel.{Planes, Reads}
 use Rattle.halide_pipeline.specs.Points.{Point}

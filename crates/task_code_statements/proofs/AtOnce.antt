@@ -40,7 +40,7 @@ use Rattle.task_code_loops.proofs.Knowledge.{knows-with}
 use Rattle.task_code_lanes.specs.declared.groups.LaneGroup.{LaneGroup}
 use Rattle.task_code_lanes.specs.declared.groups.LaneGroup.TheVariants as groups
 use Rattle.task_code_lanes.specs.Groups.{registers}
-use Rattle.task_code_lane_values.specs.declared.vectorized.VectorLanes.{VectorLanes}
+use Rattle.task_code_vector_loops.specs.Runs.{VectorLanes}
 use Rattle.task_code_vector_loops.specs.Naming.{AreNamed}
 use Rattle.task_code_vector_loops.specs.declared.left.Left.{Left}
 use Rattle.task_code_vector_loops.specs.Runs.{EmitsRun, StoresAs, all_lanes, least_left, left_by, left_lanes, run_of}

@@ -14,3 +14,4 @@ pub mod Starts
 pub mod Statements
 pub mod Tasks
 pub mod Vectorizing
+pub use Rattle.task_code_vector_loops.specs.AtOnce

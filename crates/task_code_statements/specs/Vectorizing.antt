@@ -22,7 +22,7 @@ use Rattle.task_code_registers.specs.Strides.{strides}
 use Rattle.task_code_loops.specs.declared.bounds.Bound.{Bound}
 use Rattle.task_code_loops.specs.Bounds.{AreBelow}
 use Rattle.task_code_loops.specs.Guarding.{stored_if}
-use Rattle.task_code_lane_values.specs.declared.vectorized.VectorLanes.{VectorLanes}
+use Rattle.task_code_vector_loops.specs.Runs.{VectorLanes}
 use Rattle.task_code_vector_loops.specs.declared.left.Left.{Left}
 use Rattle.task_code_vector_loops.specs.Naming.{AreNamed}
 use Rattle.task_code_vector_loops.specs.Runs.{StoresAs, all_lanes, left_lanes}

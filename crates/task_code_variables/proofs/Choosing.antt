@@ -27,7 +27,7 @@ use Rattle.task_code_lanes.specs.declared.groups.LaneGroup.{LaneGroup}
 use Rattle.task_code_lanes.specs.declared.groups.LaneGroup.TheVariants as groups
 use Rattle.task_code_lanes.specs.Groups.{registers, group_of_lanes}
 use Rattle.task_code_registers.specs.declared.scopes.Held.{Held}
-use Rattle.task_code_vector_loops.specs.AtOnce.{AtOnceIn}
+use Rattle.task_code_statements.specs.AtOnce.{AtOnceIn}
 use Rattle.task_code_variables.specs.Collecting.{is_one_store, one_store_at, group_collected}
 use Rattle.task_code_variables.specs.Statements.{AppendsLoop, AppendsStatement}
 

@@ -56,7 +56,7 @@ use Rattle.task_code_loops.proofs.Knowledge.{knows-with, stands-at}
 use Rattle.task_code_loops.proofs.Repeating.{loop-goes}
 use Rattle.task_code_loops.proofs.Returning.{emits-longer}
 use Rattle.task_code_values.proofs.Saving.{did-went, does-then}
-use Rattle.task_code_vector_loops.specs.AtOnce.{MayRun}
+use Rattle.task_code_statements.specs.AtOnce.{MayRun}
 use Rattle.task_code_variables.specs.Collecting.{Collects, CollectsIf}
 use Rattle.task_code_variables.specs.Renaming.{StandFor, numbered}
 use Rattle.task_code_variables.specs.Statements.{AppendsStatement}

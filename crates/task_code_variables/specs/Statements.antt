@@ -21,7 +21,7 @@ use Rattle.task_code_scalar.specs.Words.{Emits}
 use Rattle.task_code_registers.specs.declared.scopes.Held.{Held}
 use Rattle.task_code_registers.specs.Doing.{Did}
 use Rattle.task_code_registers.specs.Scopes.{Knows, AreHolders, IsKept, left_count}
-use Rattle.task_code_vector_loops.specs.AtOnce.{MayRun}
+use Rattle.task_code_statements.specs.AtOnce.{MayRun}
 use Rattle.task_code_variables.specs.Renaming.{StandFor}
 
 -- Appended code does a statement, wherever registers hold the scope's forms and numbered variables stand for those of the loops around, and keeps

@@ -24,7 +24,7 @@ use Rattle.task_code_registers.specs.Doing.{Did}
 use Rattle.task_code_registers.specs.Scopes.{Knows, AreHolders, IsKept}
 use Rattle.task_code_lanes.specs.declared.groups.LaneGroup.{LaneGroup}
 use Rattle.task_code_lanes.specs.Groups.{registers}
-use Rattle.task_code_lane_values.specs.declared.vectorized.VectorLanes.{VectorLanes}
+pub use Rattle.task_code_lane_values.specs.declared.vectorized.VectorLanes.{VectorLanes}
 use Rattle.task_code_vector_loops.specs.declared.left.Left.{Left}
 use Rattle.task_code_vector_loops.specs.AtOnce.{MayRun}
 

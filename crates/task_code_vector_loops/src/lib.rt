@@ -19,3 +19,5 @@ mod parts;
 mod pointers;
 pub mod runs;
 pub mod terms;
+
+pub use task_code_lane_values::vectorized::VectorLanes;

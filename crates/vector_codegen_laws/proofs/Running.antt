@@ -37,7 +37,7 @@ use Rattle.lowering.specs.Touching.{is_listed, is_root_at, may_write, may_load_a
 use Rattle.lowering.proofs.RunLists.{runs_are_listed}
 use Rattle.task_code_scalar.specs.Doing.{Setting, IsSetting, SoundIn, RunsIn, HoldsFuncs}
 use Rattle.task_code_scalar.specs.Layout.{AreWords, func_point}
-use Rattle.task_code_vector_loops.specs.AtOnce.{AtOnceIn}
+use Rattle.vector_codegen.specs.AtOnce.{AtOnceIn}
 use Rattle.vector_codegen.specs.Programs.{EachTaskEnds, HasDrawn, TaskEnds}
 use Rattle.vector_codegen_laws.specs.Held.{funcs_in, HasInputs, setting, IsTask}
 use Rattle.vector_codegen_laws.specs.Points.{RootPoint}
