@@ -9,6 +9,7 @@ pub mod ListedForms
 pub mod ListedLines
 pub mod ListedOperands
 pub mod ListedTexts
+pub mod ManyOperands
 pub mod Pairs
 pub mod Rules
 pub mod Surveying

@@ -14,11 +14,14 @@ use crate::locations::LineLocation;
 use crate::operations::LineOperation;
 use crate::products::LineProduct;
 use crate::surveys::{Here, Survey, place_after};
-use assembler_syntax::{AssemblyToken, Head, Statement, head_of, statement_of, tokens_of};
+use assembler_syntax::{Head, Statement, head_of, statement_of};
 use line_text::ReadError;
 use memory::{MOST_BYTES, MOST_WORDS};
 use sqlite_items::Items;
 use std::alloc::Global;
+
+/// So many operands of a line are kept. None takes as many, so those that follow them change nothing.
+const MOST_OPERANDS: usize = 8;
 
 /// What a statement's mnemonic and operands give, if it has them.
 fn command(survey: &Survey, here: Here, statement: &Statement) -> Result<LineProduct, AsmFault>
@@ -103,9 +106,8 @@ pub fn line_product(
 ) -> Result<(LineProduct, LineLocation), ReadError<AsmFault>>
     ensures { GivesLine survey.now here line.now result }
 {
-    let tokens: Vec<AssemblyToken> = tokens_of(alloc, line)?;
-    let behind = behind(here.place, &head_of(alloc, &tokens)?);
-    let Some(statement) = statement_of(alloc, &tokens)? else {
+    let behind = behind(here.place, &head_of(alloc, line)?);
+    let Some(statement) = statement_of(alloc, line, MOST_OPERANDS)? else {
         return Err(ReadError::Fault(AsmFault::Syntax));
     };
     match stated(survey, here, behind, &statement) {

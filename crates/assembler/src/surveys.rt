@@ -7,7 +7,7 @@ ghost use Rattle.assembler.specs.Places as spec;
 use crate::labels::{Label, Labels};
 use crate::locations::LineLocation;
 use crate::operations::LineOperation;
-use assembler_syntax::{Head, head_of, tokens_of};
+use assembler_syntax::{Head, head_of};
 use line_text::lines::first_line;
 use sqlite_items::Items;
 use std::alloc::{AllocError, Global};
@@ -105,8 +105,7 @@ impl Survey {
         requires { self.old.here.line + 1 < 2 ^ 64 }
         ensures { OnOk result (self.new ≡ spec.surveyed_line self.old line.now) }
     {
-        let tokens = tokens_of(alloc, line)?;
-        self.take_head(alloc, &head_of(alloc, &tokens)?)
+        self.take_head(alloc, &head_of(alloc, line)?)
     }
 
     /// The survey of a whole text.

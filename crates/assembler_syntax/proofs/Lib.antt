@@ -1,3 +1,6 @@
 pub mod Capping
+pub mod Keeping
+pub mod Labels
+pub mod NextToken
+pub mod OperandFronts
 pub mod Pieces
-pub mod TokenLoop

@@ -1,6 +1,6 @@
 -- What the tokens of a line say: a label, a mnemonic and operands.
 -- This project's own, after the assembly syntax of RISC-V Unprivileged ISA 20191213, chapter 25.
-use Rattle.std.specs.Prelude.{ℕ, ◌&&◌, Bool, true, false, nat_le, if◌then◌else◌, ℤ, List, [], ◌∷◌, length, Option, Some, None}
+use Rattle.std.specs.Prelude.{ℕ, ◌&&◌, Bool, false, nat_le, if◌then◌else◌, ℤ, List, [], ◌∷◌, length, take, Option, Some, None, option_map}
 use Rattle.std.specs.List.{list_all}
 use Rattle.line_text.specs.Lines.{begins_name, continues_name}
 use Rattle.assembler_syntax.specs.declared.tokens.AssemblyToken.{AssemblyToken}
@@ -40,15 +40,6 @@ pieces_of [] = [] ∷ []
 pieces_of (t.Comma ∷ tokens) = [] ∷ pieces_of tokens
 pieces_of (token ∷ tokens) = joined token (pieces_of tokens)
 
--- the pieces after a comma, if there is one
-abbrev pub later_pieces : Option (List AssemblyToken) → List (List AssemblyToken)
-later_pieces None = []
-later_pieces (Some tokens) = pieces_of tokens
-
-abbrev pub is_plain : AssemblyToken → Bool
-is_plain t.Comma = false
-is_plain token = true
-
 -- each piece is an operand
 abbrev pub with_first : Option Operand → Option (List Operand) → Option (List Operand)
 with_first None others = None
@@ -79,6 +70,13 @@ behind_label label (token ∷ tokens) = None
 unfoldable pub statement_of : List AssemblyToken → Option Statement
 statement_of (t.Word label ∷ t.Colon ∷ tokens) = if is_label label then behind_label (Some label) tokens else None
 statement_of tokens = behind_label None tokens
+
+-- the statement with no more than this many of its operands
+abbrev pub command_up_to : ℕ → MnemonicLine → MnemonicLine
+command_up_to most command = record command { operands = take most command.operands }
+
+abbrev pub up_to : ℕ → Statement → Statement
+up_to most statement = record statement { command = option_map (command_up_to most) statement.command }
 
 -- ---- the front of a line, whatever follows: its label, its mnemonic, and how much a number that is its only
 -- ---- operand asks for

@@ -1,12 +1,17 @@
 //! What the tokens of a line say.
 
-ghost use Rattle.std.specs.Prelude.{◌≡◌, ◌<◌, ◌≤◌, ◌∷◌, length, option_map, IfOk, IfSome};
-ghost use Rattle.std.specs.List.{list_all, prefix_len};
+ghost use Rattle.std.specs.Prelude.{◌≡◌, ◌<◌, ◌==◌, List, [], ◌∷◌, ◌++◌, Some, None, length, take, option_map, if◌then◌else◌, IfOk, IfSome, OnOk};
+ghost use Rattle.std.specs.List.{list_all};
 ghost use Rattle.line_text.specs.Lines.{continues_name};
 ghost use Rattle.assembler_syntax.specs.Statements as spec;
+ghost use Rattle.assembler_syntax.specs.Tokens.{tokens_of};
+ghost use Rattle.assembler_syntax.specs.inner.Fronts as inner;
+ghost use Rattle.assembler_syntax.specs.declared.statements.Operand.{Operand};
+ghost use Rattle.assembler_syntax.specs.declared.statements.Operand.TheVariants.{Bracketed};
+ghost use Rattle.assembler_syntax.specs.declared.tokens.AssemblyToken.TheVariants.{Word};
 
-use crate::tokens::AssemblyToken;
-use line_text::spans::{begins_name, continues_name};
+use crate::tokens::{AssemblyToken, next_token};
+use line_text::spans::{begins_name, continues_name, ends, skip_blanks};
 use sqlite_items::Items;
 use std::alloc::{AllocError, Global};
 
@@ -49,12 +54,6 @@ pub struct Head {
     pub number: Option<i64>,
 }
 
-fn copied(alloc: Global, word: &Items<u8>) -> Result<Items<u8>, AllocError>
-    ensures { IfOk result (λ copy. copy ≡ word.now) }
-{
-    Items::from_slice(alloc, word.as_slice())
-}
-
 /// Whether a word begins as a label does.
 fn begins_label(word: &[u8]) -> bool
     ensures { result ≡ spec.begins_label word.now }
@@ -79,75 +78,151 @@ pub fn is_label(word: &[u8]) -> bool
     begins_label(word) && continues_label(word) && word.len() <= MOST_LABEL
 }
 
-/// The operand that is all of the tokens, if they are one.
-#[tactic(auto, unfolding(crate::specs::Statements::operand_of))]
-fn operand_of(alloc: Global, tokens: &[AssemblyToken]) -> Result<Option<Operand>, AllocError>
-    ensures { IfOk result (λ operand. operand ≡ spec.operand_of tokens.now) }
+/// The operand, where nothing follows it but a comma, and what follows the comma, if there is one.
+fn ended(
+    alloc: Global,
+    operand: Operand,
+    bytes: &[u8],
+) -> Result<Option<(Operand, Option<&[u8]>)>, AllocError>
+    ensures value { IfOk result (λ front. option_map (λ x. (x.0, option_map (λ more. tokens_of more.now) x.1)) front
+        ≡ inner.ended operand (tokens_of bytes.now)) }
+    ensures shorter { IfOk result (λ front. IfSome front
+        (λ x. IfSome x.1 (λ more. length more.now < length bytes.now))) }
 {
-    match tokens {
-        [AssemblyToken::Word(word)] => Ok(Some(Operand::Word(copied(alloc, word)?))),
-        [AssemblyToken::Number(number)] => Ok(Some(Operand::Number(*number))),
-        [
-            AssemblyToken::Number(number),
-            AssemblyToken::Open,
-            AssemblyToken::Word(base),
-            AssemblyToken::Close,
-        ] => Ok(Some(Operand::Based(*number, copied(alloc, base)?))),
-        [
-            AssemblyToken::Open,
-            AssemblyToken::Word(base),
-            AssemblyToken::Close,
-        ] => { Ok(Some(Operand::Bracketed(copied(alloc, base)?))) }
+    let Some((token, more)) = next_token(alloc, bytes)? else {
+        return Ok(Some((operand, None)));
+    };
+    match token {
+        AssemblyToken::Comma => Ok(Some((operand, Some(more)))),
         _ => Ok(None),
     }
 }
 
-/// Whether a token is no comma.
-fn is_plain(token: &AssemblyToken) -> bool
-    ensures { result ≡ spec.is_plain token.now }
+/// The word and what follows the `)` after it, if that stands there.
+fn closed_after(
+    alloc: Global,
+    base: Items<u8>,
+    bytes: &[u8],
+) -> Result<Option<(Items<u8>, &[u8])>, AllocError>
+    ensures value { IfOk result (λ closed. option_map (λ x. (x.0, tokens_of x.1.now)) closed
+        ≡ inner.closed (Word base ∷ tokens_of bytes.now)) }
+    ensures shorter { IfOk result (λ closed. IfSome closed (λ x. length x.1.now < length bytes.now)) }
 {
-    !matches!(token, AssemblyToken::Comma)
+    let Some((AssemblyToken::Close, rest)) = next_token(alloc, bytes)? else {
+        return Ok(None);
+    };
+    Ok(Some((base, rest)))
 }
 
-/// How many tokens stand before the first comma.
-fn piece_len(tokens: &[AssemblyToken]) -> usize
-    ensures value { result ≡ prefix_len spec.is_plain tokens.now }
-    ensures within { result ≤ length tokens.now }
+/// The word before `)`, and what follows, if they stand there.
+fn closed(alloc: Global, bytes: &[u8]) -> Result<Option<(Items<u8>, &[u8])>, AllocError>
+    ensures value { IfOk result (λ closed. option_map (λ x. (x.0, tokens_of x.1.now)) closed
+        ≡ inner.closed (tokens_of bytes.now)) }
+    ensures shorter { IfOk result (λ closed. IfSome closed (λ x. length x.1.now < length bytes.now)) }
 {
-    tokens.iter().take_while(|&token| is_plain(token)).count()
-}
-
-/// The tokens before the first comma, and those after it, if there is one.
-fn first_piece(tokens: &[AssemblyToken]) -> (&[AssemblyToken], Option<&[AssemblyToken]>)
-    ensures pieces { spec.pieces_of tokens.now ≡ result.0.now
-        ∷ spec.later_pieces (option_map (λ more. more.now) result.1) }
-    ensures shorter { IfSome result.1 (λ more. length more.now < length tokens.now) }
-{
-    let (piece, rest) = tokens.split_at(piece_len(tokens));
-    match rest {
-        [] => (piece, None),
-        [_, more @ ..] => (piece, Some(more)),
+    let Some((token, rest)) = next_token(alloc, bytes)? else {
+        return Ok(None);
+    };
+    match token {
+        AssemblyToken::Word(base) => closed_after(alloc, base, rest),
+        _ => Ok(None),
     }
 }
 
-/// The operands between commas, none for no tokens, or nothing where a piece is no operand.
+/// The operand that a number begins.
+fn number_front(
+    alloc: Global,
+    number: i64,
+    bytes: &[u8],
+) -> Result<Option<(Operand, Option<&[u8]>)>, AllocError>
+    ensures value { IfOk result (λ front. option_map (λ x. (x.0, option_map (λ more. tokens_of more.now) x.1)) front
+        ≡ inner.number_front number (tokens_of bytes.now)) }
+    ensures shorter { IfOk result (λ front. IfSome front
+        (λ x. IfSome x.1 (λ more. length more.now < length bytes.now))) }
+{
+    let Some((AssemblyToken::Open, rest)) = next_token(alloc, bytes)? else {
+        return ended(alloc, Operand::Number(number), bytes);
+    };
+    match closed(alloc, rest)? {
+        Some((base, rest)) => ended(alloc, Operand::Based(number, base), rest),
+        None => Ok(None),
+    }
+}
+
+/// The operand that `(` begins.
+fn bracket_front(
+    alloc: Global,
+    bytes: &[u8],
+) -> Result<Option<(Operand, Option<&[u8]>)>, AllocError>
+    ensures value { IfOk result (λ front. option_map (λ x. (x.0, option_map (λ more. tokens_of more.now) x.1)) front
+        ≡ inner.based Bracketed (inner.closed (tokens_of bytes.now))) }
+    ensures shorter { IfOk result (λ front. IfSome front
+        (λ x. IfSome x.1 (λ more. length more.now < length bytes.now))) }
+{
+    match closed(alloc, bytes)? {
+        Some((base, rest)) => ended(alloc, Operand::Bracketed(base), rest),
+        None => Ok(None),
+    }
+}
+
+/// The operand at the front, which ends with the line or at a comma, and what follows the comma, if there is one.
+fn operand_front(
+    alloc: Global,
+    bytes: &[u8],
+) -> Result<Option<(Operand, Option<&[u8]>)>, AllocError>
+    ensures value { IfOk result (λ front. option_map (λ x. (x.0, option_map (λ more. tokens_of more.now) x.1)) front
+        ≡ inner.operand_front (tokens_of bytes.now)) }
+    ensures shorter { IfOk result (λ front. IfSome front
+        (λ x. IfSome x.1 (λ more. length more.now < length bytes.now))) }
+{
+    let Some((token, rest)) = next_token(alloc, bytes)? else {
+        return Ok(None);
+    };
+    match token {
+        AssemblyToken::Word(word) => ended(alloc, Operand::Word(word), rest),
+        AssemblyToken::Number(number) => number_front(alloc, number, rest),
+        AssemblyToken::Open => bracket_front(alloc, rest),
+        _ => Ok(None),
+    }
+}
+
+/// Whether the line or its text ends before another token.
+fn is_over(bytes: &[u8]) -> bool
+    ensures { result ≡ (length (tokens_of bytes.now) == 0) }
+{
+    ends(skip_blanks(bytes))
+}
+
+/// Keeps one operand more, while they are fewer than the most.
+fn keep(operands: &mut Items<Operand>, operand: Operand, most: usize) -> Result<(), AllocError>
+    ensures { OnOk result ((front : List Operand) → operands.old ≡ take most front
+        → operands.new ≡ take most (front ++ operand ∷ [])) }
+{
+    if operands.len() < most {
+        operands.push(operand)?;
+    }
+    Ok(())
+}
+
+/// The operands between commas, none where no token is left, or nothing where a piece is no operand. No more are kept
+/// than the most.
 fn operands_of(
     alloc: Global,
-    tokens: &[AssemblyToken],
+    bytes: &[u8],
+    most: usize,
 ) -> Result<Option<Items<Operand>>, AllocError>
-    ensures { IfOk result (λ operands. operands ≡ spec.operands_of tokens.now) }
+    ensures { IfOk result (λ operands. operands ≡ option_map (take most) (spec.operands_of (tokens_of bytes.now))) }
 {
     let mut operands = Items::new(alloc);
-    if tokens.is_empty() {
+    if is_over(bytes) {
         return Ok(Some(operands));
     }
-    let mut rest = tokens;
+    let mut rest = bytes;
     'pieces: loop {
-        let (piece, after) = first_piece(rest);
-        let Some(operand) = operand_of(alloc, piece)? else {
+        let Some((operand, after)) = operand_front(alloc, rest)? else {
             return Ok(None);
         };
-        operands.push(operand)?;
+        keep(&mut operands, operand, most)?;
         let Some(more) = after else {
             return Ok(Some(operands));
         };
@@ -155,76 +230,135 @@ fn operands_of(
     }
 }
 
-/// What the tokens after a label say, or all tokens where there is none.
-fn behind_label(
+/// What a mnemonic and the operands after it say.
+fn commanded(
     alloc: Global,
     label: Option<Items<u8>>,
-    tokens: &[AssemblyToken],
+    mnemonic: Items<u8>,
+    bytes: &[u8],
+    most: usize,
 ) -> Result<Option<Statement>, AllocError>
-    ensures { IfOk result (λ statement. statement ≡ spec.behind_label label tokens.now) }
+    ensures { IfOk result (λ statement. statement ≡ option_map (spec.up_to most)
+        (spec.commanded label mnemonic (spec.operands_of (tokens_of bytes.now)))) }
 {
-    match tokens {
-        [] => Ok(Some(Statement {
-            label,
+    let Some(operands) = operands_of(alloc, bytes, most)? else {
+        return Ok(None);
+    };
+    Ok(Some(Statement {
+        label,
+        command: Some(MnemonicLine { mnemonic, operands }),
+    }))
+}
+
+/// What the tokens after a label say.
+fn behind_label(
+    alloc: Global,
+    label: Items<u8>,
+    bytes: &[u8],
+    most: usize,
+) -> Result<Option<Statement>, AllocError>
+    ensures { IfOk result (λ statement. statement ≡ option_map (spec.up_to most)
+        (spec.behind_label (Some label) (tokens_of bytes.now))) }
+{
+    let Some((token, rest)) = next_token(alloc, bytes)? else {
+        return Ok(Some(Statement {
+            label: Some(label),
             command: None,
-        })),
-        [AssemblyToken::Word(mnemonic), rest @ ..] => {
-            let Some(operands) = operands_of(alloc, rest)? else {
-                return Ok(None);
-            };
-            let mnemonic = copied(alloc, mnemonic)?;
-            Ok(Some(Statement {
-                label,
-                command: Some(MnemonicLine { mnemonic, operands }),
-            }))
-        }
+        }));
+    };
+    match token {
+        AssemblyToken::Word(mnemonic) => commanded(alloc, Some(label), mnemonic, rest, most),
         _ => Ok(None),
     }
 }
 
-/// What a line says, by its tokens, or nothing where they are no statement.
-#[tactic(auto, unfolding(crate::specs::Statements::statement_of))]
-pub fn statement_of(
-    alloc: Global,
-    tokens: &[AssemblyToken],
-) -> Result<Option<Statement>, AllocError>
-    ensures { IfOk result (λ statement. statement ≡ spec.statement_of tokens.now) }
+/// What follows a colon at the front, if there is one.
+fn behind_colon(alloc: Global, bytes: &[u8]) -> Result<Option<&[u8]>, AllocError>
+    ensures { IfOk result (λ rest. option_map (λ more. tokens_of more.now) rest
+        ≡ inner.behind_colon (tokens_of bytes.now)) }
 {
-    match tokens {
-        [AssemblyToken::Word(label), AssemblyToken::Colon, rest @ ..] => {
-            if is_label(label.as_slice()) {
-                behind_label(alloc, Some(copied(alloc, label)?), rest)
-            } else {
-                Ok(None)
-            }
-        }
-        _ => behind_label(alloc, None, tokens),
+    let Some((token, rest)) = next_token(alloc, bytes)? else {
+        return Ok(None);
+    };
+    match token {
+        AssemblyToken::Colon => Ok(Some(rest)),
+        _ => Ok(None),
     }
 }
 
-/// The number that is all of the tokens.
-fn only_number(tokens: &[AssemblyToken]) -> Option<i64>
-    ensures { result ≡ spec.only_number tokens.now }
+/// What a line says that begins with a word.
+#[tactic(auto, using(crate::proofs::Labels::no_label))]
+fn behind_word(
+    alloc: Global,
+    word: Items<u8>,
+    bytes: &[u8],
+    most: usize,
+) -> Result<Option<Statement>, AllocError>
+    ensures { IfOk result (λ statement. statement ≡ option_map (spec.up_to most)
+        (spec.statement_of (Word word ∷ tokens_of bytes.now))) }
 {
-    match tokens {
-        [AssemblyToken::Number(number)] => Some(*number),
-        _ => None,
+    let Some(rest) = behind_colon(alloc, bytes)? else {
+        return commanded(alloc, None, word, bytes, most);
+    };
+    if is_label(word.as_slice()) {
+        behind_label(alloc, word, rest, most)
+    } else {
+        Ok(None)
+    }
+}
+
+/// What a line says, or nothing where its tokens are no statement. Of its operands no more are kept than the most.
+#[tactic(auto, unfolding(crate::specs::Statements::statement_of))]
+pub fn statement_of(
+    alloc: Global,
+    line: &[u8],
+    most: usize,
+) -> Result<Option<Statement>, AllocError>
+    ensures { IfOk result (λ statement. statement ≡ option_map (spec.up_to most)
+        (spec.statement_of (tokens_of line.now))) }
+{
+    let Some((token, rest)) = next_token(alloc, line)? else {
+        return Ok(Some(Statement {
+            label: None,
+            command: None,
+        }));
+    };
+    match token {
+        AssemblyToken::Word(word) => behind_word(alloc, word, rest, most),
+        _ => Ok(None),
+    }
+}
+
+/// The number that is the only token left, if that is so.
+fn only_number(alloc: Global, bytes: &[u8]) -> Result<Option<i64>, AllocError>
+    ensures { IfOk result (λ number. number ≡ spec.only_number (tokens_of bytes.now)) }
+{
+    let Some((AssemblyToken::Number(number), rest)) = next_token(alloc, bytes)? else {
+        return Ok(None);
+    };
+    if is_over(rest) {
+        Ok(Some(number))
+    } else {
+        Ok(None)
     }
 }
 
 /// The front of a line after its label.
-fn command_head(
-    alloc: Global,
-    label: Option<Items<u8>>,
-    tokens: &[AssemblyToken],
-) -> Result<Head, AllocError>
-    ensures { IfOk result (λ head. head ≡ spec.command_head label tokens.now) }
+fn command_head(alloc: Global, label: Option<Items<u8>>, bytes: &[u8]) -> Result<Head, AllocError>
+    ensures { IfOk result (λ head. head ≡ spec.command_head label (tokens_of bytes.now)) }
 {
-    match tokens {
-        [AssemblyToken::Word(mnemonic), rest @ ..] => Ok(Head {
+    let Some((token, rest)) = next_token(alloc, bytes)? else {
+        return Ok(Head {
             label,
-            mnemonic: Some(copied(alloc, mnemonic)?),
-            number: only_number(rest),
+            mnemonic: None,
+            number: None,
+        });
+    };
+    match token {
+        AssemblyToken::Word(mnemonic) => Ok(Head {
+            label,
+            mnemonic: Some(mnemonic),
+            number: only_number(alloc, rest)?,
         }),
         _ => Ok(Head {
             label,
@@ -234,20 +368,54 @@ fn command_head(
     }
 }
 
-/// The front of a line, by its tokens: its label and mnemonic, whatever follows.
-#[tactic(auto, unfolding(crate::specs::Statements::head_of))]
-pub fn head_of(alloc: Global, tokens: &[AssemblyToken]) -> Result<Head, AllocError>
-    ensures { IfOk result (λ head. head ≡ spec.head_of tokens.now) }
+/// A word as a label, if it can be one.
+fn label_of(word: Items<u8>) -> Option<Items<u8>>
+    ensures { result ≡ (if spec.is_label word then Some word else None) }
 {
-    match tokens {
-        [AssemblyToken::Word(label), AssemblyToken::Colon, rest @ ..] => {
-            let label = if is_label(label.as_slice()) {
-                Some(copied(alloc, label)?)
-            } else {
-                None
-            };
-            command_head(alloc, label, rest)
-        }
-        _ => command_head(alloc, None, tokens),
+    if is_label(word.as_slice()) {
+        Some(word)
+    } else {
+        None
+    }
+}
+
+/// The front of a line that begins with a word.
+#[tactic(auto, using(crate::proofs::Labels::no_label_head))]
+fn word_head(alloc: Global, word: Items<u8>, bytes: &[u8]) -> Result<Head, AllocError>
+    ensures { IfOk result (λ head. head ≡ spec.head_of (Word word ∷ tokens_of bytes.now)) }
+{
+    let Some(rest) = behind_colon(alloc, bytes)? else {
+        let number = only_number(alloc, bytes)?;
+        return Ok(Head {
+            label: None,
+            mnemonic: Some(word),
+            number,
+        });
+    };
+    command_head(alloc, label_of(word), rest)
+}
+
+/// The front of a line that has none.
+fn no_head() -> Head
+    ensures { result ≡ spec.command_head None [] }
+{
+    Head {
+        label: None,
+        mnemonic: None,
+        number: None,
+    }
+}
+
+/// The front of a line: its label and mnemonic, whatever follows.
+#[tactic(auto, unfolding(crate::specs::Statements::head_of))]
+pub fn head_of(alloc: Global, line: &[u8]) -> Result<Head, AllocError>
+    ensures { IfOk result (λ head. head ≡ spec.head_of (tokens_of line.now)) }
+{
+    let Some((token, rest)) = next_token(alloc, line)? else {
+        return Ok(no_head());
+    };
+    match token {
+        AssemblyToken::Word(word) => word_head(alloc, word, rest),
+        _ => Ok(no_head()),
     }
 }

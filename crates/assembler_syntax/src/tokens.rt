@@ -2,7 +2,7 @@
 
 ghost use Rattle.std.specs.List.{list_all};
 ghost use Rattle.line_text.specs.Lines.{is_digit, is_hexadecimal};
-ghost use Rattle.std.specs.Prelude.{◌≡◌, ◌≤◌, ◌<◌, ◌^◌, ◌+◌, pos, ◌-ℤ◌, length, IfOk};
+ghost use Rattle.std.specs.Prelude.{◌≡◌, ◌≤◌, ◌<◌, ◌^◌, ◌+◌, pos, ◌-ℤ◌, [], ◌∷◌, length, IfOk, IfSome, MatchOption};
 ghost use Rattle.line_text.specs.Lines.{decimal_number, hexadecimal_number, hexadecimal_value};
 ghost use Rattle.assembler_syntax.specs.Tokens as spec;
 
@@ -190,19 +190,18 @@ fn front_token(alloc: Global, bytes: &[u8]) -> Result<(AssemblyToken, &[u8]), Al
     }
 }
 
-/// The tokens of a line, up to its comment. Bytes that are no token are `Other`.
-pub fn tokens_of(alloc: Global, line: &[u8]) -> Result<Vec<AssemblyToken>, AllocError>
-    ensures { IfOk result (λ tokens. tokens.items ≡ spec.tokens_of line.now) }
+/// The next token of a line and what follows it, or nothing where the line or its text ends.
+pub(crate) fn next_token(
+    alloc: Global,
+    bytes: &[u8],
+) -> Result<Option<(AssemblyToken, &[u8])>, AllocError>
+    ensures value { IfOk result (λ next. MatchOption next (spec.tokens_of bytes.now ≡ [])
+        (λ x. spec.tokens_of bytes.now ≡ x.0 ∷ spec.tokens_of x.1.now)) }
+    ensures shorter { IfOk result (λ next. IfSome next (λ x. length x.1.now < length bytes.now)) }
 {
-    let mut tokens = Vec::new(alloc);
-    let mut rest = line;
-    'tokens: loop {
-        let text = skip_blanks(rest);
-        if ends(text) {
-            return Ok(tokens);
-        }
-        let (next, after) = front_token(alloc, text)?;
-        tokens.push(next)?;
-        rest = after;
+    let text = skip_blanks(bytes);
+    if ends(text) {
+        return Ok(None);
     }
+    Ok(Some(front_token(alloc, text)?))
 }
