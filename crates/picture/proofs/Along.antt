@@ -78,12 +78,12 @@ back-from : (left at : ℕ) → left < 2 ^ 32 → at < 2 ^ 32 → at ≡ word.su
 unfolding word.add word.subtract
 back-from left at low small = omega arith
 
-is-word : (x y : ℕ) → word.add x y < 2 ^ 32
+pub is-word : (x y : ℕ) → word.add x y < 2 ^ 32
 unfolding word.add
 is-word x y = omega arith
 
 pub table-row : (plane : Plane) (table : Table) (y row from : ℕ) (window : Window) → IsTable plane table → y < 2 ^ 32 → table.left < 2 ^ 32 → table.top < 2 ^ 32
-    → table.width < 2 ^ 32 → row ≡ word.subtract y table.top → row < table.height → from ≡ row * table.width → window.first ≡ table.left
+    → table.width < 2 ^ 32 → row ≡ word.subtract y table.top → row < table.height → from ≡ row * table.pitch → window.first ≡ table.left
     → AreValues table.width (λ at. get_or table.pixels.items (from + at) 0) window.values.now → IsWindow (λ x. plane x y) window
 table-row plane table y row from window is small_y small_left small_top small_width row_is high from_is first are = record {
   few = omega (arith, are.len);

@@ -1,11 +1,12 @@
 -- Rows of a box, one after the other.
-use Rattle.std.proofs.Common.{◌≡◌, ◌∙◌, ℕ, zero, suc, ◌+◌, ◌*◌, ◌/◌, ◌%◌, ◌-◌, ◌^◌, ◌<◌, inl, inr, List, [], ◌∷◌, ◌++◌, Vec, Some, length, get_or, refl, sym}
+use Rattle.std.proofs.Common.{◌≡◌, ◌∙◌, ℕ, zero, suc, ◌+◌, ◌*◌, ◌/◌, ◌%◌, ◌-◌, ◌^◌, ◌<◌, ◌≤◌, inl, inr, List, [], ◌∷◌, ◌++◌, Vec, Some, length, get_or, refl, sym}
 use Rattle.std.proofs.Common.{ap, subst, arith}
 use Rattle.std.specs.Prelude.{slice_get}
 use Rattle.std.specs.List.{AllZip, range_with_len}
 use Rattle.std.specs.declared.alloc.Global.{Global}
 use Rattle.std.proofs.lemmas.List.{length-append, get_or-append_right}
 use Rattle.std.proofs.lemmas.Nat.{div-mul-add, div-add-mod'}
+use Rattle.std.proofs.Math.Nat.{mul-le-mul_right}
 use Rattle.std.proofs.Math.ListN.{get_or-append}
 use Rattle.std.proofs.lemmas.Bool.{cases_lt}
 use Rattle.halide_pipeline.specs.Words as word
@@ -92,12 +93,21 @@ are-numbered plane left top width height rows zip = record {
 
 pub table-of : (plane : Plane) (height : ℕ) (rows : List (Vec ℕ Global)) (table : Table)
     → AllZip (λ number row. IsNumberedRow plane table.left table.top table.width number row.items) (range_with_len 0 height) rows → table.height ≡ height
-    → AreNumbered plane table.left table.top table.width (length rows) table.pixels.items → IsTable plane table
-table-of plane height rows table zip high are =
+    → table.pitch ≡ table.width → AreNumbered plane table.left table.top table.width (length rows) table.pixels.items → IsTable plane table
+table-of plane height rows table zip high close are =
     let count : length rows ≡ height = (zipped-rows (λ n own. IsNumberedRow plane table.left table.top table.width n own.items) 0 height rows zip).0 in
+    let w = table.width in
     record {
-      len = are.len ∙ ap (λ (n : ℕ). table.width * n) (count ∙ sym high);
-      each = are.each;
+      are = record {
+        len = are.len ∙ ap (λ (n : ℕ). w * n) (count ∙ sym high) ∙ ap (λ (n : ℕ). n * table.height) (sym close);
+        wide = omega (arith, close);
+        each = λ column row wide low.
+            let more : suc row * w ≤ table.height * w = mul-le-mul_right w low in
+            let one : suc row * w ≡ row * w + w = omega arith in
+            let turned : w * length rows ≡ table.height * w = ap (λ (n : ℕ). w * n) (count ∙ sym high) ∙ omega arith in
+            ap (λ (n : ℕ). get_or table.pixels.items (row * n + column) 0) close
+            ∙ are.each (row * w + column) (omega (arith, are.len, more, one, turned, wide)) ∙ in-row plane table.left table.top w row column wide;
+      };
     }
 
 pub row-is : (rows : List (Vec ℕ Global)) (at : ℕ) (row : Vec ℕ Global) → row ≡ get_or rows at row → at < length rows → slice_get rows at ≡ Some row

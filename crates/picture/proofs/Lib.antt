@@ -18,4 +18,5 @@ pub mod Shared
 pub mod ShortNumbers
 pub mod SideBySide
 pub mod SpelledBack
+pub mod StoresApart
 pub mod Tables

@@ -41,11 +41,11 @@ accepted false parts picture e = absurd cc
 
 pub output_from_table : (pipeline : Pipeline) (pictures : List PictureContents) (funcs : List Func) (given : List PictureContents) (table : Table)
     (picture : PictureContents) → funcs ≡ pipeline.funcs → given ≡ pictures
-    → IsTable (plane_in funcs given pipeline.output.func) table → table.left ≡ 0 → table.top ≡ 0 → table.width ≡ pipeline.output.width
+    → IsTable (plane_in funcs given pipeline.output.func) table → table.left ≡ 0 → table.top ≡ 0 → table.width ≡ pipeline.output.width → table.pitch ≡ pipeline.output.width
     → table.height ≡ pipeline.output.height
     → picture_if (record { width = pipeline.output.width; height = pipeline.output.height; pixels = table.pixels.items }) ≡ Some picture → IsPicture picture
     → IsOutput pipeline pictures picture
-output_from_table pipeline pictures funcs given table picture funcs_are pictures_are is left top width height made rules =
+output_from_table pipeline pictures funcs given table picture funcs_are pictures_are is left top width close height made rules =
     let parts : PictureContents = record { width = pipeline.output.width; height = pipeline.output.height; pixels = table.pixels.items } in
     let same = accepted (is_picture parts) parts picture made in
     let limits = limits_of parts same.0 in
@@ -57,9 +57,9 @@ output_from_table pipeline pictures funcs given table picture funcs_are pictures
           let fits_y : y < 2 ^ 32 = omega (arith, limits.most_height, high) in
           let column : x ≡ word.subtract x table.left = sym (ap (word.subtract x) left ∙ subtract-zero x fits_x) in
           let row : y ≡ word.subtract y table.top = sym (ap (word.subtract y) top ∙ subtract-zero y fits_y) in
-          let there = pixel_at_place table (plane_in funcs given pipeline.output.func) x y x y (y * table.width + x) is fits_x fits_y (omega (arith, left))
+          let there = pixel_at_place table (plane_in funcs given pipeline.output.func) x y x y (y * table.pitch + x) is fits_x fits_y (omega (arith, left))
           (omega (arith, top)) column row (omega (arith, width, wide)) (omega (arith, height, high)) refl in
-          ap (λ (n : ℕ). get_or table.pixels.items (y * n + x) 0) (sym width) ∙ there.1 ∙ plane_of-all funcs given pipeline.output.func x y
+          ap (λ (n : ℕ). get_or table.pixels.items (y * n + x) 0) (sym close) ∙ there.1 ∙ plane_of-all funcs given pipeline.output.func x y
           ∙ ap (λ (all : List Func). pixels all (input_planes given) (length all) pipeline.output.func x y) funcs_are
           ∙ ap (λ (all : List PictureContents). pixels pipeline.funcs (input_planes all) (length pipeline.funcs) pipeline.output.func x y) pictures_are;
       rules = kept;

@@ -1,10 +1,9 @@
 -- Updates on many slices together.
-use Rattle.std.proofs.Common.{◌≡◌, ℕ, zero, suc, ◌+◌, ◌*◌, ◌/◌, ◌%◌, ◌-◌, ◌^◌, ◌<◌, ◌≤◌, Bool, true, false, cond, length, get_or, List, [], Option, Some, inl}
+use Rattle.std.proofs.Common.{◌≡◌, ℕ, zero, suc, ◌+◌, ◌*◌, ◌/◌, ◌-◌, ◌^◌, ◌<◌, ◌≤◌, Bool, true, false, cond, length, get_or, List, [], Option, Some, inl}
 use Rattle.std.proofs.Common.{inr, refl, sym, ap, subst, ◌∙◌, arith}
 use Rattle.std.specs.Prelude.{◌==◌, ◌&&◌, ◌||◌, not, slice_get}
-use Rattle.std.proofs.lemmas.Bool.{and_parts, cases_eq, cases_lt, eq-eqb, ne_eqb}
-use Rattle.std.proofs.lemmas.Nat.{div-add-mod', div-mul-add}
-use Rattle.std.proofs.Math.Nat.{mod-lt, mul-le-mul_right}
+use Rattle.std.proofs.lemmas.Bool.{and_parts, cases_eq, eq-eqb, ne_eqb}
+use Rattle.std.proofs.lemmas.Nat.{div-mul-add}
 use Rattle.halide_pipeline.specs.Words as word
 use Rattle.halide_pipeline.specs.declared.expressions.Variable.{Variable}
 use Rattle.halide_pipeline.specs.declared.expressions.Variable.TheVariants as variables
@@ -22,7 +21,7 @@ use Rattle.picture.specs.declared.lines.Along.{Along}
 use Rattle.picture.specs.declared.lines.Along.TheVariants as alongs
 use Rattle.picture.specs.declared.lines.PointLine.{PointLine}
 use Rattle.picture.specs.declared.scenes.FuncState.TheVariants as states
-use Rattle.picture.specs.inner.Evaluation.{inputs_of, earlier_of, numbered_pixel, reads_in, stage_in, stage_some, AreNumbered, IsAt, IsNumberedRow, IsPass}
+use Rattle.picture.specs.inner.Evaluation.{inputs_of, earlier_of, reads_in, stage_in, stage_some, ArePixels, IsAt, IsNumberedRow, IsPass}
 use Rattle.picture.specs.inner.Evaluation.{IsTable}
 use Rattle.picture.specs.inner.Lines.{line_point, lower_point, pixel_point, reads_with, Fits}
 use Rattle.picture.specs.declared.in_place.PixelSpan.{PixelSpan}
@@ -123,33 +122,22 @@ module _ (row : StoreRow) (plane : Plane) (i j at width : ℕ) (others : (k : �
 
 -- ---- tables
 
--- the column and the row of a pixel
-inside : (width height at : ℕ) → at < width * height → (at % width < width) × (at / width < height)
-inside zero height at less = absurd (omega arith)
-inside (suc width) height at less =
-    let w = suc width in
-    let whole : at / w * w + at % w ≡ at = div-add-mod' at w in (
-      mod-lt at (omega arith),
-      elim (cases_lt (at / w) height) [
-        | inl low ↦ low
-        | inr past ↦
-            let more : height * w ≤ at / w * w = mul-le-mul_right w past in
-            let turned : w * height ≡ height * w = omega arith in
-            absurd (omega (arith, less, more, whole, turned))
-      ],
-    )
+-- a plane that is the same at the points of a box
+pub pixels-same : (one other : Plane) (left top width pitch height : ℕ) (pixels : List ℕ) → ((column row : ℕ) → column < width → row < height
+    → one (word.add left column) (word.add top row) ≡ other (word.add left column) (word.add top row))
+    → ArePixels one left top width pitch height pixels → ArePixels other left top width pitch height pixels
+pixels-same one other left top width pitch height pixels same are = record {
+  len = are.len;
+  wide = are.wide;
+  each = λ column row wide high. are.each column row wide high ∙ same column row wide high;
+}
 
--- a plane that is the same at the points of a table
+-- and of a table
 pub table-same : (one other : Plane) (table : Table) → ((column row : ℕ) → column < table.width → row < table.height
     → one (word.add table.left column) (word.add table.top row) ≡ other (word.add table.left column) (word.add table.top row))
     → IsTable one table → IsTable other table
-unfolding numbered_pixel
 table-same one other table same is = record {
-  len = is.len;
-  each = λ at less.
-      let whole : at / table.width * table.width + at % table.width ≡ at = div-add-mod' at table.width in
-      let places = inside table.width table.height at (omega (arith, is.len, less)) in
-      is.each at less ∙ same (at % table.width) (at / table.width) places.0 places.1;
+  are = pixels-same one other table.left table.top table.width table.pitch table.height table.pixels.items same is.are;
 }
 
 -- a column or a row, counted from a corner
@@ -307,51 +295,46 @@ put-nothing plane table x y pixel column row is narrow low fits_left fits_top co
     ]
 
 -- a pixel inside
-pub put-pixel : (plane : Plane) (old new : Table) (x y pixel column row at : ℕ) → IsTable plane old → old.width ≤ 2 ^ 32 → old.height ≤ 2 ^ 32 → x < 2 ^ 32
-    → y < 2 ^ 32 → old.left < 2 ^ 32 → old.top < 2 ^ 32
-    → column ≡ word.subtract x old.left → row ≡ word.subtract y old.top → column < old.width → at ≡ row * old.width + column
-    → IsAt old.left old.top old.width old.height new → length new.pixels.items ≡ length old.pixels.items → get_or new.pixels.items at 0 ≡ pixel
-    → ((k : ℕ) → (k ≡ at → ⊥) → get_or new.pixels.items k 0 ≡ get_or old.pixels.items k 0) → IsTable (with_pixel x y pixel plane) new
-unfolding numbered_pixel
-put-pixel plane old new x y pixel column row at is narrow low fits_x fits_y fits_left fits_top column_is row_is wide at_is bounds long there rest = record {
-  len = long ∙ is.len ∙ ap (λ (n : ℕ). n * old.height) (sym bounds.width_is) ∙ ap (λ (n : ℕ). new.width * n) (sym bounds.height_is);
-  each = λ k less.
-      let within : k < length old.pixels.items = omega (arith, less, long) in
-      rw (bounds.left_is, bounds.top_is, bounds.width_is) (elim (cases_eq k at) [
+pub put-pixel : (plane : Plane) (left top width pitch height : ℕ) (old new : List ℕ) (x y pixel column row at : ℕ)
+    → ArePixels plane left top width pitch height old → width ≤ 2 ^ 32 → height ≤ 2 ^ 32 → x < 2 ^ 32
+    → y < 2 ^ 32 → left < 2 ^ 32 → top < 2 ^ 32
+    → column ≡ word.subtract x left → row ≡ word.subtract y top → column < width → at ≡ row * pitch + column
+    → length new ≡ length old → get_or new at 0 ≡ pixel
+    → ((k : ℕ) → (k ≡ at → ⊥) → get_or new k 0 ≡ get_or old k 0) → ArePixels (with_pixel x y pixel plane) left top width pitch height new
+put-pixel plane left top width pitch height old new x y pixel column row at are narrow low fits_x fits_y fits_left fits_top column_is row_is inside at_is long there
+    rest = record {
+      len = long ∙ are.len;
+      wide = are.wide;
+      each = λ col line wide high. elim (cases_eq (line * pitch + col) at) [
         | inl same ↦
-            let e : k ≡ row * old.width + column = same ∙ at_is in
-            let quotient : k / old.width ≡ row = ap (λ (n : ℕ). n / old.width) e ∙ div-mul-add row old.width column wide in
-            let whole : k / old.width * old.width + k % old.width ≡ k = div-add-mod' k old.width in
-            let lines : k / old.width * old.width ≡ row * old.width = ap (λ (n : ℕ). n * old.width) quotient in
-            let remainder : k % old.width ≡ column = omega (arith, whole, lines, e) in
-            let at_x : word.add old.left (k % old.width) ≡ x = ap (word.add old.left) (remainder ∙ column_is) ∙ add-subtract x old.left fits_x fits_left in
-            let at_y : word.add old.top (k / old.width) ≡ y = ap (word.add old.top) (quotient ∙ row_is) ∙ add-subtract y old.top fits_y fits_top in
-            ap (λ (n : ℕ). get_or new.pixels.items n 0) same ∙ there
-            ∙ sym (ap (λ (t : Bool). cond t pixel (plane (word.add old.left (k % old.width)) (word.add old.top (k / old.width))))
-            (both-true x y (word.add old.left (k % old.width)) (word.add old.top (k / old.width)) at_x at_y))
-        | inr other ↦ rest k other ∙ is.each k within
-            ∙ sym (ap (λ (t : Bool). cond t pixel (plane (word.add old.left (k % old.width)) (word.add old.top (k / old.width)))) (elsewhere k within other))
-      ]);
-}
+            let e : line * pitch + col ≡ row * pitch + column = same ∙ at_is in
+            let line_is : line ≡ row = sym (div-mul-add line pitch col (omega (arith, wide, are.wide))) ∙ ap (λ (n : ℕ). n / pitch) e
+            ∙ div-mul-add row pitch column (omega (arith, inside, are.wide)) in
+            let lines : line * pitch ≡ row * pitch = ap (λ (n : ℕ). n * pitch) line_is in
+            let col_is : col ≡ column = omega (arith, lines, e) in
+            let at_x : word.add left col ≡ x = ap (word.add left) (col_is ∙ column_is) ∙ add-subtract x left fits_x fits_left in
+            let at_y : word.add top line ≡ y = ap (word.add top) (line_is ∙ row_is) ∙ add-subtract y top fits_y fits_top in
+            ap (λ (n : ℕ). get_or new n 0) same ∙ there ∙ sym (ap (λ (t : Bool). cond t pixel (plane (word.add left col) (word.add top line)))
+            (both-true x y (word.add left col) (word.add top line) at_x at_y))
+        | inr other ↦ rest (line * pitch + col) other ∙ are.each col line wide high
+            ∙ sym (ap (λ (t : Bool). cond t pixel (plane (word.add left col) (word.add top line))) (elsewhere col line wide high other))
+      ];
+    }
   where
-    elsewhere : (k : ℕ) → k < length old.pixels.items → (k ≡ at → ⊥) → (word.add old.left (k % old.width) == x && word.add old.top (k / old.width) == y) ≡ false
-    elsewhere k within other =
-        let places = inside old.width old.height k (omega (arith, within, is.len)) in
-        let whole : k / old.width * old.width + k % old.width ≡ k = div-add-mod' k old.width in
-        elim (cases_eq (word.add old.left (k % old.width)) x) [
-          | inl same_x ↦
-              let here : column ≡ k % old.width = column_is ∙ ap (λ (n : ℕ). word.subtract n old.left) (sym same_x)
-              ∙ back old.left (k % old.width) fits_left (omega (arith, places.0, narrow)) in
-              elim (cases_eq (word.add old.top (k / old.width)) y) [
-                | inl same_y ↦
-                    let below : row ≡ k / old.width = row_is ∙ ap (λ (n : ℕ). word.subtract n old.top) (sym same_y)
-                    ∙ back old.top (k / old.width) fits_top (omega (arith, places.1, low)) in
-                    let lines : row * old.width ≡ k / old.width * old.width = ap (λ (n : ℕ). n * old.width) below in
-                    absurd (other (omega (arith, at_is, lines, here, whole)))
-                | inr differ ↦ second-false x y (word.add old.left (k % old.width)) (word.add old.top (k / old.width)) differ
-              ]
-          | inr differ ↦ first-false x y (word.add old.left (k % old.width)) (word.add old.top (k / old.width)) differ
-        ]
+    elsewhere : (col line : ℕ) → col < width → line < height → (line * pitch + col ≡ at → ⊥)
+        → (word.add left col == x && word.add top line == y) ≡ false
+    elsewhere col line wide high other = elim (cases_eq (word.add left col) x) [
+      | inl same_x ↦
+          let here : column ≡ col = column_is ∙ ap (λ (n : ℕ). word.subtract n left) (sym same_x) ∙ back left col fits_left (omega (arith, wide, narrow)) in
+          elim (cases_eq (word.add top line) y) [
+            | inl same_y ↦
+                let below : row ≡ line = row_is ∙ ap (λ (n : ℕ). word.subtract n top) (sym same_y) ∙ back top line fits_top (omega (arith, high, low)) in
+                let lines : row * pitch ≡ line * pitch = ap (λ (n : ℕ). n * pitch) below in
+                absurd (other (omega (arith, at_is, lines, here)))
+            | inr differ ↦ second-false x y (word.add left col) (word.add top line) differ
+          ]
+      | inr differ ↦ first-false x y (word.add left col) (word.add top line) differ
+    ]
 
 -- ---- before the first point, and after the last one
 
@@ -365,15 +348,11 @@ begins scene pass left top width number y pixels y_is are = record {
       n) y_is;
 }
 
-pub table-of-rows : (plane : Plane) (table : Table) (rows : ℕ) → AreNumbered plane table.left table.top table.width rows table.pixels.items
-    → rows ≡ table.height → IsTable plane table
-table-of-rows plane table rows are all = record { len = are.len ∙ ap (λ (n : ℕ). table.width * n) all; each = are.each }
-
-pub no-pixels : (plane : Plane) (table : Table) → table.pixels.items ≡ [] → table.height ≡ 0 → IsTable plane table
-no-pixels plane table none low =
+pub no-pixels : (plane : Plane) (table : Table) → table.pixels.items ≡ [] → table.height ≡ 0 → table.width ≤ table.pitch → IsTable plane table
+no-pixels plane table none low narrow =
     let empty : length table.pixels.items ≡ 0 = ap length none in
-    let zero_is : table.width * table.height ≡ table.width * 0 = ap (λ (n : ℕ). table.width * n) low in
-    record { len = omega (arith, empty, zero_is); each = λ at less. absurd (omega (arith, empty, less)) }
+    let zero_is : table.pitch * table.height ≡ table.pitch * 0 = ap (λ (n : ℕ). table.pitch * n) low in
+    record { are = record { len = omega (arith, empty, zero_is); wide = narrow; each = λ column row wide high. absurd (omega (arith, high, low)) } }
 
 pub behind : (scene : Scene) (pass : Pass) (table : Table) → IsPass scene pass → IsTable (after_points scene pass (points pass.update.now)) table
     → IsTable (stage_in scene.funcs.now scene.pictures.now pass.own (pass.updates + 1)) table

@@ -1,13 +1,12 @@
 -- Reads of a table.
-use Rattle.std.proofs.Common.{◌≡◌, ℕ, zero, suc, ◌+◌, ◌*◌, ◌/◌, ◌%◌, ◌^◌, ◌<◌, ◌≤◌, List, [], ◌∷◌, ◌++◌, length, Some, ◌⊎◌, inl, inr, subst, get_or, refl, sym}
+use Rattle.std.proofs.Common.{◌≡◌, ℕ, zero, suc, ◌+◌, ◌*◌, ◌^◌, ◌<◌, ◌≤◌, List, [], ◌∷◌, ◌++◌, length, Some, ◌⊎◌, inl, inr, subst, get_or, refl, sym}
 use Rattle.std.proofs.Common.{ap, ◌∙◌, arith}
-use Rattle.std.proofs.lemmas.Nat.{div-mul-add, div-add-mod'}
 use Rattle.std.proofs.Math.Nat.{mul-le-mul_right}
 use Rattle.halide_pipeline.specs.Words as word
 use Rattle.picture.specs.declared.scenes.UpdatedPixels.{UpdatedPixels}
 use Rattle.picture.specs.declared.scenes.Table.{Table}
 use Rattle.halide_pipeline.specs.Pixel.{Plane}
-use Rattle.picture.specs.inner.Evaluation.{IsTable, AreTablesOf, AreKnownOf, IsKnown, plane_in, numbered_pixel}
+use Rattle.picture.specs.inner.Evaluation.{IsTable, AreTablesOf, AreKnownOf, IsKnown, plane_in}
 use Rattle.halide_pipeline.specs.Contents.{PictureContents}
 use Rattle.halide_pipeline.specs.declared.definitions.Func.{Func}
 use Rattle.std.specs.Prelude.{slice_get}
@@ -19,22 +18,17 @@ add-subtract x corner fits corner_fits = omega arith
 
 pub pixel_at_place : (table : Table) (plane : Plane) (x y column row at : ℕ) → IsTable plane table → x < 2 ^ 32 → y < 2 ^ 32 → table.left < 2 ^ 32
     → table.top < 2 ^ 32
-    → column ≡ word.subtract x table.left → row ≡ word.subtract y table.top → column < table.width → row < table.height → at ≡ row * table.width + column
+    → column ≡ word.subtract x table.left → row ≡ word.subtract y table.top → column < table.width → row < table.height → at ≡ row * table.pitch + column
     → (at < length table.pixels.items) × (get_or table.pixels.items at 0 ≡ plane x y)
-unfolding numbered_pixel
 pixel_at_place table plane x y column row at is fits_x fits_y fits_left fits_top column_is row_is wide high at_is =
-    let w = table.width in
-    let quotient : (row * w + column) / w ≡ row = div-mul-add row w column wide in
-    let whole : (row * w + column) / w * w + (row * w + column) % w ≡ row * w + column = div-add-mod' (row * w + column) w in
-    let rows : (row * w + column) / w * w ≡ row * w = ap (λ (n : ℕ). n * w) quotient in
-    let remainder : (row * w + column) % w ≡ column = omega (arith, whole, rows) in
+    let w = table.pitch in
     let more : suc row * w ≤ table.height * w = mul-le-mul_right w high in
     let one : suc row * w ≡ row * w + w = omega arith in
     let turned : table.height * w ≡ w * table.height = omega arith in
-    let within : row * w + column < length table.pixels.items = omega (arith, is.len, more, one, turned) in
-    let there = is.each (row * w + column) within
-    ∙ ap (λ (n : ℕ). plane (word.add table.left n) (word.add table.top ((row * w + column) / w))) (remainder ∙ column_is)
-    ∙ ap (λ (n : ℕ). plane (word.add table.left (word.subtract x table.left)) (word.add table.top n)) (quotient ∙ row_is)
+    let within : row * w + column < length table.pixels.items = omega (arith, is.are.len, is.are.wide, wide, more, one, turned) in
+    let there = is.are.each column row wide high
+    ∙ ap (λ (n : ℕ). plane (word.add table.left n) (word.add table.top row)) column_is
+    ∙ ap (λ (n : ℕ). plane (word.add table.left (word.subtract x table.left)) (word.add table.top n)) row_is
     ∙ ap (λ (n : ℕ). plane n (word.add table.top (word.subtract y table.top))) (add-subtract x table.left fits_x fits_left)
     ∙ ap (plane x) (add-subtract y table.top fits_y fits_top) in
     (omega (arith, within, at_is), ap (λ (n : ℕ). get_or table.pixels.items n 0) at_is ∙ there)

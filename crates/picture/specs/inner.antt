@@ -1,3 +1,4 @@
+pub mod Apart
 pub mod Evaluation
 pub mod Lines
 pub mod Memos

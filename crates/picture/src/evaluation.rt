@@ -155,6 +155,7 @@ fn tabulate(
     requires wide { 0 < bounds.width }
     ensures table { IfOk result (IsTable (plane_of scene.now func_index)) }
     ensures bounds { IfOk result (IsAt bounds.left bounds.top bounds.width bounds.height) }
+    ensures close { IfOk result (λ table. table.pitch ≡ bounds.width) }
 {
     let rows = fill(rt, scene, func_index, bounds)?;
     let pixels = joined(scene.alloc, &rows)?;
@@ -162,6 +163,7 @@ fn tabulate(
         left: bounds.left,
         top: bounds.top,
         width: bounds.width,
+        pitch: bounds.width,
         height: bounds.height,
         pixels,
     })

@@ -12,6 +12,7 @@
 //! where at most one argument is in place. Where all do, it is run along rows of pixels (`in_place`).
 #![tactic(auto)]
 
+mod apart;
 mod asking;
 mod beforehand;
 mod boxes;
@@ -23,6 +24,7 @@ mod line_values;
 mod lines;
 mod lookups;
 mod memos;
+mod offsets;
 mod pictures;
 mod plain;
 mod points;

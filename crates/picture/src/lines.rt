@@ -8,7 +8,9 @@ ghost use Rattle.picture.specs.inner.Evaluation.{AreTables, IsTable};
 ghost use Rattle.picture.specs.inner.Lines.{is_own, line_point, reads_with, IsLine, IsShared};
 ghost use Rattle.picture_rows.specs.Rows.{AreValues, HasLength, IsRow, value_at};
 
+use crate::apart::fetch_apart;
 use crate::lookups::pixel_in;
+use crate::offsets::offset_below;
 use crate::row_reads::{read_row, table_window};
 use crate::scenes::{Scene, Table};
 use halide_pipeline::{Environment, Operation, Source, Variable, words};
@@ -140,13 +142,11 @@ fn column_pixels(
     ensures { (plane : spec.Plane) → IsTable plane own_box.now → IfOk result (λ found. IfSome found
         (λ values. AreValues width (λ at. plane column (word.add first at)) values.items)) }
 {
+    let Some(from) = offset_below(own_box, column, first, width) else {
+        return Ok(None);
+    };
     let mut values = vec![in alloc; 0; width]?;
-    for at in 0..width {
-        let Some(pixel) = pixel_in(own_box, column, words::add(first, at as u32)) else {
-            return Ok(None);
-        };
-        values[at] = pixel;
-    }
+    fetch_apart(&own_box.pixels, from, own_box.pitch as usize, &mut values);
     Ok(Some(values))
 }
 

@@ -48,7 +48,7 @@ pub(crate) fn pixel_in(table: &Table, x: u32, y: u32) -> Option<u32>
     if column >= table.width || row >= table.height {
         return None;
     }
-    let at = product(row, table.width) + u64::from(column);
+    let at = product(row, table.pitch) + u64::from(column);
     table.pixels.get(at as usize).copied()
 }
 

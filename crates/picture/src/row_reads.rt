@@ -48,7 +48,7 @@ pub(crate) fn table_window<'a>(table: &'a Table, y: u32) -> Window<'a>
     ensures { (plane : spec.Plane) → IsTable plane table.now → IsWindow (λ x. plane x y) result }
 {
     let row = words::subtract(y, table.top);
-    let from = product(row, table.width) as usize;
+    let from = product(row, table.pitch) as usize;
     let width = table.width as usize;
     if row >= table.height || from + width > table.pixels.len() {
         return Window::nothing();

@@ -21,6 +21,8 @@ pub(crate) struct Table {
     /// Its row, a word.
     pub top: u32,
     pub width: u32,
+    /// How far after the first pixel of a row the first one of the next row is.
+    pub pitch: u32,
     pub height: u32,
     pub pixels: Vec<u32>,
 }
@@ -45,7 +47,7 @@ impl Table {
         if column >= self.width || row >= self.height {
             return;
         }
-        let at = (product(row, self.width) + u64::from(column)) as usize;
+        let at = (product(row, self.pitch) + u64::from(column)) as usize;
         if at < self.pixels.len() {
             self.pixels[at] = pixel;
         }

@@ -1,20 +1,22 @@
 //! Updates on many slices together: in a box whose columns or rows are the slices, each point of the reduction box is
 //! run on all of them before the next one is.
 
-ghost use Rattle.std.specs.Prelude.{◌≡◌, ◌+◌, ◌<◌, ◌^◌, ℕ, IfOk, IfSome, length, slice_index, true};
+ghost use Rattle.std.specs.Prelude.{◌≡◌, ◌+◌, ◌<◌, ◌≤◌, ◌^◌, ℕ, IfOk, IfSome, length, slice_index, true};
 ghost use Rattle.halide_pipeline.specs.Pixel as spec;
 ghost use Rattle.halide_pipeline.specs.Words as word;
 ghost use Rattle.halide_pipeline.specs.declared.environments.Environment.{Environment as EnvironmentState};
-ghost use Rattle.picture.specs.inner.Evaluation.{stage_in, AreTables, IsAt, IsPass, IsTable};
+ghost use Rattle.picture.specs.inner.Evaluation.{stage_in, ArePixels, AreTables, IsAt, IsPass, IsTable};
 ghost use Rattle.picture.specs.inner.Lines.{IsLine};
 ghost use Rattle.picture.specs.inner.Together.{after_points, side_length, with_stores, IsSide, IsStoreRow};
 ghost use Rattle.picture_rows.specs.Rows.{value_at, HasLength};
 
+use crate::apart::store_apart;
 use crate::boxes::TableBounds;
 use crate::in_place::{PixelSpan, is_first, is_second, stage_pixels};
 use crate::line_values::{index_row, shared_row};
 use crate::lines::{Along, KnownPixels, PointLine};
-use crate::points::{at_reduction, is_forward, points};
+use crate::offsets::{offset_below, offset_beside};
+use crate::points::{at_reduction, is_forward, points, product};
 use crate::scenes::{Pass, Scene, Table};
 use halide_pipeline::{Expr, Update, words};
 use picture_rows::Row;
@@ -80,36 +82,6 @@ fn store_row(scene: &Scene, pass: Pass, line: PointLine) -> Result<Option<StoreR
     Ok(Some(StoreRow { x, y, value }))
 }
 
-/// Stores what the points of a line store, where those lie side by side in a row of pixels.
-fn store_beside(row: &StoreRow, column: u32, line: u32, values: &[u32], table: &mut Table)
-    requires x { (at : ℕ) → value_at row.now.x at ≡ word.add column at }
-    requires y { (at : ℕ) → value_at row.now.y at ≡ line }
-    requires value { (at : ℕ) → value_at row.now.value at ≡ slice_index values.now at }
-    requires narrow { length values.now < 2 ^ 32 }
-    ensures table { (plane : spec.Plane) → IsTable plane table.old
-        → IsTable (with_stores row.now (length values.now) plane) table.new }
-    ensures bounds { IsAt table.old.left table.old.top table.old.width table.old.height table.new }
-{
-    for at in 0..values.len() {
-        table.put(words::add(column, at as u32), line, values[at]);
-    }
-}
-
-/// Stores what the points of a line store, where those lie one below the other.
-fn store_below(row: &StoreRow, column: u32, line: u32, values: &[u32], table: &mut Table)
-    requires x { (at : ℕ) → value_at row.now.x at ≡ column }
-    requires y { (at : ℕ) → value_at row.now.y at ≡ word.add line at }
-    requires value { (at : ℕ) → value_at row.now.value at ≡ slice_index values.now at }
-    requires narrow { length values.now < 2 ^ 32 }
-    ensures table { (plane : spec.Plane) → IsTable plane table.old
-        → IsTable (with_stores row.now (length values.now) plane) table.new }
-    ensures bounds { IsAt table.old.left table.old.top table.old.width table.old.height table.new }
-{
-    for at in 0..values.len() {
-        table.put(column, words::add(line, at as u32), values[at]);
-    }
-}
-
 /// Stores what the points of a line store, wherever those lie.
 fn store_each(row: &StoreRow, width: usize, table: &mut Table)
     requires x { HasLength width row.now.x }
@@ -127,6 +99,63 @@ fn store_each(row: &StoreRow, width: usize, table: &mut Table)
     }
 }
 
+/// Stores what the points of a line store, where those lie side by side in a row of pixels.
+fn store_beside(
+    row: &StoreRow,
+    column: u32,
+    line: u32,
+    values: &[u32],
+    width: usize,
+    table: &mut Table,
+)
+    requires columns { (at : ℕ) → value_at row.now.x at ≡ word.add column at }
+    requires lines { (at : ℕ) → value_at row.now.y at ≡ line }
+    requires values { (at : ℕ) → value_at row.now.value at ≡ slice_index values.now at }
+    requires long { length values.now ≡ width }
+    requires x { HasLength width row.now.x }
+    requires y { HasLength width row.now.y }
+    requires value { HasLength width row.now.value }
+    requires narrow { width < 2 ^ 32 }
+    ensures table { (plane : spec.Plane) → IsTable plane table.old
+        → IsTable (with_stores row.now width plane) table.new }
+    ensures bounds { IsAt table.old.left table.old.top table.old.width table.old.height table.new }
+{
+    match offset_beside(table, column, line, width) {
+        Some(from) => store_apart(values, from, 1, &mut table.pixels),
+        None => store_each(row, width, table),
+    }
+}
+
+/// Stores what the points of a line store, where those lie one below the other.
+fn store_below(
+    row: &StoreRow,
+    column: u32,
+    line: u32,
+    values: &[u32],
+    width: usize,
+    table: &mut Table,
+)
+    requires columns { (at : ℕ) → value_at row.now.x at ≡ column }
+    requires lines { (at : ℕ) → value_at row.now.y at ≡ word.add line at }
+    requires values { (at : ℕ) → value_at row.now.value at ≡ slice_index values.now at }
+    requires long { length values.now ≡ width }
+    requires x { HasLength width row.now.x }
+    requires y { HasLength width row.now.y }
+    requires value { HasLength width row.now.value }
+    requires narrow { width < 2 ^ 32 }
+    ensures table { (plane : spec.Plane) → IsTable plane table.old
+        → IsTable (with_stores row.now width plane) table.new }
+    ensures bounds { IsAt table.old.left table.old.top table.old.width table.old.height table.new }
+{
+    match offset_below(table, column, line, width) {
+        Some(from) => {
+            let pitch = table.pitch as usize;
+            store_apart(values, from, pitch, &mut table.pixels);
+        }
+        None => store_each(row, width, table),
+    }
+}
+
 /// Stores what the points of a line store, one after the other.
 fn store_all(row: &StoreRow, width: usize, table: &mut Table)
     requires x { HasLength width row.now.x }
@@ -139,10 +168,10 @@ fn store_all(row: &StoreRow, width: usize, table: &mut Table)
 {
     match (&row.x, &row.y, &row.value) {
         (Row::Step(column), Row::Same(line), Row::Each(values)) => {
-            store_beside(row, *column, *line, values, table)
+            store_beside(row, *column, *line, values, width, table)
         }
         (Row::Same(column), Row::Step(line), Row::Each(values)) => {
-            store_below(row, *column, *line, values, table)
+            store_below(row, *column, *line, values, width, table)
         }
         _ => store_each(row, width, table),
     }
@@ -210,11 +239,33 @@ fn run_points(
     Ok(true)
 }
 
-/// The pixels of a Func in a box, when an update begins to run.
-fn box_before(scene: &Scene, pass: Pass, bounds: TableBounds) -> Result<Table, AllocError>
+/// How far rows of a box begin one after the other, along this. Where slices are rows a point of the update touches a
+/// pixel of each, and those of a whole number of cache lines, an even one, would push each other out of the cache.
+fn pitch_of(along: Along, width: u32) -> u32
+    ensures { width ≤ result }
+{
+    match along {
+        Along::Rows => if width % 32 == 0 {
+            width.saturating_add(16)
+        } else {
+            width
+        },
+        _ => width,
+    }
+}
+
+/// The pixels of a Func in a box, by rows that begin so far one after the other, when an update begins to run.
+fn pixels_before(
+    scene: &Scene,
+    pass: Pass,
+    bounds: TableBounds,
+    pitch: u32,
+) -> Result<Vec<u32>, AllocError>
     requires tables { AreTables scene.now }
     requires pass { IsPass scene.now pass }
-    ensures { IfOk result (IsTable (after_points scene.now pass.entry 0)) }
+    requires pitch { bounds.width ≤ pitch }
+    ensures { IfOk result (λ pixels. ArePixels (after_points scene.now pass.entry 0) bounds.left bounds.top bounds.width
+        pitch bounds.height pixels.items) }
 {
     let TableBounds {
         left,
@@ -222,7 +273,8 @@ fn box_before(scene: &Scene, pass: Pass, bounds: TableBounds) -> Result<Table, A
         width,
         height,
     } = bounds;
-    let mut pixels = Vec::new(scene.alloc);
+    let gap = vec![in scene.alloc; 0; (pitch - width) as usize]?;
+    let mut pixels = Vec::with_capacity(scene.alloc, product(pitch, height) as usize)?;
     for row in 0..height {
         let stretch = PixelSpan {
             left,
@@ -231,12 +283,30 @@ fn box_before(scene: &Scene, pass: Pass, bounds: TableBounds) -> Result<Table, A
         };
         let row = stage_pixels(scene, pass.own, pass.func, pass.updates, stretch)?;
         pixels.extend_from_slice(&row)?;
+        pixels.extend_from_slice(&gap)?;
     }
+    Ok(pixels)
+}
+
+/// The pixels of a Func in a box, when an update begins to run.
+fn box_before(
+    scene: &Scene,
+    pass: Pass,
+    along: Along,
+    bounds: TableBounds,
+) -> Result<Table, AllocError>
+    requires tables { AreTables scene.now }
+    requires pass { IsPass scene.now pass }
+    ensures { IfOk result (IsTable (after_points scene.now pass.entry 0)) }
+{
+    let pitch = pitch_of(along, bounds.width);
+    let pixels = pixels_before(scene, pass, bounds, pitch)?;
     Ok(Table {
-        left,
-        top,
-        width,
-        height,
+        left: bounds.left,
+        top: bounds.top,
+        width: bounds.width,
+        pitch,
+        height: bounds.height,
         pixels,
     })
 }
@@ -249,6 +319,7 @@ fn nothing(alloc: Global) -> Table
         left: 0,
         top: 0,
         width: 1,
+        pitch: 1,
         height: 0,
         pixels: Vec::new(alloc),
     }
@@ -267,7 +338,7 @@ pub(crate) fn run_box(
     ensures { IfOk result (IsTable (stage_in scene.now.funcs.now scene.now.pictures.now pass.entry.own
         (pass.entry.updates + 1))) }
 {
-    let mut table = box_before(scene, pass, bounds)?;
+    let mut table = box_before(scene, pass, along, bounds)?;
     if run_points(scene, pass, along, &mut table)? {
         return Ok(table);
     }

@@ -1,7 +1,7 @@
 -- What the parts of the evaluator answer, in the words of `Pixel`. Nothing here is to be believed: the
 -- contract of `evaluate` doesn't speak of it.
 -- This project's own.
-use Rattle.std.specs.Prelude.{◌≡◌, ℕ, ◌+◌, ◌*◌, ◌/◌, ◌%◌, ◌^◌, ◌<◌, true, List, [], ◌∷◌, length, Option, Some, None, slice_get, slice_index, Vec}
+use Rattle.std.specs.Prelude.{◌≡◌, ℕ, ◌+◌, ◌*◌, ◌/◌, ◌%◌, ◌^◌, ◌<◌, ◌≤◌, true, List, [], ◌∷◌, length, Option, Some, None, slice_get, slice_index, Vec}
 use Rattle.halide_pipeline.specs.declared.expressions.Expr.{Expr}
 use Rattle.halide_pipeline.specs.declared.definitions.Update.{Update}
 use Rattle.halide_pipeline.specs.declared.definitions.Func.{Func}
@@ -121,11 +121,15 @@ pub record AreNumbered (plane : Plane) (left top width height : ℕ) (pixels : L
   pub len : length pixels ≡ width * height
   pub each : (at : ℕ) → at < length pixels → slice_index pixels at ≡ numbered_pixel plane left top width at
 
+-- the pixels of this plane in a box, by rows that begin so far one after the other
+pub record ArePixels (plane : Plane) (left top width pitch height : ℕ) (pixels : List ℕ) : Type 0 where
+  pub len : length pixels ≡ pitch * height
+  pub wide : width ≤ pitch
+  pub each : (column row : ℕ) → column < width → row < height → slice_index pixels (row * pitch + column) ≡ plane (word.add left column) (word.add top row)
+
 -- a table has the pixels of this plane in its box
 pub record IsTable (plane : Plane) (table : Table) : Type 0 where
-  pub len : length table.pixels.items ≡ table.width * table.height
-  pub each : (at : ℕ) → at < length table.pixels.items
-      → slice_index table.pixels.items at ≡ numbered_pixel plane table.left table.top table.width at
+  pub are : ArePixels plane table.left table.top table.width table.pitch table.height table.pixels.items
 
 -- a table's box
 pub record IsAt (left top width height : ℕ) (table : Table) : Type 0 where

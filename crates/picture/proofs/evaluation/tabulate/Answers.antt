@@ -12,4 +12,4 @@ returns-clause-table g c =
     let zip = subst (λ (rows : List (Vec ℕ Global)). AllZip (λ number row. IsNumberedRow plane own.left own.top own.width number row.items)
     (range_with_len 0 own.height) rows) (sym c.deref.ensures.value) c.in_ok-rows.ensures in
     let all = are-numbered plane own.left own.top own.width own.height c.deref.result.now zip in
-    table-of plane own.height c.deref.result.now _ zip refl (c.in_ok-pixels.ensures plane own.left own.top own.width all)
+    table-of plane own.height c.deref.result.now _ zip refl refl (c.in_ok-pixels.ensures plane own.left own.top own.width all)

@@ -1,29 +1,19 @@
-use Rattle.std.proofs.Common.{◌≡◌, ℕ, length, refl, sym, subst, ◌∙◌, arith}
-use Rattle.picture.specs.inner.Evaluation.{IsTable}
-use Rattle.picture.specs.inner.Together.{with_stores}
-use Rattle.picture.proofs.SideBySide.{no-store, store-more}
+use Rattle.std.proofs.Common.{◌≡◌, ℕ, List, length, refl, ap, ◌∙◌, arith}
+use Rattle.picture.specs.inner.Apart.{stored}
+use Rattle.picture.proofs.Along.{refilled}
+use Rattle.picture.proofs.StoresApart.{length-stored, stored-table}
 use Rattle.picture.proofs.together.store_below.Goals as goal
 
-pub loop-at-init : goal.loop-at-init
-loop-at-init c = record {
-  table = λ plane is. no-store c.args.row.now plane c.args.table.now is;
-  bounds = record { left_is = refl; top_is = refl; width_is = refl; height_is = refl };
-}
-
-pub loop-at-preserved : goal.loop-at-preserved
-loop-at-preserved c = record {
-  table = λ plane is.
-      store-more c.args.row.now c.loop-at.at c.args.column c.add.result _ plane _ (sym (c.requires.x c.loop-at.at)) (c.add.ensures ∙ sym (c.requires.y c.loop-at.at)) (sym (c.requires.value c.loop-at.at))
-      (c.put.ensures.table (with_stores c.args.row.now c.loop-at.at plane) (c.loop-at.invariant.table plane is));
-  bounds = record {
-    left_is = c.put.ensures.bounds.left_is ∙ c.loop-at.invariant.bounds.left_is;
-    top_is = c.put.ensures.bounds.top_is ∙ c.loop-at.invariant.bounds.top_is;
-    width_is = c.put.ensures.bounds.width_is ∙ c.loop-at.invariant.bounds.width_is;
-    height_is = c.put.ensures.bounds.height_is ∙ c.loop-at.invariant.bounds.height_is;
-  };
-}
-
-pub returns-clause-table : goal.returns-clause-table
-returns-clause-table c = λ plane is.
-    let whole : c.loop-at.at ≡ length c.args.values.now = omega arith in
-    subst (λ (n : ℕ). IsTable (with_stores c.args.row.now n plane) c.loop-at.table) whole (c.loop-at.invariant.table plane is)
+pub returns-in-Some-clause-table : goal.returns-in-Some-clause-table
+returns-in-Some-clause-table c = λ plane is.
+    let offsets = rw c.in-Some.is at c.offset_below.ensures in
+    let own = c.args.table.now in
+    let values = c.args.values.now in
+    let words = c.store_apart.new.words in
+    let same : words ≡ stored values c.in-Some.from c.args.table.now.pitch (length values) own.pixels.items = c.store_apart.ensures
+    ∙ ap (λ (all : List ℕ). stored values c.in-Some.from c.args.table.now.pitch (length values) all) c.deref_mut.ensures.value in
+    let long : length words ≡ length own.pixels.items = ap length same ∙ length-stored values c.in-Some.from c.args.table.now.pitch (length values) own.pixels.items in
+    stored-table c.args.row.now plane own _ c.in-Some.from c.args.table.now.pitch c.args.width values is
+    (λ at less. rw (c.requires.columns at, c.requires.lines at) (offsets.each at less)) c.requires.values
+    (record { left_is = refl; top_is = refl; width_is = refl; height_is = refl }) refl c.requires.long
+    (refilled own.pixels words (omega (arith, long)) ∙ same)
