@@ -1,3 +1,4 @@
+pub mod Clearing
 pub mod Counts
 pub mod Marks
 pub mod Places

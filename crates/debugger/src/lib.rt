@@ -8,13 +8,16 @@
 //!
 //! - [`sessions`]: the session, and going from place to place.
 //! - [`readers`]: what can be read of the state at its place.
-//! - [`marks`]: breaks and watches.
+//! - [`parts`]: the log, the machine at the place, and which marks are set.
+//! - [`marks`]: breaks and watches; [`clearing`]: marks taken away.
 //! - [`stops`]: going to the next and to the previous stop.
 //! - [`refusals`]: why a call is refused ([`SessionRefusal`]).
 #![tactic(auto)]
 
+mod clearing;
 mod kept;
 mod marks;
+mod parts;
 mod passing;
 mod readers;
 pub mod refusals;
