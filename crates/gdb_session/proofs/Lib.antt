@@ -1,0 +1,6 @@
+pub mod Bytes
+pub mod Lines
+pub mod Searches
+pub mod Searching
+pub mod Turns
+pub mod Watching
