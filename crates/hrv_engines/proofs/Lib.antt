@@ -25,5 +25,6 @@ pub mod StopsFound
 pub mod TalkSteps
 pub mod TextFronts
 pub mod TraceSteps
+pub mod Unended
 pub mod Verdicts
 pub mod WholeTexts

@@ -93,7 +93,7 @@ some_by : (test : Bool) (byte : ℕ) (parts : List (List ℕ)) → cond test ([]
 some_by true byte parts e = cc
 some_by false byte parts e = joined_some byte parts e
 
-some_word : (line : List ℕ) → words_of line ≢ []
+pub some_word : (line : List ℕ) → words_of line ≢ []
 unfolding words_of
 some_word [] e = cc
 some_word (byte ∷ line) e = some_by (byte == 32) byte (words_of line) e

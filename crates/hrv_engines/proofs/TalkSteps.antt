@@ -9,13 +9,16 @@ use Rattle.debugger.specs.Places.{SessionState}
 use Rattle.hrv_engines.specs.declared.faults.Fault.{Fault}
 use Rattle.hrv_engines.specs.declared.faults.Fault.TheVariants.{Refused, File, Memory, Thread}
 use Rattle.std.specs.String.{string_bytes}
-use Rattle.hrv_engines.specs.Talk.{Answer, answer, answers, quits, talk, talk_ends, unless_last}
+use Rattle.hrv_engines.specs.Talk.{Answer, answer, answer_or_unknown, answers, quits, talk, talk_ends, unless_last}
 use Rattle.hrv_engines.specs.TalkSoFar.{BrokenTalk, GoesOn, HeldTalk, HoldsTalk, IsOver, SoFar, TalkBroke, Took, WaitingTalk}
 use Rattle.hrv_engines.specs.Debug.{IsRefusedSession, TalkGaveUp, Talks, session_of}
 use Rattle.hrv_engines.specs.Devices.{Sources, Taken}
 use Rattle.hrv_engines.specs.Engine.{Unmeant, Unwritten, Writes}
 use Rattle.hrv_engines.proofs.Steps.{passed}
+use Rattle.hrv_engines.specs.inner.Unended.{IsKeptOf}
+use Rattle.hrv_engines.specs.Commands.{command_of}
 use Rattle.hrv_engines.proofs.Splits.{HasNo, has_no-append, last_line, line_and_more}
+use Rattle.hrv_engines.proofs.Unended.{behind, front_of as first_of, line_begins}
 
 talk_line : (s : SessionState) (line rest : List ℕ) → HasNo 10 line → talk s (line ++ 10 ∷ rest) ≡ unless_last (answer s line) (λ next. talk next rest)
 unfolding talk answers
@@ -93,6 +96,91 @@ step_over old line bytes s left rest before middle found others after g split cl
           g.lasts more ∙ ap (talk_ends s) (same more) ∙ ends_line s (left ++ found) (others ++ more) is_line
           ∙ cond_true a.is_last true (talk_ends a.next (others ++ more)) (sym last);
     }
+
+-- ---- over what is kept of a line
+
+answer_same : (s : SessionState) (line bytes kept : List ℕ) → IsKeptOf line bytes kept → answer s (line ++ bytes) ≡ answer s kept
+unfolding answer
+answer_same s line bytes kept is =
+    ap (answer_or_unknown s) (ap command_of (sym (append-nil (line ++ bytes))) ∙ is.same [] ∙ ap command_of (append-nil kept))
+
+answer_begins : (s : SessionState) (line bytes kept more : List ℕ) → IsKeptOf line bytes kept
+    → answer s ((line ++ bytes) ++ more) ≡ answer s (kept ++ more)
+unfolding answer
+answer_begins s line bytes kept more is = ap (answer_or_unknown s) (is.same more)
+
+talk_begins : (s : SessionState) (line text : List ℕ) → IsLine line → line ≢ []
+    → talk s (line ++ text) ≡ unless_last (answer s (line ++ first_of text)) (λ next. answers next (behind text))
+unfolding talk answers
+talk_begins s line text is some = ap (answers s) (line_begins line text is some)
+
+ends_begins : (s : SessionState) (line text : List ℕ) → IsLine line → line ≢ []
+    → talk_ends s (line ++ text) ≡ cond (answer s (line ++ first_of text)).is_last true (quits (answer s (line ++ first_of text)).next (behind text))
+unfolding talk_ends quits
+ends_begins s line text is some = ap (quits s) (line_begins line text is some)
+
+-- What is said of a text that begins with what is kept is said of the one that begins with all.
+Same : (line bytes kept : List ℕ) (text : List ℕ) → Type 0
+Same line bytes kept text = (s : SessionState)
+    → (talk s (line ++ (bytes ++ text)) ≡ talk s (kept ++ text)) × (talk_ends s (line ++ (bytes ++ text)) ≡ talk_ends s (kept ++ text))
+
+kept_same : (line bytes kept text : List ℕ) → IsKeptOf line bytes kept → IsLine line → IsLine bytes → Same line bytes kept text
+unfolding Same
+kept_same line bytes kept text is own others s = by (line ++ bytes) refl
+  where
+    whole : line ++ (bytes ++ text) ≡ (line ++ bytes) ++ text
+    whole = sym (append_assoc line bytes text)
+
+    by : (all : List ℕ) → all ≡ line ++ bytes
+        → (talk s (line ++ (bytes ++ text)) ≡ talk s (kept ++ text)) × (talk_ends s (line ++ (bytes ++ text)) ≡ talk_ends s (kept ++ text))
+    by [] e =
+        let none = is.none (sym e) in
+        let same : line ++ (bytes ++ text) ≡ kept ++ text = whole ∙ ap (λ (l : List ℕ). l ++ text) (sym e ∙ sym none) in
+        (ap (talk s) same, ap (talk_ends s) same)
+    by (x ∷ all) e =
+        let some : line ++ bytes ≢ [] = λ none. cc in
+        let left : kept ≢ [] = λ none. some (is.some none) in
+        let lines = has_no-append 10 line bytes own others in
+        let one = answer_begins s line bytes kept (first_of text) is in (
+          ap (talk s) whole ∙ talk_begins s (line ++ bytes) text lines some ∙ ap (λ a. unless_last a (λ next. answers next (behind text))) one
+              ∙ sym (talk_begins s kept text (is.is_line own others) left),
+          ap (talk_ends s) whole ∙ ends_begins s (line ++ bytes) text lines some
+              ∙ ap (λ (a : Answer). cond a.is_last true (quits a.next (behind text))) one
+              ∙ sym (ends_begins s kept text (is.is_line own others) left),
+        )
+
+-- one more line that doesn't end the talk, of which this is kept
+pub kept_on : (old : SessionState) (line bytes : List ℕ) (s : SessionState) (left rest before middle found others : List ℕ) (next : SessionState)
+    (after kept : List ℕ)
+    → GoesOn old line bytes s left rest before middle → rest ≡ found ++ 10 ∷ others → HasNo 10 found → IsKeptOf left found kept
+    → after ≡ middle ++ (answer s kept).text → next ≡ (answer s kept).next → false ≡ (answer s kept).is_last
+    → GoesOn old line bytes next [] others before after
+kept_on old line bytes s left rest before middle found others next after kept g split clean is said is_next last =
+    let same = answer_same s left found kept is in
+    step_on old line bytes s left rest before middle found others next after g split clean
+    (said ∙ ap (λ (a : Answer). middle ++ a.text) (sym same)) (is_next ∙ ap (λ (a : Answer). a.next) (sym same))
+    (last ∙ ap (λ (a : Answer). a.is_last) (sym same))
+
+-- one more line that ends it
+pub kept_over : (old : SessionState) (line bytes : List ℕ) (s : SessionState) (left rest before middle found others after kept : List ℕ)
+    → GoesOn old line bytes s left rest before middle → rest ≡ found ++ 10 ∷ others → HasNo 10 found → IsKeptOf left found kept
+    → after ≡ middle ++ (answer s kept).text → true ≡ (answer s kept).is_last
+    → IsOver old line bytes before after
+kept_over old line bytes s left rest before middle found others after kept g split clean is said last =
+    let same = answer_same s left found kept is in
+    step_over old line bytes s left rest before middle found others after g split clean
+    (said ∙ ap (λ (a : Answer). middle ++ a.text) (sym same)) (last ∙ ap (λ (a : Answer). a.is_last) (sym same))
+
+-- bytes without a line feed after the line that has begun
+pub kept_rest : (old : SessionState) (line bytes : List ℕ) (s : SessionState) (left rest before after kept : List ℕ)
+    → GoesOn old line bytes s left rest before after → HasNo 10 rest → IsKeptOf left rest kept
+    → GoesOn old line bytes s kept [] before after
+unfolding Same
+kept_rest old line bytes s left rest before after kept g clean is = record {
+  answered = λ more. g.answered more ∙ ap (λ t. after ++ t) (kept_same left rest kept more is g.is_line clean s).0;
+  lasts = λ more. g.lasts more ∙ (kept_same left rest kept more is g.is_line clean s).1;
+  is_line = is.is_line g.is_line clean;
+}
 
 -- a last line that no line feed ends
 pub last_talk : (s : SessionState) (line : List ℕ) → IsLine line → line ≢ [] → talk s line ≡ (answer s line).text

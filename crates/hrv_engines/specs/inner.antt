@@ -1,3 +1,4 @@
 pub mod Found
 pub mod Fronts
 pub mod MarkRows
+pub mod Unended

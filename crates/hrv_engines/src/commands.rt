@@ -60,7 +60,7 @@ pub fn read_command(line: &[u8]) -> Option<Command>
 
 /// The first word, and what follows the space after it, if there is one.
 #[tactic(auto, using(crate::proofs::Splits::one_word, crate::proofs::Splits::word_and_more))]
-fn first_word(line: &[u8]) -> (&[u8], Option<&[u8]>)
+pub(crate) fn first_word(line: &[u8]) -> (&[u8], Option<&[u8]>)
     ensures { MatchOption result.1 (spec.words_of line.now ≡ result.0.now ∷ [])
         (λ rest. spec.words_of line.now ≡ result.0.now ∷ spec.words_of rest.now) }
 {

@@ -12,10 +12,11 @@ ghost use Rattle.hrv_engines.specs.TalkSoFar.{Took};
 use crate::commands::{Command, read_command};
 use crate::cuts::cut_at;
 use crate::dumps::{integer_register, push_hex, push_hex_word, push_status, vector_register};
+use crate::keeping::keep;
 use debugger::{Session, SessionRefusal};
 use std::alloc::{AllocError, Global};
 
-/// A talk over a session, with the bytes of a line that has not ended.
+/// A talk over a session, with what is kept of a line that has not ended.
 #[derive(Drop)]
 pub struct Talk {
     pub session: Session,
@@ -48,14 +49,14 @@ impl Talk {
     {
         let mut rest = bytes;
         'lines: while let Some((line, others)) = cut_at(rest, b'\n') {
-            self.unended.extend_from_slice(line)?;
+            keep(&mut self.unended, line)?;
             if answer_line(alloc, &mut self.session, &self.unended, text)? {
                 return Ok(true);
             }
             self.unended.clear();
             rest = others;
         }
-        self.unended.extend_from_slice(rest)?;
+        keep(&mut self.unended, rest)?;
         Ok(false)
     }
 
