@@ -18,6 +18,7 @@ pub mod PrintedPictures
 pub mod Printing
 pub mod Recordings
 pub mod Runs
+pub mod ScheduleFronts
 pub mod Sources
 pub mod Splits
 pub mod Steps

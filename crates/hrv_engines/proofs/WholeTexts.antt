@@ -9,12 +9,13 @@ use Rattle.halide_pipeline.specs.Contents.{PictureContents}
 use Rattle.halide_parser_syntax.specs.declared.faults.ParseFault.{ParseFault}
 use Rattle.halide_parser.specs.Parsing.{parsed}
 use Rattle.picture.specs.Reading.{picture_of}
-use Rattle.hrv_compiler.specs.Verdict.{by_algorithm, refusal_of}
+use Rattle.schedule.specs.Reading.{read}
+use Rattle.hrv_compiler.specs.Verdict.{by_algorithm, by_schedule, refusal_of}
 use Rattle.hrv_engines.specs.declared.faults.Fault.{Fault}
 use Rattle.hrv_engines.specs.declared.faults.Fault.TheVariants.{Refused, File, Memory, Thread}
-use Rattle.hrv_engines.specs.declared.texts.Extent.TheVariants.{Bytes, FirstLine}
+use Rattle.hrv_engines.specs.declared.texts.Extent.TheVariants.{Bytes, FirstLine, Lines}
 use Rattle.hrv_engines.specs.Compile.{IsCompilation, IsRefusedCompilation, RefusesInputs}
-use Rattle.hrv_engines.specs.Devices.{GaveEach, GaveText, most_algorithm_bytes, most_picture_bytes}
+use Rattle.hrv_engines.specs.Devices.{GaveEach, GaveText, most_algorithm_bytes, most_picture_bytes, most_schedule_lines}
 use Rattle.hrv_engines.specs.Drawing.{IsDrawing, IsRefusedDrawing, pictures_of, with_pictures, with_pipeline}
 use Rattle.hrv_engines.specs.Drawing as drawing
 use Rattle.hrv_engines.specs.Engine.{Unmeant}
@@ -22,6 +23,7 @@ use Rattle.hrv_engines.specs.Map.{IsMap, IsRefusedMap}
 use Rattle.hrv_engines.specs.inner.Fronts.{GaveKept, KeepsOf}
 use Rattle.hrv_engines.proofs.AlgorithmFronts.{refused_in_line_1, same_told}
 use Rattle.hrv_engines.proofs.PictureFronts.{same_answer}
+use Rattle.hrv_engines.proofs.ScheduleFronts.{same_read}
 
 -- ---- pictures
 
@@ -41,6 +43,17 @@ pictures_same [] (text ∷ texts) each = absurd each
 pictures_same (kept ∷ others) [] each = absurd each
 pictures_same (kept ∷ others) (text ∷ texts) each =
     rw (picture_same kept text each.0, pictures_same others texts each.1) refl
+
+-- ---- schedules
+
+schedule_same : (kept text : List ℕ) → KeepsOf (Lines most_schedule_lines) kept text → (pipeline : Pipeline) → read pipeline text ≡ read pipeline kept
+schedule_same kept text (inl same) pipeline = ap (read pipeline) (sym same)
+schedule_same kept text (inr front) pipeline = ap (read pipeline) (sym front.1.1) ∙ same_read pipeline kept front.1.0 front.0
+
+fault_same : (kept text : List ℕ) → KeepsOf (Lines most_schedule_lines) kept text → (found : Result Pipeline (ℕ × ParseFault))
+    → by_algorithm text found ≡ by_algorithm kept found
+fault_same kept text keeps (Ok pipeline) = ap (by_schedule pipeline) (schedule_same kept text keeps pipeline)
+fault_same kept text keeps (Err fault) = refl
 
 -- ---- what sources gave
 
@@ -89,6 +102,11 @@ module _ {S : Type 0} (gave : S → List ℕ → S → Type 0) (ended : S → Ty
 
 -- ---- what is judged
 
+refusal_front : (alloc : Global) (algorithm front schedule : List ℕ) → KeepsOf (Lines most_schedule_lines) front schedule
+    → refusal_of alloc algorithm schedule ≡ refusal_of alloc algorithm front
+unfolding refusal_of
+refusal_front alloc algorithm front schedule keeps = fault_same front schedule keeps (parsed alloc algorithm)
+
 module _ (alloc : Global) (kept text : List ℕ) (keeps : KeepsOf (FirstLine most_algorithm_bytes) kept text) where
   parsed_same : parsed alloc text ≡ parsed alloc kept
   parsed_same = by keeps
@@ -109,18 +127,35 @@ module _ (alloc : Global) (kept text : List ℕ) (keeps : KeepsOf (FirstLine mos
           both_not : {fault : ℕ × ParseFault} → Ok pipeline ≡ Err fault → ⊥
           both_not e = cc
 
-  refusal_same : (schedule : List ℕ) → refusal_of alloc text schedule ≡ refusal_of alloc kept schedule
+  refusal_same : (front schedule : List ℕ) → KeepsOf (Lines most_schedule_lines) front schedule → refusal_of alloc text schedule ≡ refusal_of alloc kept front
   unfolding refusal_of
-  refusal_same schedule = ap (by_algorithm schedule) parsed_same
+  refusal_same front schedule keeps_front = fault_same front schedule keeps_front (parsed alloc text) ∙ ap (by_algorithm front) parsed_same
 
-  pub mapped : (schedule output : List ℕ) → IsMap alloc (kept, schedule) output → IsMap alloc (text, schedule) output
-  mapped schedule output is = subst (λ bytes. IsMap alloc (bytes, schedule) output) (accepted_whole is.program.pipeline is.is_program.algorithm_is) is
+  pub mapped : (front schedule output : List ℕ) → KeepsOf (Lines most_schedule_lines) front schedule → IsMap alloc (kept, front) output
+      → IsMap alloc (text, schedule) output
+  mapped front schedule output keeps_front is =
+      subst (λ bytes. IsMap alloc (bytes, schedule) output) (accepted_whole is.program.pipeline is.is_program.algorithm_is) (record {
+        program = is.program;
+        is_faultless = by_front ∙ is.is_faultless;
+        is_program = record {
+          algorithm_is = is.is_program.algorithm_is;
+          schedule_is = schedule_same front schedule keeps_front is.program.pipeline ∙ is.is_program.schedule_is;
+        };
+        is_compiled = is.is_compiled;
+        are_phases = is.are_phases;
+        are_right = is.are_right;
+        is_text = is.is_text;
+      })
+    where
+      by_front : refusal_of alloc kept schedule ≡ refusal_of alloc kept front
+      by_front = refusal_front alloc kept front schedule keeps_front
 
-  pub unmapped : (schedule : List ℕ) (fault : Fault) → Unmeant (IsRefusedMap alloc) (kept, schedule) fault → Unmeant (IsRefusedMap alloc) (text, schedule) fault
-  unmapped schedule (Refused refusal) q = (q.0, q.1, refusal_same schedule ∙ q.2)
-  unmapped schedule (File path) q = q
-  unmapped schedule Memory q = q
-  unmapped schedule Thread q = q
+  pub unmapped : (front schedule : List ℕ) (fault : Fault) → KeepsOf (Lines most_schedule_lines) front schedule → Unmeant (IsRefusedMap alloc) (kept, front) fault
+      → Unmeant (IsRefusedMap alloc) (text, schedule) fault
+  unmapped front schedule (Refused refusal) keeps_front q = (q.0, q.1, refusal_same front schedule keeps_front ∙ q.2)
+  unmapped front schedule (File path) keeps_front q = q
+  unmapped front schedule Memory keeps_front q = q
+  unmapped front schedule Thread keeps_front q = q
 
   module _ (kept_inputs inputs : List (List ℕ)) (each : KeptEach kept_inputs inputs) where
     pub drawn : (output : List ℕ) → IsDrawing alloc (kept, kept_inputs) output → IsDrawing alloc (text, inputs) output
@@ -147,13 +182,16 @@ module _ (alloc : Global) (kept text : List ℕ) (keeps : KeepsOf (FirstLine mos
     undrawn Memory q = q
     undrawn Thread q = q
 
-    pub compiled_whole : (schedule output : List ℕ) → IsCompilation alloc ((kept, schedule), kept_inputs) output
-        → IsCompilation alloc ((text, schedule), inputs) output
-    compiled_whole schedule output is = record {
+    pub compiled_whole : (front schedule output : List ℕ) → KeepsOf (Lines most_schedule_lines) front schedule
+        → IsCompilation alloc ((kept, front), kept_inputs) output → IsCompilation alloc ((text, schedule), inputs) output
+    compiled_whole front schedule output keeps_front is = record {
       program = is.program;
       pictures = is.pictures;
-      is_faultless = refusal_same schedule ∙ is.is_faultless;
-      is_program = record { algorithm_is = parsed_same ∙ is.is_program.algorithm_is; schedule_is = is.is_program.schedule_is };
+      is_faultless = refusal_same front schedule keeps_front ∙ is.is_faultless;
+      is_program = record {
+        algorithm_is = parsed_same ∙ is.is_program.algorithm_is;
+        schedule_is = schedule_same front schedule keeps_front is.program.pipeline ∙ is.is_program.schedule_is;
+      };
       is_compiled = is.is_compiled;
       are_inputs = pictures_same kept_inputs inputs each ∙ is.are_inputs;
       are_asked_for = is.are_asked_for;
@@ -164,15 +202,16 @@ module _ (alloc : Global) (kept text : List ℕ) (keeps : KeepsOf (FirstLine mos
       is_spelled = is.is_spelled;
     }
 
-    pub uncompiled : (schedule : List ℕ) (fault : Fault) → Unmeant (IsRefusedCompilation alloc) ((kept, schedule), kept_inputs) fault
+    pub uncompiled : (front schedule : List ℕ) (fault : Fault) → KeepsOf (Lines most_schedule_lines) front schedule
+        → Unmeant (IsRefusedCompilation alloc) ((kept, front), kept_inputs) fault
         → Unmeant (IsRefusedCompilation alloc) ((text, schedule), inputs) fault
-    uncompiled schedule (Refused refusal) (inl q) = inl (q.0, q.1, refusal_same schedule ∙ q.2)
-    uncompiled schedule (Refused refusal) (inr q) = inr (record {
+    uncompiled front schedule (Refused refusal) keeps_front (inl q) = inl (q.0, q.1, refusal_same front schedule keeps_front ∙ q.2)
+    uncompiled front schedule (Refused refusal) keeps_front (inr q) = inr (record {
       pipeline = q.pipeline;
-      is_faultless = refusal_same schedule ∙ q.is_faultless;
+      is_faultless = refusal_same front schedule keeps_front ∙ q.is_faultless;
       is_algorithm = parsed_same ∙ q.is_algorithm;
       are_refused = ap (with_pictures q.pipeline) (pictures_same kept_inputs inputs each) ∙ q.are_refused;
     })
-    uncompiled schedule (File path) q = q
-    uncompiled schedule Memory q = q
-    uncompiled schedule Thread q = q
+    uncompiled front schedule (File path) keeps_front q = q
+    uncompiled front schedule Memory keeps_front q = q
+    uncompiled front schedule Thread keeps_front q = q

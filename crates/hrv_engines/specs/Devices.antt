@@ -102,6 +102,10 @@ text_of place failures gave ended before after = record {
 abbrev pub most_algorithm_bytes : ℕ
 most_algorithm_bytes = 65536
 
+-- A schedule that is accepted has at most this many lines.
+abbrev pub most_schedule_lines : ℕ
+most_schedule_lines = 256
+
 -- A picture that is read has at most this many bytes: a heading of 32, and 12 for each pixel. The law `long_pictures_are_refused_by_their_front`
 -- says so, and that of longer ones the fault depends on a front of more bytes alone.
 abbrev pub most_picture_bytes : ℕ

@@ -10,7 +10,7 @@ ghost use Rattle.hrv_engines.specs.Engine.{Judges, Performs};
 use crate::devices::{Sink, Source, write_all};
 use crate::drawing::{read_pictures, read_texts};
 use crate::faults::Fault;
-use crate::texts::{read_algorithm, read_text};
+use crate::texts::{read_algorithm, read_schedule};
 use hrv_compiler::compile;
 use std::alloc::Global;
 
@@ -34,7 +34,7 @@ pub fn compile_bytes<A: Source, S: Source, I: Source, O: Sink>(
         (sink_of O.place O.failed O.took image.old image.new) result }
 {
     let algorithm_text = read_algorithm(alloc, algorithm)?;
-    let schedule_text = read_text(alloc, schedule)?;
+    let schedule_text = read_schedule(alloc, schedule)?;
     let input_texts = read_texts(alloc, inputs)?;
     let bytes = compilation_of(alloc, &algorithm_text, &schedule_text, input_texts)?;
     write_all(alloc, image, &bytes)

@@ -146,6 +146,9 @@ pub const MOST_IMAGE_BYTES: usize = 36 + 4 * MOST_WORDS + MOST_BYTES;
 /// How many bytes an algorithm that is accepted has at most.
 pub const MOST_ALGORITHM_BYTES: usize = 65_536;
 
+/// How many lines a schedule that is accepted has at most.
+pub const MOST_SCHEDULE_LINES: usize = 256;
+
 /// How many bytes a picture that is read has at most: those of a heading, of 1,048,576 numbers, and of a byte after
 /// each.
 pub const MOST_PICTURE_BYTES: usize = 32 + 12 * 1_048_576;

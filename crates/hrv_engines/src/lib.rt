@@ -35,8 +35,8 @@
 //! - [`laws`]: that what is printed of a compiled image that has finished is what is drawn of its texts; that a front
 //!   of more bytes than an image, an algorithm or a picture has decides that it is refused.
 //!
-//! The other modules are theirs alone: how texts are read, what a line of a talk commands, what is kept of one that has
-//! not ended and what is answered to it, and the text of a dump and of its picture.
+//! The other modules are theirs alone: how texts are read and their lines counted, what a line of a talk commands, what
+//! is kept of one that has not ended and what is answered to it, and the text of a dump and of its picture.
 #![tactic(auto)]
 
 mod asm;
@@ -57,6 +57,7 @@ pub mod explain;
 pub mod faults;
 mod keeping;
 pub mod laws;
+mod line_counts;
 mod logs;
 mod mapping;
 mod pictures;

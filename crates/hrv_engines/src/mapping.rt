@@ -7,7 +7,7 @@ ghost use Rattle.hrv_engines.specs.Map.{IsMap, IsRefusedMap};
 
 use crate::devices::{Sink, Source, write_all};
 use crate::faults::Fault;
-use crate::texts::{read_algorithm, read_text};
+use crate::texts::{read_algorithm, read_schedule};
 use hrv_compiler::compile;
 use std::alloc::Global;
 
@@ -28,7 +28,7 @@ pub fn map_bytes<A: Source, S: Source, O: Sink>(
         (sink_of O.place O.failed O.took out.old out.new) result }
 {
     let algorithm_text = read_algorithm(alloc, algorithm)?;
-    let schedule_text = read_text(alloc, schedule)?;
+    let schedule_text = read_schedule(alloc, schedule)?;
     let text = map_of(alloc, &algorithm_text, &schedule_text)?;
     write_all(alloc, out, &text)
 }

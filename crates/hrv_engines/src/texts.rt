@@ -5,15 +5,19 @@ ghost use Rattle.std.specs.Prelude.{◌≡◌, ℕ, ◌+◌, ◌<◌, ◌≤◌,
 ghost use Rattle.std.specs.List.{prefix_len};
 ghost use Rattle.std.specs.Str.{IsUtf8};
 ghost use Rattle.std.specs.String.{string_bytes};
-ghost use Rattle.hrv_engines.specs.Devices.{most_algorithm_bytes, most_picture_bytes, text_of};
+ghost use Rattle.hrv_engines.specs.Devices.{most_algorithm_bytes, most_picture_bytes, most_schedule_lines, text_of};
 ghost use Rattle.hrv_engines.specs.Engine.{Reads};
 ghost use Rattle.hrv_engines.specs.inner.Fronts.{Decides, IsLineTold, IsLongestText, IsReadSoFar};
 ghost use Rattle.hrv_engines.specs.inner.Fronts.{Keeps, KeepsOf, TookPiece, kept_text_of};
 ghost use Rattle.hrv_engines.specs.inner.Fronts as spec;
-ghost use Rattle.hrv_engines.specs.declared.texts.Extent.TheVariants.{Bytes, FirstLine};
+ghost use Rattle.hrv_engines.specs.inner.LineCounts.{line_feeds};
+ghost use Rattle.hrv_engines.specs.declared.texts.Extent.TheVariants.{Bytes, FirstLine, Lines};
 
-use crate::devices::{CHUNK, MOST_ALGORITHM_BYTES, MOST_PICTURE_BYTES, Source};
+use crate::devices::{
+    CHUNK, MOST_ALGORITHM_BYTES, MOST_PICTURE_BYTES, MOST_SCHEDULE_LINES, Source,
+};
 use crate::faults::Fault;
+use crate::line_counts::{has_more_lines, line_feeds};
 use line_text::spans::{continues_name, is_blank};
 use std::alloc::{AllocError, Global};
 
@@ -26,6 +30,8 @@ pub(crate) enum Extent {
     Bytes(usize),
     /// The same, and the first line up to a comment, or up to a byte of which no token of an algorithm is made.
     FirstLine(usize),
+    /// This many lines, and what came with the first byte of one more.
+    Lines(usize),
 }
 
 /// The front of a text that is kept.
@@ -35,6 +41,8 @@ pub(crate) struct KeptFront {
     pub bytes: Vec<u8>,
     /// Whether a byte is among them that ends what an algorithm's first line says.
     pub is_line_told: bool,
+    /// How many line feeds are among them.
+    pub line_feeds: usize,
     /// Whether they decide what is to be said of the text, so that no more is kept.
     pub is_enough: bool,
 }
@@ -83,15 +91,16 @@ fn valid_len(bytes: &[u8]) -> usize
     }
 }
 
-/// Whether a front of this many bytes decides what is to be said of the text.
-fn is_enough(extent: Extent, count: usize, is_line_told: bool) -> bool
-    ensures { (text : List ℕ) → count ≡ length text → (is_line_told ≡ true → IsLineTold text) → result ≡ true
-        → Decides extent text }
+/// Whether a front decides what is to be said of the text.
+fn is_enough(extent: Extent, front: &[u8], is_line_told: bool, feeds: usize) -> bool
+    ensures { feeds ≡ line_feeds front.now → (is_line_told ≡ true → IsLineTold front.now) → result ≡ true
+        → Decides extent front.now }
 {
     match extent {
         Extent::All => false,
-        Extent::Bytes(most) => count > most,
-        Extent::FirstLine(most) => count > most && is_line_told,
+        Extent::Bytes(most) => front.len() > most,
+        Extent::FirstLine(most) => front.len() > most && is_line_told,
+        Extent::Lines(most) => has_more_lines(front, feeds, most),
     }
 }
 
@@ -115,7 +124,8 @@ impl KeptFront {
         }
         self.bytes.extend_from_slice(front)?;
         self.is_line_told = is_told(self.is_line_told, front);
-        self.is_enough = is_enough(self.extent, self.bytes.len(), self.is_line_told);
+        self.line_feeds = self.line_feeds.saturating_add(line_feeds(front));
+        self.is_enough = is_enough(self.extent, &self.bytes, self.is_line_told, self.line_feeds);
         Ok(())
     }
 }
@@ -172,6 +182,7 @@ pub(crate) fn read_kept<S: Source>(
             extent,
             bytes: Vec::new(alloc),
             is_line_told: false,
+            line_feeds: 0,
             is_enough: false,
         },
         unended: Vec::new(alloc),
@@ -211,6 +222,16 @@ pub(crate) fn read_algorithm<S: Source>(alloc: Global, source: &mut S) -> Result
         (kept_text_of (FirstLine most_algorithm_bytes) S.place S.failed S.gave S.ended source.old source.new) result }
 {
     read_kept(alloc, source, Extent::FirstLine(MOST_ALGORITHM_BYTES))
+}
+
+/// Reads a schedule. Of one that has more lines than any may have, no more is kept than these and a beginning of the
+/// next.
+pub(crate) fn read_schedule<S: Source>(alloc: Global, source: &mut S) -> Result<String, Fault>
+    requires { S.failed source.old + 1 < 2 ^ 64 }
+    ensures { Reads string_bytes
+        (kept_text_of (Lines most_schedule_lines) S.place S.failed S.gave S.ended source.old source.new) result }
+{
+    read_kept(alloc, source, Extent::Lines(MOST_SCHEDULE_LINES))
 }
 
 /// Reads a picture. Of one that is longer than any, more bytes than it may have are kept.

@@ -2,11 +2,12 @@
 use Rattle.std.specs.Prelude.{◌≡◌, ◌≢◌, ◌⊎◌, ◌==◌, ◌||◌, ℕ, ◌<◌, ◌≤◌, Bool, true, false, List, [], ◌++◌, length, take}
 use Rattle.std.specs.List.{prefix_len}
 use Rattle.std.specs.Str.{IsUtf8}
-use Rattle.line_text.specs.Lines.{continues_name, is_blank}
+use Rattle.line_text.specs.Lines.{continues_name, is_blank, lines_of}
 use Rattle.hrv_engines.specs.declared.texts.Extent.{Extent}
-use Rattle.hrv_engines.specs.declared.texts.Extent.TheVariants.{All, Bytes, FirstLine}
+use Rattle.hrv_engines.specs.declared.texts.Extent.TheVariants.{All, Bytes, FirstLine, Lines}
 use Rattle.hrv_engines.specs.declared.texts.KeptFront.{KeptFront}
 use Rattle.hrv_engines.specs.declared.texts.Reading.{Reading}
+use Rattle.hrv_engines.specs.inner.LineCounts.{line_feeds}
 use Rattle.hrv_engines.specs.Devices.{BeginsNoText, GaveEach, GaveNoText, GaveText, NamesFailed, NoneFailed, Sources, most_picture_bytes}
 
 -- this many bytes are the longest front that is a text
@@ -34,6 +35,7 @@ abbrev pub Decides : Extent → List ℕ → Type 0
 Decides All text = ⊥
 Decides (Bytes most) text = most < length text
 Decides (FirstLine most) text = (most < length text) × IsLineTold text
+Decides (Lines most) text = most < length (lines_of text)
 
 -- these bytes are kept of a text: all of it, or a front that decides
 abbrev pub KeepsOf : Extent → List ℕ → List ℕ → Type 0
@@ -48,6 +50,7 @@ pub record Keeps (kept : KeptFront) (text : List ℕ) : Type 0 where
   pub keeps : KeepsIf kept.is_enough kept text
   pub is_text : IsUtf8 kept.bytes.items
   pub told : kept.is_line_told ≡ true → IsLineTold kept.bytes.items
+  pub feeds : kept.line_feeds ≡ line_feeds kept.bytes.items
 
 -- All these bytes were looked at. They may be a text, or begin one.
 pub record IsReadSoFar (reading : Reading) (all : List ℕ) : Type 0 where

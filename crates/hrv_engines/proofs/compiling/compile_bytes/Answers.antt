@@ -12,7 +12,7 @@ use Rattle.hrv_engines.proofs.compiling.compile_bytes.Goals as goal
 pub returns-in_err-schedule_text : goal.returns-in_err-schedule_text
 returns-in_err-schedule_text g c =
     let algorithm = text_of g.A.Source.place g.A.Source.failed g.A.Source.gave g.A.Source.ended c.args.algorithm.now c.read_algorithm.new.source in
-    let schedule = text_of g.S.Source.place g.S.Source.failed g.S.Source.gave g.S.Source.ended c.args.schedule.now c.read_text.new.source in
+    let schedule = text_of g.S.Source.place g.S.Source.failed g.S.Source.gave g.S.Source.ended c.args.schedule.now c.read_schedule.new.source in
     let inputs = texts_of g.I.Source.place g.I.Source.failed g.I.Source.gave g.I.Source.ended c.args.inputs.now c.args.inputs.now in
     let out = sink_of g.O.Sink.place g.O.Sink.failed g.O.Sink.took c.args.image.now c.args.image.now in
     let first = c.in_ok-algorithm_text.ensures in
@@ -26,7 +26,7 @@ returns-in_err-schedule_text g c =
 pub returns-in_err-input_texts : goal.returns-in_err-input_texts
 returns-in_err-input_texts g c =
     let algorithm = text_of g.A.Source.place g.A.Source.failed g.A.Source.gave g.A.Source.ended c.args.algorithm.now c.read_algorithm.new.source in
-    let schedule = text_of g.S.Source.place g.S.Source.failed g.S.Source.gave g.S.Source.ended c.args.schedule.now c.read_text.new.source in
+    let schedule = text_of g.S.Source.place g.S.Source.failed g.S.Source.gave g.S.Source.ended c.args.schedule.now c.read_schedule.new.source in
     let inputs = texts_of g.I.Source.place g.I.Source.failed g.I.Source.gave g.I.Source.ended c.args.inputs.now c.read_texts.new.sources in
     let out = sink_of g.O.Sink.place g.O.Sink.failed g.O.Sink.took c.args.image.now c.args.image.now in
     let first = c.in_ok-algorithm_text.ensures in
@@ -35,13 +35,13 @@ returns-in_err-input_texts g c =
     unread (IsCompilation c.args.alloc) (IsRefusedCompilation c.args.alloc) (both (both algorithm schedule) inputs) out
     c.from_residual-in_err-input_texts.result fault
     c.from_residual-in_err-input_texts.ensures.1 refl
-    (second_unread (both algorithm schedule) inputs (first.0.0, string_bytes second.schedule_text) fault
-    ((first.0.2, first.0.3, first.0.4), second.ensures.0) (first.1, second.ensures.1) c.in_err-input_texts.ensures)
+    (second_unread (both algorithm schedule) inputs (first.0.0, second.ensures.0.0) fault
+    ((first.0.2, first.0.3, first.0.4), (second.ensures.0.2, second.ensures.0.3, second.ensures.0.4)) (first.1, second.ensures.1) c.in_err-input_texts.ensures)
 
 pub returns-in_err-bytes : goal.returns-in_err-bytes
 returns-in_err-bytes g c =
     let algorithm = text_of g.A.Source.place g.A.Source.failed g.A.Source.gave g.A.Source.ended c.args.algorithm.now c.read_algorithm.new.source in
-    let schedule = text_of g.S.Source.place g.S.Source.failed g.S.Source.gave g.S.Source.ended c.args.schedule.now c.read_text.new.source in
+    let schedule = text_of g.S.Source.place g.S.Source.failed g.S.Source.gave g.S.Source.ended c.args.schedule.now c.read_schedule.new.source in
     let inputs = texts_of g.I.Source.place g.I.Source.failed g.I.Source.gave g.I.Source.ended c.args.inputs.now c.read_texts.new.sources in
     let out = sink_of g.O.Sink.place g.O.Sink.failed g.O.Sink.took c.args.image.now c.args.image.now in
     let first = c.in_ok-algorithm_text.ensures in
@@ -52,15 +52,15 @@ returns-in_err-bytes g c =
     let fault = c.in_err-bytes.field-0.0 in
     unmeant (IsCompilation c.args.alloc) (IsRefusedCompilation c.args.alloc) (both (both algorithm schedule) inputs) out c.from_residual-in_err-bytes.result
     fault
-    ((first.0.0, string_bytes second.schedule_text), given.texts) c.from_residual-in_err-bytes.ensures.1 refl
-    (((first.0.2, first.0.3, first.0.4), second.ensures.0), given.given) ((first.1, second.ensures.1), third.ensures.1)
+    ((first.0.0, second.ensures.0.0), given.texts) c.from_residual-in_err-bytes.ensures.1 refl
+    (((first.0.2, first.0.3, first.0.4), (second.ensures.0.2, second.ensures.0.3, second.ensures.0.4)), given.given) ((first.1, second.ensures.1), third.ensures.1)
     (uncompiled c.args.alloc (string_bytes c.in_ok-algorithm_text.algorithm_text) first.0.0 first.0.1 kept given.texts given.each
-    (string_bytes second.schedule_text) fault (rw (c.deref.ensures, c.deref-2.ensures) at c.in_err-bytes.ensures))
+    (string_bytes second.schedule_text) second.ensures.0.0 fault second.ensures.0.1 (rw (c.deref.ensures, c.deref-2.ensures) at c.in_err-bytes.ensures))
 
 pub returns : goal.returns
 returns g c =
     let algorithm = text_of g.A.Source.place g.A.Source.failed g.A.Source.gave g.A.Source.ended c.args.algorithm.now c.read_algorithm.new.source in
-    let schedule = text_of g.S.Source.place g.S.Source.failed g.S.Source.gave g.S.Source.ended c.args.schedule.now c.read_text.new.source in
+    let schedule = text_of g.S.Source.place g.S.Source.failed g.S.Source.gave g.S.Source.ended c.args.schedule.now c.read_schedule.new.source in
     let inputs = texts_of g.I.Source.place g.I.Source.failed g.I.Source.gave g.I.Source.ended c.args.inputs.now c.read_texts.new.sources in
     let out = sink_of g.O.Sink.place g.O.Sink.failed g.O.Sink.took c.args.image.now c.write_all.new.sink in
     let first = c.in_ok-algorithm_text.ensures in
@@ -69,9 +69,9 @@ returns g c =
     let kept = map string_bytes third.input_texts.items in
     let given = texts_given g.I.Source.gave g.I.Source.ended c.args.inputs.now kept c.read_texts.new.sources third.ensures.0 in
     written (IsCompilation c.args.alloc) (IsRefusedCompilation c.args.alloc) (both (both algorithm schedule) inputs) out c.write_all.result
-    ((first.0.0, string_bytes second.schedule_text), given.texts) c.in_ok-bytes.bytes.items
-    (((first.0.2, first.0.3, first.0.4), second.ensures.0), given.given) ((first.1, second.ensures.1), third.ensures.1)
+    ((first.0.0, second.ensures.0.0), given.texts) c.in_ok-bytes.bytes.items
+    (((first.0.2, first.0.3, first.0.4), (second.ensures.0.2, second.ensures.0.3, second.ensures.0.4)), given.given) ((first.1, second.ensures.1), third.ensures.1)
     (compiled_whole c.args.alloc (string_bytes c.in_ok-algorithm_text.algorithm_text) first.0.0 first.0.1 kept given.texts given.each
-    (string_bytes second.schedule_text) c.in_ok-bytes.bytes.items
+    (string_bytes second.schedule_text) second.ensures.0.0 c.in_ok-bytes.bytes.items second.ensures.0.1
     (rw (c.deref.ensures, c.deref-2.ensures) at c.in_ok-bytes.ensures))
     (subst (λ bytes. Writes out bytes c.write_all.result) c.deref-3.ensures.value c.write_all.ensures.writes)
