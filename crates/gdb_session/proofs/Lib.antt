@@ -1,4 +1,5 @@
 pub mod Bytes
+pub mod Digits
 pub mod Lines
 pub mod Searches
 pub mod Searching

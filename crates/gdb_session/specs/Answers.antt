@@ -1,5 +1,5 @@
 -- What each request of gdb is answered with, and the session after it. This project's own; the requests are gdb's.
-use Rattle.std.specs.Prelude.{ℕ, ◌*◌, ◌==◌, if◌then◌else◌, List, [], length, Option, Some, None}
+use Rattle.std.specs.Prelude.{ℕ, ◌*◌, ◌==◌, nat_le, if◌then◌else◌, List, [], drop, length, Option, Some, None}
 use Rattle.std.specs.Prelude.{Result, Ok, Err}
 use Rattle.hart_core.specs.HartState.{HartState}
 use Rattle.multi_hart.specs.Run.{State, hart_at}
@@ -12,13 +12,14 @@ use Rattle.gdb_packets.specs.declared.requests.Thread.{Thread}
 use Rattle.gdb_packets.specs.declared.requests.Thread.TheVariants.{Any, All, One}
 use Rattle.gdb_texts.specs.Texts.{description, memory_map, piece_of}
 use Rattle.debugger.specs.declared.refusals.SessionRefusal.{SessionRefusal}
-use Rattle.debugger.specs.Places.{SessionState, state_here}
+use Rattle.debugger.specs.Places.{SessionState, moved, state_here}
 use Rattle.debugger.specs.Clearing.{without}
 use Rattle.debugger.specs.Marks.{with_break, with_watch}
 use Rattle.gdb_session.specs.declared.stops.StopReason.TheVariants.{Stepped}
 use Rattle.gdb_session.specs.declared.stops.Stop.{Stop}
 use Rattle.gdb_session.specs.Going.{Arrival, arrived_if, gone, stop_if}
 use Rattle.gdb_session.specs.Memories.{memory_text}
+use Rattle.gdb_session.specs.Monitor.{place_in}
 use Rattle.gdb_session.specs.Sessions.{GdbState, hart_of, if_hart}
 use Rattle.gdb_session.specs.Texts as text
 
@@ -83,6 +84,13 @@ without_mark state Write address count = if count == 4 then without_watch state 
 without_mark state Read address count = says [] state
 without_mark state Access address count = says [] state
 
+-- a line of `monitor` goes to a place; gdb's registers are old then
+abbrev pub monitored : GdbState → Option ℕ → Answer
+monitored state None = says text.unknown state
+monitored state (Some place) =
+    if nat_le place (length state.session.log.turns) then says text.done (record state { session = moved state.session place })
+    else says text.no_place state
+
 -- ---- requests that ask
 
 -- the hart that gdb looks at
@@ -136,14 +144,15 @@ told state (requests.MemoryMap offset count) = piece_of (map_text (state_here st
 told state (requests.ThreadInfo thread) = info_text state (hart_of state thread)
 told state other = told_short state other
 
-abbrev pub answer_by : GdbState → Request → Answer
-answer_by state (requests.Go action) = went state (gone state action)
-answer_by state (requests.FocusForState thread) = focused state (hart_of state thread)
-answer_by state (requests.FocusForSteps thread) = focused_for_steps state thread
-answer_by state (requests.SetMark kind address count) = with_mark state kind address count
-answer_by state (requests.ClearMark kind address count) = without_mark state kind address count
-answer_by state other = says (told state other) state
+abbrev pub answer_by : GdbState → List ℕ → Request → Answer
+answer_by state payload (requests.Go action) = went state (gone state action)
+answer_by state payload (requests.FocusForState thread) = focused state (hart_of state thread)
+answer_by state payload (requests.FocusForSteps thread) = focused_for_steps state thread
+answer_by state payload (requests.SetMark kind address count) = with_mark state kind address count
+answer_by state payload (requests.ClearMark kind address count) = without_mark state kind address count
+answer_by state payload requests.Monitor = monitored state (place_in (drop 6 payload))
+answer_by state payload other = says (told state other) state
 
 -- the answer to a packet's payload
 unfoldable pub answer : GdbState → List ℕ → Answer
-answer state payload = answer_by state (request_of payload)
+answer state payload = answer_by state payload (request_of payload)

@@ -2,6 +2,7 @@ pub mod Answers
 pub mod Endings
 pub mod Going
 pub mod Memories
+pub mod Monitor
 pub mod Sessions
 pub mod Stopping
 pub mod Texts

@@ -103,3 +103,13 @@ last = codes "l"
 
 unfoldable pub attached : List ℕ
 attached = codes "1"
+
+-- what a line of `monitor` comes to
+unfoldable pub done : List ℕ
+done = hex_of (codes "done\n")
+
+unfoldable pub no_place : List ℕ
+no_place = hex_of (codes "the log has no such place\n")
+
+unfoldable pub unknown : List ℕ
+unknown = hex_of (codes "unknown\n")

@@ -1,19 +1,21 @@
 //! Answers to requests that change the session.
 
-ghost use Rattle.std.specs.Prelude.{◌≡◌, ◌≢◌, ◌⊎◌, ◌++◌, ◌<◌, ℕ, OnOk, OnErr, IfSome, unwrap_or};
+ghost use Rattle.std.specs.Prelude.{◌≡◌, ◌≢◌, ◌⊎◌, ◌++◌, ◌<◌, ℕ, OnOk, OnErr, IfSome, Some, drop, unwrap_or};
 ghost use Rattle.debugger.specs.Marks.{with_break, with_watch};
 ghost use Rattle.gdb_session.specs.Answers as spec;
 ghost use Rattle.gdb_session.specs.Going as spec_going;
 ghost use Rattle.gdb_session.specs.Going.{arrived, arrived_if, gone, stop_if};
+ghost use Rattle.gdb_session.specs.Monitor.{place_in};
 ghost use Rattle.gdb_session.specs.Sessions.{hart_of, if_hart};
 ghost use Rattle.gdb_session.specs.Texts.{refused};
 
-use crate::going::{go_back, go_on, step, step_back};
+use crate::going::{go_back, go_on, go_to, step, step_back};
+use crate::monitor::place_in;
 use crate::sessions::GdbSession;
 use crate::stops::Stop;
-use crate::texts::{push_ok, push_refused, push_stop};
+use crate::texts::{push_done, push_no_place, push_ok, push_refused, push_stop, push_unknown};
 use debugger::SessionRefusal;
-use gdb_packets::{Action, MarkKind, Thread};
+use gdb_packets::{Action, MarkKind, Thread, monitor_digits};
 use std::alloc::{AllocError, Global};
 
 impl GdbSession {
@@ -126,6 +128,34 @@ impl GdbSession {
         let stop = go_back(&mut self.session, alloc, self.focus);
         self.focus = stop.hart;
         stop
+    }
+
+    /// `qRcmd`
+    pub(crate) fn answer_monitor(
+        &mut self,
+        alloc: Global,
+        payload: &[u8],
+        out: &mut Vec<u8>,
+    ) -> Result<(), AllocError>
+        ensures text { OnOk result (out.new.items ≡ out.old.items
+            ++ (spec.monitored self.old (place_in (drop 6 payload.now))).text) }
+        ensures next { self.new ≡ (spec.monitored self.old (place_in (drop 6 payload.now))).next }
+    {
+        match place_in(monitor_digits(payload)) {
+            Some(place) => self.go_to(alloc, place, out),
+            None => push_unknown(out),
+        }
+    }
+
+    fn go_to(&mut self, alloc: Global, place: u64, out: &mut Vec<u8>) -> Result<(), AllocError>
+        ensures text { OnOk result (out.new.items ≡ out.old.items ++ (spec.monitored self.old (Some place)).text) }
+        ensures next { self.new ≡ (spec.monitored self.old (Some place)).next }
+    {
+        if place > self.session.length() {
+            return push_no_place(out);
+        }
+        go_to(&mut self.session, alloc, place);
+        push_done(out)
     }
 
     /// `Hg`

@@ -40,16 +40,25 @@ pub fn step_back(session: &mut Session, alloc: Global, hart: usize) -> Stop
     }
 }
 
+/// Goes to a place.
+pub fn go_to(session: &mut Session, alloc: Global, place: u64)
+    requires { place ≤ length session.old.state.log.turns }
+    ensures { session.new.state ≡ moved session.old.state place }
+{
+    match session.goto(alloc, place) {
+        Ok(()) => {}
+        Err(_refusal) => unreachable!(),
+    }
+}
+
 /// Goes to a place, and stops there.
 fn arrive(session: &mut Session, alloc: Global, place: u64, reason: StopReason, hart: usize) -> Stop
     requires { place ≤ length session.old.state.log.turns }
     ensures state { session.new.state ≡ moved session.old.state place }
     ensures stop { result ≡ record { reason = reason; hart = hart } }
 {
-    match session.goto(alloc, place) {
-        Ok(()) => Stop { reason, hart },
-        Err(_refusal) => unreachable!(),
-    }
+    go_to(session, alloc, place);
+    Stop { reason, hart }
 }
 
 /// Goes on to the next stop. At the end of the log gdb is told of this hart.

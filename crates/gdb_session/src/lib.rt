@@ -6,6 +6,7 @@
 //! - [`endings`]: which requests end the talk.
 //! - [`stops`]: where a run stops, and why.
 //! - [`texts`], [`registers`] and [`memories`]: the texts of answers (`specs/Texts.antt`).
+//! - [`monitor`]: lines of `monitor` (`specs/Monitor.antt`).
 #![tactic(auto)]
 
 mod answers;
@@ -15,6 +16,7 @@ pub mod endings;
 mod finding;
 mod going;
 mod memories;
+mod monitor;
 mod registers;
 mod sessions;
 pub mod stops;

@@ -73,6 +73,7 @@ impl GdbSession {
             Request::FocusForSteps(thread) => self.focus_steps_on(thread, out),
             Request::SetMark(kind, address, count) => self.set_mark(kind, address, count, out),
             Request::ClearMark(kind, address, count) => self.clear_mark(kind, address, count, out),
+            Request::Monitor => self.answer_monitor(alloc, payload, out),
             _ => self.tell(alloc, request, out),
         }
     }

@@ -126,6 +126,14 @@ fn forwards_and_backwards(rt: HostRuntime) -> Result<(), Fail> {
             ("vCont;s:2", "T05replaylog:end;thread:2;"),
             ("qThreadExtraInfo,2", "66696e6973686564"),
             ("m200000,4", "02000000"),
+            ("qRcmd,676f746f2035", "646f6e650a"),
+            ("m200000,4", "01000000"),
+            (
+                "qRcmd,676f746f203130",
+                "746865206c6f6720686173206e6f207375636820706c6163650a",
+            ),
+            ("qRcmd,676f", "756e6b6e6f776e0a"),
+            ("vCont;s:2", "T05thread:2;"),
         ],
     )
 }

@@ -60,6 +60,34 @@ pub fn push_attached(out: &mut Vec<u8>) -> Result<(), AllocError>
     push_text(out, "1")
 }
 
+#[tactic(auto, unfolding(crate::specs::Texts::done))]
+pub fn push_done(out: &mut Vec<u8>) -> Result<(), AllocError>
+    ensures { OnOk result (out.new.items ≡ out.old.items ++ spec.done) }
+{
+    push_digits(out, "done\n")
+}
+
+#[tactic(auto, unfolding(crate::specs::Texts::no_place))]
+pub fn push_no_place(out: &mut Vec<u8>) -> Result<(), AllocError>
+    ensures { OnOk result (out.new.items ≡ out.old.items ++ spec.no_place) }
+{
+    push_digits(out, "the log has no such place\n")
+}
+
+#[tactic(auto, unfolding(crate::specs::Texts::unknown))]
+pub fn push_unknown(out: &mut Vec<u8>) -> Result<(), AllocError>
+    ensures { OnOk result (out.new.items ≡ out.old.items ++ spec.unknown) }
+{
+    push_digits(out, "unknown\n")
+}
+
+/// Appends the digits of a text.
+fn push_digits(out: &mut Vec<u8>, text: &str) -> Result<(), AllocError>
+    ensures { OnOk result (out.new.items ≡ out.old.items ++ spec.hex_of text.now) }
+{
+    push_hex(out, text.as_bytes())
+}
+
 /// Appends two digits for each byte.
 pub fn push_hex(out: &mut Vec<u8>, bytes: &[u8]) -> Result<(), AllocError>
     ensures { OnOk result (out.new.items ≡ out.old.items ++ spec.hex_of bytes.now) }

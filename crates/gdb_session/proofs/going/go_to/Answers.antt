@@ -1,7 +1,7 @@
 use Rattle.std.proofs.Common.{ap, arith}
 use Rattle.std.specs.Prelude.{Err}
 use Rattle.gdb_session.proofs.Watching.{refused_for}
-use Rattle.gdb_session.proofs.going.arrive.Goals as goal
+use Rattle.gdb_session.proofs.going.go_to.Goals as goal
 
 pub unreachable-requires : goal.unreachable-requires
 unreachable-requires c =
