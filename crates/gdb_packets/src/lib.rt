@@ -22,6 +22,3 @@ pub use crate::packet_writing::push_frame;
 pub use crate::readings::Reading;
 pub use crate::request_reading::{monitor_digits, read_request};
 pub use crate::requests::{Action, MarkKind, Request, Thread};
-
-#[cfg(test)]
-mod tests;

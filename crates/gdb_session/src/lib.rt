@@ -26,6 +26,3 @@ mod texts;
 pub use crate::endings::{Ending, ending_of};
 pub use crate::sessions::GdbSession;
 pub use crate::stops::{Stop, StopReason};
-
-#[cfg(test)]
-mod tests;

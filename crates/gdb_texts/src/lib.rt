@@ -15,6 +15,3 @@ pub mod pieces;
 pub use crate::descriptions::push_description;
 pub use crate::memory_maps::push_memory_map;
 pub use crate::pieces::push_piece;
-
-#[cfg(test)]
-mod tests;

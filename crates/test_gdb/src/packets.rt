@@ -1,6 +1,6 @@
 //! Packets as gdb 13.1 sent them, and those of the manual's examples.
 
-use crate::{
+use gdb_packets::{
     Action, MarkKind, PacketReader, Reading, Request, Thread, monitor_digits, push_frame,
     read_request,
 };

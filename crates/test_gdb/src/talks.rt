@@ -1,7 +1,7 @@
 //! A talk about two harts that each add 1 to a word, answer by answer. The answers were worked out by hand.
 
-use crate::{Ending, GdbSession, ending_of};
 use debugger::Session;
+use gdb_session::{Ending, GdbSession, ending_of};
 use loader::read_image;
 use std::alloc::Global;
 use std::process::Abort;

@@ -1,6 +1,6 @@
 //! The texts against those that gdb 13.1 took.
 
-use crate::{push_description, push_memory_map, push_piece};
+use gdb_texts::{push_description, push_memory_map, push_piece};
 use std::test::Fail;
 
 /// The lines of the target description.
